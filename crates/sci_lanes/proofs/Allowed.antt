@@ -23,7 +23,7 @@ use Rattle.sci_lanes.specs.declared.view.View.{View}
 use Rattle.sci_lanes.specs.Cells.{cell_place, lane_count, sender_of, receiver_of, word_at}
 use Rattle.sci_lanes.specs.Shown.{AreEnabled, Fits, ShowsLane, Whole, nodes_of, me_of, single, informed, outbound_at, inbound_at, IsKnown, Shows, IsKept}
 use Rattle.sci_lanes.specs.Knowing.{has_sent_more, is_sending, is_receiving, looked_out, looked_in, looked, with_lane_known}
-use Rattle.sci_lanes.specs.Telling.{IsShown, IsSameNode, size_in}
+use Rattle.sci_lanes.specs.Telling.{IsShown, IsSameNode, Tells, size_in}
 use Rattle.sci_lanes.specs.Plays.{lane_in, number_in, index_in, Looks}
 use Rattle.sci_lanes.proofs.Words.{same_cell}
 use Rattle.sci_lanes.proofs.LaneSteps.{first_full, out_looked, in_looked, sender_finds_empty}
@@ -99,14 +99,24 @@ lane_goes size s kept id lane turn index place value part {core = core} {schedul
     (subst (λ (p : ℕ). Shows y (set s.words p value) (set s.views id (single later))) (sym is)
     (lane_step kept.whole s.words s.views id lane turn index value part core schedule next o o' i i' kept.shown here few t shows))
 
+-- what holds of the size's number of nodes holds of the whole's
+pub of_whole : {size : Size} {s : State (Unit {0}) View} (kept : IsKept size s) (P : ℕ → Type 0) → P size.nodes → P (nodes_of kept.whole)
+of_whole kept P h = subst P (sym (ap (λ z. z.nodes) kept.sized)) h
+
+-- what it tells
+abbrev pub tells : {how : List Event → Type 0} {size : Size} {s : State (Unit {0}) View} {id place value : ℕ} {part next : Part} {schedule : List Event}
+    → Goes size s id place value part (informed schedule next) → how schedule → Tells how part next (single (informed schedule next), [])
+tells {schedule = schedule} went how = record { schedule = schedule; view = refl; shown = went.shown; same = went.same; went = how }
+
 -- what a step owes, and what it tells
 abbrev pub Owes : Size → ℕ → ℕ → Part → (ℕ → ℕ) → (ℕ → Me (Unit {0}) View → Type 0) → Type 0
-Owes size id place part f told = (s : State (Unit {0}) View) → IsKept size s → get_elem? s.views id ≡ some (single part)
-    → (next : Part) × Goes size s id place (f (get_or s.words place 0)) part next × told (get_or s.words place 0) (single next, [])
+Owes size id place part f told = (s : State (Unit {0}) View) (kept : IsKept size s) → get_elem? s.views id ≡ some (single part)
+    → IsKnown kept.whole id part → (next : Part) × Goes size s id place (f (get_or s.words place 0)) part next × told (get_or s.words place 0) (single next, [])
 
 pub allows : (size : Size) (slots id place : ℕ) (part : Part) (f : ℕ → ℕ) (told : ℕ → Me (Unit {0}) View → Type 0) → Owes size id place part f told
     → Allows (IsKept size) slots id (single part, []) place f told
-allows size slots id place part f told owes s kept long here fits = let o = owes s kept here in (single o.0, keeps, tt, o.1.kept, o.2)
+allows size slots id place part f told owes s kept long here fits =
+    let o = owes s kept here (kept.shown.known id (single part) here).0 in (single o.0, keeps, tt, o.1.kept, o.2)
 
 -- ---- steps that are no event
 
@@ -168,11 +178,11 @@ looks size slots id lane number part lt few = allows size slots id place part (�
     place = cell_place lane number + 0
 
     owes : Owes size id place part (λ n. n) (Looks (step slots place 0 0 none) (single part, []))
-    owes s kept here = (
+    owes s kept here k = (
       informed x.schedule (looked lane number word part),
       went,
       rw (lane_found lane number 0 (omega arith), at_number) (record {
-        tells = record { schedule = x.schedule; view = refl; shown = went.shown; same = went.same; went = k.seen };
+        tells = tells went k.seen;
         full = λ sends some. record {
           core = x.core;
           reached = kept.reached;
@@ -196,14 +206,11 @@ looks size slots id lane number part lt few = allows size slots id place part (�
         at_number : number_in place ≡ number
         at_number = let e = number_found lane number 0 (omega arith) in omega arith
 
-        k : IsKnown x id part
-        k = (kept.shown.known id (single part) here).0
-
         nodes : part.node.cache.nodes ≡ nodes_of x
         nodes = (known_part x id part kept.reached k).all
 
         lane_ok : lane < lane_count (nodes_of x)
-        lane_ok = subst (λ (n : ℕ). lane < lane_count n) (sym (ap (λ z. z.nodes) kept.sized)) lt
+        lane_ok = of_whole kept (λ n. lane < lane_count n) lt
 
         b : Bool
         b = is_sending part lane number

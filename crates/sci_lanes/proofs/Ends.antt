@@ -9,12 +9,12 @@ use Rattle.sci_lanes.specs.declared.view.Outbound.{Outbound}
 use Rattle.sci_lanes.specs.declared.view.Inbound.{Inbound}
 use Rattle.sci_lanes.specs.declared.view.Part.{Part}
 use Rattle.sci_lanes.specs.Cells.{cell_place, lane_count, sender_of, receiver_of}
-use Rattle.sci_lanes.specs.Shown.{Fits, ShowsLane, Whole, nodes_of, me_of, single, informed, outbound_at, inbound_at, IsKnown, IsKept}
+use Rattle.sci_lanes.specs.Shown.{Fits, ShowsLane, Whole, nodes_of, me_of, single, informed, outbound_at, inbound_at, IsKept}
 use Rattle.sci_lanes.specs.Knowing.{filled_out, filled, read_in, read}
 use Rattle.sci_lanes.specs.Plays.{Fills, Reads}
 use Rattle.sci_lanes.proofs.Words.{same_cell, place_within}
 use Rattle.sci_lanes.proofs.LaneSteps.{out_filled, in_read}
-use Rattle.sci_lanes.proofs.Allowed.{lane_found, index_found, lane_goes, Goes, Owes, allows, still}
+use Rattle.sci_lanes.proofs.Allowed.{lane_found, index_found, lane_goes, Goes, Owes, allows, of_whole, tells, still}
 
 -- what is known where a word of a part's next cell is filled
 pub record MayFill (size : Size) (part : Part) (lane number index : ℕ) : Type 0 where
@@ -45,27 +45,20 @@ fills size slots id lane number index word part may =
     place = cell_place lane number + index
 
     owes : Owes size id place part (λ n. word) (λ n. Fills (step slots place word 0 none) (single part, []) word)
-    owes s kept here = (
+    owes s kept here k = (
       informed x.schedule (filled lane index word part),
       went,
-      rw (lane_found lane number index may.within, index_found lane number index may.within)
-          (record { schedule = x.schedule; view = refl; shown = went.shown; same = went.same; went = k.seen }),
+      rw (lane_found lane number index may.within, index_found lane number index may.within) (tells went k.seen),
     )
       where
         x : Whole
         x = kept.whole
 
-        k : IsKnown x id part
-        k = (kept.shown.known id (single part) here).0
-
-        nodes : nodes_of x ≡ size.nodes
-        nodes = ap (λ z. z.nodes) kept.sized
-
         lane_ok : lane < lane_count (nodes_of x)
-        lane_ok = subst (λ (n : ℕ). lane < lane_count n) (sym nodes) may.lane_ok
+        lane_ok = of_whole kept (λ n. lane < lane_count n) may.lane_ok
 
         sends : sender_of (nodes_of x) lane ≡ me_of part
-        sends = subst (λ (n : ℕ). sender_of n lane ≡ me_of part) (sym nodes) may.sender
+        sends = of_whole kept (λ n. sender_of n lane ≡ me_of part) may.sender
 
         out_is : outbound_at part lane ≡ x.outbound lane
         out_is = k.outbound lane lane_ok sends
@@ -100,11 +93,10 @@ reads size slots id lane number index part may = allows size slots id place part
     place = cell_place lane number + index
 
     owes : Owes size id place part (λ n. n) (Reads (step slots place 0 0 none) (single part, []))
-    owes s kept here = (
+    owes s kept here k = (
       informed x.schedule (read lane index word part),
       went,
-      rw (lane_found lane number index may.within, index_found lane number index may.within)
-          (record { schedule = x.schedule; view = refl; shown = went.shown; same = went.same; went = k.seen }),
+      rw (lane_found lane number index may.within, index_found lane number index may.within) (tells went k.seen),
     )
       where
         x : Whole
@@ -113,17 +105,11 @@ reads size slots id lane number index part may = allows size slots id place part
         word : ℕ
         word = get_or s.words place 0
 
-        k : IsKnown x id part
-        k = (kept.shown.known id (single part) here).0
-
-        nodes : nodes_of x ≡ size.nodes
-        nodes = ap (λ z. z.nodes) kept.sized
-
         lane_ok : lane < lane_count (nodes_of x)
-        lane_ok = subst (λ (n : ℕ). lane < lane_count n) (sym nodes) may.lane_ok
+        lane_ok = of_whole kept (λ n. lane < lane_count n) may.lane_ok
 
         receives : receiver_of (nodes_of x) lane ≡ me_of part
-        receives = subst (λ (n : ℕ). receiver_of n lane ≡ me_of part) (sym nodes) may.receiver
+        receives = of_whole kept (λ n. receiver_of n lane ≡ me_of part) may.receiver
 
         in_is : inbound_at part lane ≡ x.inbound lane
         in_is = k.inbound lane lane_ok receives

@@ -36,7 +36,7 @@ use Rattle.sci_lanes.proofs.Words.{same_cell, place_within, own_apart, stored_el
 use Rattle.sci_lanes.proofs.LaneSteps.{agreeing, out_published, in_freed, words_some}
 use Rattle.sci_lanes.proofs.Keeping.{step_shows, one_further, seen_all}
 use Rattle.sci_lanes.proofs.Facts.{known_part}
-use Rattle.sci_lanes.proofs.Allowed.{lane_found, size_known, leads_here, goes, lane_goes, Goes, Owes, allows}
+use Rattle.sci_lanes.proofs.Allowed.{lane_found, size_known, leads_here, goes, lane_goes, Goes, Owes, allows, tells}
 
 -- ---- places of lanes
 
@@ -115,17 +115,10 @@ publishes size slots id lane number first part event next number_is may =
     place = cell_place lane number + 0
 
     owes : Owes size id place part (λ n. first) (λ n. Publishes event next (step slots place first 0 none) (single part, []) first)
-    owes s kept here = (
+    owes s kept here k = (
       informed (x.schedule ++ event ∷ []) (published lane next part),
       went,
-      rw (lane_found lane number 0 (omega arith))
-          (record {
-            schedule = x.schedule ++ event ∷ [];
-            view = refl;
-            shown = went.shown;
-            same = went.same;
-            went = made x id part size core event kept.reached kept.sized kept.leads k stepped;
-          }),
+      rw (lane_found lane number 0 (omega arith)) (tells went (made x id part size core event kept.reached kept.sized kept.leads k stepped)),
     )
       where
         x : Whole
@@ -133,9 +126,6 @@ publishes size slots id lane number first part event next number_is may =
 
         me : ℕ
         me = me_of part
-
-        k : IsKnown x id part
-        k = (kept.shown.known id (single part) here).0
 
         nodes : part.node.cache.nodes ≡ nodes_of x
         nodes = (known_part x id part kept.reached k).all
@@ -279,11 +269,10 @@ frees size slots id lane number part event next number_is may =
     place = cell_place lane number + 0
 
     owes : Owes size id place part (λ n. 0) (λ n. Frees event next (step slots place 0 0 none) (single part, []) 0)
-    owes s kept here = (
+    owes s kept here k = (
       informed (x.schedule ++ event ∷ []) (freed lane next part),
       went,
-      rw (lane_found lane number 0 (omega arith))
-          (record { schedule = x.schedule ++ event ∷ []; view = refl; shown = went.shown; same = went.same; went = went_as }),
+      rw (lane_found lane number 0 (omega arith)) (tells went went_as),
     )
       where
         x : Whole
@@ -291,9 +280,6 @@ frees size slots id lane number part event next number_is may =
 
         me : ℕ
         me = me_of part
-
-        k : IsKnown x id part
-        k = (kept.shown.known id (single part) here).0
 
         nodes : part.node.cache.nodes ≡ nodes_of x
         nodes = (known_part x id part kept.reached k).all
@@ -408,16 +394,10 @@ beats size slots id part event next may =
     place = own_place size.nodes me
 
     owes : Owes size id place part (λ n. (n + 1) % 2 ^ 64) (Beats event next (step slots place 1 0 none) (single part, []))
-    owes s kept here = (
+    owes s kept here k = (
       informed (x.schedule ++ event ∷ []) (with_node_known next part),
       went,
-      record {
-        schedule = x.schedule ++ event ∷ [];
-        view = refl;
-        shown = went.shown;
-        same = went.same;
-        went = made x id part size core event kept.reached kept.sized kept.leads k stepped;
-      },
+      tells went (made x id part size core event kept.reached kept.sized kept.leads k stepped),
     )
       where
         x : Whole
@@ -425,9 +405,6 @@ beats size slots id part event next may =
 
         value : ℕ
         value = (get_or s.words place 0 + 1) % 2 ^ 64
-
-        k : IsKnown x id part
-        k = (kept.shown.known id (single part) here).0
 
         core : Core
         core = with_node x.core me next
