@@ -1,5 +1,5 @@
 -- Fills and reads keep the rule.
-use Rattle.std.proofs.Common.{◌≡◌, ℕ, ◌+◌, ◌%◌, ◌<◌, ◌≤◌, true, List, [], length, get_or, set, refl, sym, ap, subst, ◌∙◌, arith}
+use Rattle.std.proofs.Common.{◌≡◌, ℕ, ◌+◌, ◌%◌, ◌<◌, ◌≤◌, true, List, [], length, get_or, set, refl, sym, ap, subst, arith}
 use Rattle.std.proofs.lemmas.List.{set-get_or}
 use mathlib.Core.Option.{none}
 use Rattle.atomic_table.specs.Table.{step, Allows}
@@ -44,6 +44,9 @@ fills size slots id lane number index word part may =
     place : ℕ
     place = cell_place lane number + index
 
+    o : Outbound
+    o = outbound_at part lane
+
     owes : Owes size id place part (λ n. word) (λ n. Fills (step slots place word 0 none) (single part, []) word)
     owes s kept here k = (
       informed x.schedule (filled lane index word part),
@@ -60,28 +63,22 @@ fills size slots id lane number index word part may =
         sends : sender_of (nodes_of x) lane ≡ me_of part
         sends = of_whole kept (λ n. sender_of n lane ≡ me_of part) may.sender
 
-        out_is : outbound_at part lane ≡ x.outbound lane
-        out_is = k.outbound lane lane_ok sends
-
-        o : Outbound
-        o = x.outbound lane
-
         old : ShowsLane s.words lane (lane_at x.core lane) o (x.inbound lane)
-        old = kept.shown.lanes lane lane_ok
+        old = subst (λ (u : Outbound). ShowsLane s.words lane (lane_at x.core lane) u (x.inbound lane)) (sym (k.outbound lane lane_ok sends))
+            (kept.shown.lanes lane lane_ok)
 
         turn : place ≡ cell_place lane o.sent + index
-        turn = let e = may.next in let p = ap (λ (u : Outbound). u.sent) out_is in ap (λ (c : ℕ). c + index) (same_cell lane number o.sent (omega arith))
+        turn = let e = may.next in ap (λ (c : ℕ). c + index) (same_cell lane number o.sent (omega arith))
 
         fits : Fits (set s.words (cell_place lane o.sent + index) word) lane old.packets (filled_out index word o) (x.inbound lane)
-        fits = out_filled s.words lane index word old.packets o (x.inbound lane) (ap (λ (u : Outbound). u.vacant) (sym out_is) ∙ may.vacant) may.further
-            may.within (subst (λ (u : Outbound). index ≤ length u.filled + 1) out_is may.order)
+        fits = out_filled s.words lane index word old.packets o (x.inbound lane) may.vacant may.further may.within may.order
             (subst (λ (n : ℕ). cell_place lane o.sent + index < n) (sym kept.shown.long) (place_within (nodes_of x) lane o.sent index lane_ok may.within))
             old.fits
 
         went : Goes size s id place word part (informed x.schedule (filled lane index word part))
         went = lane_goes size s kept id lane o.sent index place word part here may.within turn kept.reached kept.leads kept.enabled
-            (still x id part lane (filled_out index word (outbound_at part lane)) (filled_out index word o) (inbound_at part lane) (x.inbound lane) k lane_ok
-            (λ is. ap (filled_out index word) out_is) (λ apart. absurd (apart sends)) (k.inbound lane lane_ok) (λ apart. refl))
+            (still x id part lane (filled_out index word o) (filled_out index word o) (inbound_at part lane) (x.inbound lane) k lane_ok
+            (λ is. refl) (λ apart. absurd (apart sends)) (k.inbound lane lane_ok) (λ apart. refl))
             (record { packets = old.packets; letters = old.letters; fits = fits })
 
 pub reads : (size : Size) (slots id lane number index : ℕ) (part : Part) → MayRead size part lane number index
@@ -91,6 +88,9 @@ reads size slots id lane number index part may = allows size slots id place part
   where
     place : ℕ
     place = cell_place lane number + index
+
+    i : Inbound
+    i = inbound_at part lane
 
     owes : Owes size id place part (λ n. n) (Reads (step slots place 0 0 none) (single part, []))
     owes s kept here k = (
@@ -111,27 +111,21 @@ reads size slots id lane number index part may = allows size slots id place part
         receives : receiver_of (nodes_of x) lane ≡ me_of part
         receives = of_whole kept (λ n. receiver_of n lane ≡ me_of part) may.receiver
 
-        in_is : inbound_at part lane ≡ x.inbound lane
-        in_is = k.inbound lane lane_ok receives
-
-        i : Inbound
-        i = x.inbound lane
-
         old : ShowsLane s.words lane (lane_at x.core lane) (x.outbound lane) i
-        old = kept.shown.lanes lane lane_ok
+        old = subst (λ (u : Inbound). ShowsLane s.words lane (lane_at x.core lane) (x.outbound lane) u) (sym (k.inbound lane lane_ok receives))
+            (kept.shown.lanes lane lane_ok)
 
         turn : place ≡ cell_place lane i.taken + index
-        turn = let e = may.next in let p = ap (λ (u : Inbound). u.taken) in_is in ap (λ (c : ℕ). c + index) (same_cell lane number i.taken (omega arith))
+        turn = let e = may.next in ap (λ (c : ℕ). c + index) (same_cell lane number i.taken (omega arith))
 
         fits : Fits s.words lane old.packets (x.outbound lane) (read_in index word i)
         fits = subst (λ (p : ℕ). Fits s.words lane old.packets (x.outbound lane) (read_in index (get_or s.words p 0) i)) (sym turn)
-            (in_read s.words lane index old.packets (x.outbound lane) i may.further may.within (subst (λ (u : Inbound). index ≤ length u.found) in_is may.order)
-            old.fits)
+            (in_read s.words lane index old.packets (x.outbound lane) i may.further may.within may.order old.fits)
 
         went : Goes size s id place word part (informed x.schedule (read lane index word part))
         went = lane_goes size s kept id lane number index place word part here may.within refl kept.reached kept.leads kept.enabled
-            (still x id part lane (outbound_at part lane) (x.outbound lane) (read_in index word (inbound_at part lane)) (read_in index word i) k lane_ok
-            (k.outbound lane lane_ok) (λ apart. refl) (λ is. ap (read_in index word) in_is) (λ apart. absurd (apart receives)))
+            (still x id part lane (outbound_at part lane) (x.outbound lane) (read_in index word i) (read_in index word i) k lane_ok
+            (k.outbound lane lane_ok) (λ apart. refl) (λ is. refl) (λ apart. absurd (apart receives)))
             (record {
               packets = old.packets;
               letters = old.letters;

@@ -114,6 +114,9 @@ publishes size slots id lane number first part event next number_is may =
     place : ℕ
     place = cell_place lane number + 0
 
+    o : Outbound
+    o = outbound_at part lane
+
     owes : Owes size id place part (λ n. first) (λ n. Publishes event next (step slots place first 0 none) (single part, []) first)
     owes s kept here k = (
       informed (x.schedule ++ event ∷ []) (published lane next part),
@@ -140,12 +143,6 @@ publishes size slots id lane number first part event next number_is may =
         at = subst (λ (l : ℕ). (l < lane_count (nodes_of x)) × (sender_of (nodes_of x) l ≡ me) × (receiver_of (nodes_of x) l ≡ may.packet.target)) (sym lane_is)
             (sent_place (nodes_of x) may.kind me may.packet.target k.some_node target)
 
-        out_is : outbound_at part lane ≡ x.outbound lane
-        out_is = k.outbound lane at.0 at.1
-
-        o : Outbound
-        o = x.outbound lane
-
         letter : Letter
         letter = letter_of may.packet
 
@@ -169,18 +166,19 @@ publishes size slots id lane number first part event next number_is may =
             (subst (λ (l : ℕ). l < lane_count (nodes_of x)) lane_is at.0)))
 
         old : ShowsLane s.words lane (lane_at x.core lane) o (x.inbound lane)
-        old = kept.shown.lanes lane at.0
+        old = subst (λ (u : Outbound). ShowsLane s.words lane (lane_at x.core lane) u (x.inbound lane)) (sym (k.outbound lane at.0 at.1))
+            (kept.shown.lanes lane at.0)
 
         turn : place ≡ cell_place lane o.sent + 0
-        turn = let p = ap (λ (u : Outbound). u.sent) out_is in ap (λ (c : ℕ). c + 0) (same_cell lane number o.sent (omega arith))
+        turn = ap (λ (c : ℕ). c + 0) (same_cell lane number o.sent (omega arith))
 
         fits : Fits (set s.words (cell_place lane o.sent + 0) first) lane (old.packets ++ may.packet ∷ []) (published_out o) (x.inbound lane)
-        fits = out_published s.words lane first may.packet old.packets o (x.inbound lane) (ap (λ (u : Outbound). u.vacant) (sym out_is) ∙ may.vacant)
-            may.spelled.packet (sym may.spelled.spelled_so ∙ ap (λ (u : Outbound). first ∷ u.filled) out_is)
+        fits = out_published s.words lane first may.packet old.packets o (x.inbound lane) may.vacant may.spelled.packet
+            (sym may.spelled.spelled_so)
             (subst (λ (n : ℕ). cell_place lane o.sent + 0 < n) (sym kept.shown.long) (place_within (nodes_of x) lane o.sent 0 at.0 (omega arith))) old.fits
 
         went : Goes size s id place first part (informed (x.schedule ++ event ∷ []) (published lane next part))
-        went = lane_goes size s kept id lane o.sent 0 place first part {o = published_out (outbound_at part lane)} {i = inbound_at part lane} here (omega arith)
+        went = lane_goes size s kept id lane o.sent 0 place first part {o = published_out o} {i = inbound_at part lane} here (omega arith)
             turn reached (run_further size x.schedule x.core core event kept.leads stepped)
             (one_enabled size x.schedule x.core core event kept.enabled kept.leads stepped)
             (record {
@@ -192,7 +190,7 @@ publishes size slots id lane number first part event next number_is may =
               me = me_stays core me next reached k.some_node mine;
               lanes = λ other apart. get_or-set_other x.core.lanes (lane_place (nodes_of x) may.kind me may.packet.target) other
                   (lane_of x.core may.kind me may.packet.target ++ letter ∷ []) [] (λ e. apart (e ∙ sym lane_is));
-              sender = λ is. ap published_out out_is;
+              sender = λ is. refl;
               not_sender = λ apart. absurd (apart at.1);
               receiver = k.inbound lane at.0;
               not_receiver = λ apart. refl;
@@ -268,6 +266,9 @@ frees size slots id lane number part event next number_is may =
     place : ℕ
     place = cell_place lane number + 0
 
+    i : Inbound
+    i = inbound_at part lane
+
     owes : Owes size id place part (λ n. 0) (λ n. Frees event next (step slots place 0 0 none) (single part, []) 0)
     owes s kept here k = (
       informed (x.schedule ++ event ∷ []) (freed lane next part),
@@ -294,18 +295,13 @@ frees size slots id lane number part event next number_is may =
         at = subst (λ (l : ℕ). (l < lane_count (nodes_of x)) × (sender_of (nodes_of x) l ≡ may.from) × (receiver_of (nodes_of x) l ≡ me)) (sym lane_is)
             (sent_place (nodes_of x) may.kind may.from me from k.some_node)
 
-        in_is : inbound_at part lane ≡ x.inbound lane
-        in_is = k.inbound lane at.0 at.2
-
-        i : Inbound
-        i = x.inbound lane
-
         shown_lane : ShowsLane s.words lane (lane_at x.core lane) (x.outbound lane) i
-        shown_lane = kept.shown.lanes lane at.0
+        shown_lane = subst (λ (u : Inbound). ShowsLane s.words lane (lane_at x.core lane) (x.outbound lane) u) (sym (k.inbound lane at.0 at.2))
+            (kept.shown.lanes lane at.0)
 
         old : IsOldest s.words lane (lane_at x.core lane) (x.outbound lane) i may.packet
         old = oldest s.words lane (lane_at x.core lane) (x.outbound lane) i may.packet shown_lane.packets shown_lane.letters shown_lane.fits may.spelled.packet
-            (ap (λ (u : Inbound). u.found) (sym in_is) ∙ may.spelled.spelled_so)
+            may.spelled.spelled_so
 
         rest : List Letter
         rest = map letter_of old.packets
@@ -352,10 +348,10 @@ frees size slots id lane number part event next number_is may =
         lane_now = get_or-set_same x.core.lanes lane rest [] (lanes_within x.core lane kept.reached at.0)
 
         turn : place ≡ cell_place lane i.taken + 0
-        turn = let p = ap (λ (u : Inbound). u.taken) in_is in ap (λ (c : ℕ). c + 0) (same_cell lane number i.taken (omega arith))
+        turn = ap (λ (c : ℕ). c + 0) (same_cell lane number i.taken (omega arith))
 
         went : Goes size s id place 0 part (informed (x.schedule ++ event ∷ []) (freed lane next part))
-        went = lane_goes size s kept id lane i.taken 0 place 0 part {o = outbound_at part lane} {i = freed_in (inbound_at part lane)} here (omega arith) turn
+        went = lane_goes size s kept id lane i.taken 0 place 0 part {o = outbound_at part lane} {i = freed_in i} here (omega arith) turn
             reached (run_further size x.schedule x.core core event kept.leads stepped)
             (one_enabled size x.schedule x.core core event kept.enabled kept.leads stepped)
             (record {
@@ -368,7 +364,7 @@ frees size slots id lane number part event next number_is may =
               lanes = λ other apart. get_or-set_other x.core.lanes lane other rest [] apart;
               sender = k.outbound lane at.0;
               not_sender = λ apart. refl;
-              receiver = λ is. ap freed_in in_is;
+              receiver = λ is. refl;
               not_receiver = λ apart. absurd (apart at.2);
             })
             (record {
