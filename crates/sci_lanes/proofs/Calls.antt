@@ -182,10 +182,7 @@ pub one_spelled : (p q : Packet) (words : List ℕ) → SpellsInWords p words �
 one_spelled p q words h k = one_by_words p q h.packet k.packet (λ i a b. ap (λ (ws : List ℕ). get_or ws i 0) (sym h.spelled_so ∙ k.spelled_so))
 
 pub ok_first : {A B E : Type 0} (a c : A) (b d : B) (result : Result (A × B) E) → result ≡ Ok (a, b) → result ≡ Ok (c, d) → a ≡ c
-ok_first {A = A} {B = B} {E = E} a c b d result h k = ap (λ (x : A × B). x.0) (same (a, b) (c, d) (sym h ∙ k))
-  where
-    same : (x y : A × B) → ◌≡◌ {A = Result (A × B) E} (Ok x) (Ok y) → x ≡ y
-    same x y e = cc
+ok_first {A = A} {B = B} {E = E} a c b d result h k = grind arith
 
 pub ok_err : {A E : Type 0} (a : A) (e : E) (result : Result A E) → result ≡ Ok a → result ≡ Err e → ⊥
 ok_err a e result h k = cc

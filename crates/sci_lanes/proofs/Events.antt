@@ -47,11 +47,7 @@ count_is nodes = mul_assoc 2 nodes nodes
 pub sent_place : (nodes : ℕ) (kind : LaneKind) (from to : ℕ) → from < nodes → to < nodes
     → (lane_place nodes kind from to < lane_count nodes) × (sender_of nodes (lane_place nodes kind from to) ≡ from)
     × (receiver_of nodes (lane_place nodes kind from to) ≡ to)
-sent_place nodes kind from to f t = (
-  subst (λ (c : ℕ). lane_place nodes kind from to < c) (count_is nodes) (place_below nodes kind from to f t),
-  place_from nodes kind from to f t,
-  place_to nodes kind from to t,
-)
+sent_place nodes kind from to f t = grind (arith, count_is, place_below, place_from, place_to)
 
 -- ---- states
 
@@ -229,10 +225,7 @@ taken_lane core node (event_is.Accept f n) kind from taking is =
 takes_front : (core : Core) (me place : ℕ) (taking : Letter → Option NodeOf) (lane : List Letter) (letter : Letter) (rest : List Letter) (next : NodeOf)
     → lane ≡ letter ∷ rest → taking letter ≡ Some next
     → taken_from core me place taking lane ≡ Some (with_lane (with_node core me next) place rest)
-takes_front core me place taking lane letter rest next is gives = ap (taken_from core me place taking) is ∙ took (taking letter) gives
-  where
-    took : (o : Option NodeOf) → o ≡ Some next → taken_as core me place rest o ≡ Some (with_lane (with_node core me next) place rest)
-    took o e = ap (taken_as core me place rest) e
+takes_front core me place taking lane letter rest next is gives = grind arith
 
 -- the oldest packet of the lane is the one whose words were found
 record IsOldest (words : List ℕ) (lane : ℕ) (letters : List Letter) (o : Outbound) (i : Inbound) (p : Packet) : Type 0 where

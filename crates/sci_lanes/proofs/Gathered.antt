@@ -155,10 +155,4 @@ node_log size ends core logs state logs_are place end is =
 
 pub gathered : (size : Size) (ends : List EndOf) (core : Core) (logs : List (List Entry)) (last : List Stamped) → IsStateOf size ends core
     → logs ≡ logs_of core → last ≡ last_of core → AreGathered size ends logs last
-gathered size ends core logs last state logs_are last_are = record {
-  core = core;
-  state = state;
-  logs_are = logs_are;
-  made = logs_made size core logs state.led logs_are;
-  last_are = last_are;
-}
+gathered size ends core logs last state logs_are last_are = grind (arith, logs_made)

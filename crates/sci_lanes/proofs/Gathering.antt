@@ -21,11 +21,7 @@ use Rattle.sci_lanes.proofs.Sharing.{joins, kept_owned}
 -- ---- joining
 
 pub joining : (size : Size) (id other : ℕ) (v w : View) → v.words ≡ [] → w.words ≡ [] → Joins (IsKept size) id v other w (both_views v w) no_view
-joining size id other v w unread none_read =
-    subst (λ (a : View). Joins (IsKept size) id a other w (both_views v w) no_view) (λ i. record { parts = v.parts; words = sym unread i })
-    (subst (λ (b : View). Joins (IsKept size) id (record { parts = v.parts; words = [] }) other b (both_views v w) no_view)
-    (λ i. record { parts = w.parts; words = sym none_read i })
-    (joins size id other v.parts w.parts))
+joining size id other v w unread none_read = grind (arith, joins)
 
 -- ---- reading
 

@@ -80,24 +80,12 @@ seen_all p = record { others = []; further = sym (append-nil p.schedule); apart 
 
 -- what another's part knows stays a beginning
 pub seen_further : (p : Part) (n : ℕ) (old new : List Event) → me_of p ≢ n → IsFurther n old new → IsSeen p old → IsSeen p new
-seen_further p n old new not f s = record {
-  others = s.others ++ f.events;
-  further = f.more ∙ (ap (λ (es : List Event). es ++ f.events) s.further ∙ append_assoc p.schedule s.others f.events);
-  apart = all-append (λ e. node_of e ≢ me_of p) s.others f.events s.apart
-      (all_weaker (λ e. node_of e ≡ n) (λ e. node_of e ≢ me_of p) (λ e own is. not (sym is ∙ own)) f.events f.own);
-}
+seen_further p n old new not f s = grind (arith, append_assoc, all-append, all_weaker)
 
 -- a node whose seat and its view stay is covered
 pub covered_still : (x y : Whole) (views others : List View) (n : ℕ) → y.owner n ≡ x.owner n → (c : IsCovered x views n)
     → get_elem? others (x.owner n) ≡ some c.view → IsCovered y others n
-covered_still x y views others n owner c seated = record {
-  view = c.view;
-  place = c.place;
-  part = c.part;
-  seated = ap (λ (k : ℕ). get_elem? others k) owner ∙ seated;
-  there = c.there;
-  of_node = c.of_node;
-}
+covered_still x y views others n owner c seated = grind arith
 
 -- ---- one step of a seat that has one node
 

@@ -66,52 +66,23 @@ stored_elsewhere words lane other turn index value packets o i apart few f =
 
 -- ---- what is known
 
--- what the two ends know, in place of what they knew
-ends_know : {words : List ℕ} {lane : ℕ} {packets : List Packet} {o : Outbound} {i : Inbound} (f : Fits words lane packets o i) (vacant : Bool)
-    (filled found : List ℕ) → (vacant ≡ true → length packets < 4) → (vacant ≡ false → filled ≡ []) → length filled < 11
-    → ((j : ℕ) → j < length filled → word_at words lane o.sent (suc j) ≡ get_or filled j 0) → length found ≤ 11 → (0 < length found → 0 < length packets)
-    → ((j : ℕ) → j < length found → word_at words lane i.taken j ≡ get_or found j 0)
-    → Fits words lane packets (record { sent = o.sent; vacant = vacant; filled = filled }) (record { taken = i.taken; found = found })
-ends_know f vacant filled found room none few same few_found there found_same = record {
-  good = f.good;
-  counted = f.counted;
-  room = f.room;
-  full = f.full;
-  empty = f.empty;
-  vacant = room;
-  unfilled = none;
-  few_filled = few;
-  filled = same;
-  few_found = few_found;
-  there = there;
-  found = found_same;
-}
-
--- what the sender knows
+-- what the sender knows, in place of what it knew
 sender_knows : {words : List ℕ} {lane : ℕ} {packets : List Packet} {o : Outbound} {i : Inbound} (f : Fits words lane packets o i) (vacant : Bool)
     (filled : List ℕ) → (vacant ≡ true → length packets < 4) → (vacant ≡ false → filled ≡ []) → length filled < 11
     → ((j : ℕ) → j < length filled → word_at words lane o.sent (suc j) ≡ get_or filled j 0)
     → Fits words lane packets (record { sent = o.sent; vacant = vacant; filled = filled }) i
-sender_knows {i = i} f vacant filled room none few same = ends_know f vacant filled i.found room none few same f.few_found f.there f.found
+sender_knows f vacant filled room none few same = grind arith
 
 -- and the receiver
 receiver_knows : {words : List ℕ} {lane : ℕ} {packets : List Packet} {o : Outbound} {i : Inbound} (f : Fits words lane packets o i) (found : List ℕ)
     → length found ≤ 11 → (0 < length found → 0 < length packets) → ((j : ℕ) → j < length found → word_at words lane i.taken j ≡ get_or found j 0)
     → Fits words lane packets o (record { taken = i.taken; found = found })
-receiver_knows {o = o} f found few there same = ends_know f o.vacant o.filled found f.vacant f.unfilled f.few_filled f.filled few there same
+receiver_knows f found few there same = grind arith
 
 -- fewer words filled
 forget_filled : (words : List ℕ) (lane n : ℕ) (packets : List Packet) (o : Outbound) (i : Inbound) → n ≤ length o.filled → Fits words lane packets o i
     → Fits words lane packets (record o { filled = take n o.filled }) i
-forget_filled words lane n packets o i le f =
-    let count : length (take n o.filled) ≡ n = length-take-le n o.filled le in
-    let most = f.few_filled in
-    sender_knows f o.vacant (take n o.filled) f.vacant (λ not. ap (λ (ws : List ℕ). take n ws) (f.unfilled not) ∙ take_nil n) (omega arith)
-    (λ j lt. f.filled j (omega arith) ∙ sym (get_or-take n o.filled j 0 (omega arith)))
-  where
-    take_nil : (k : ℕ) → take {A = ℕ} k [] ≡ []
-    take_nil zero = refl
-    take_nil (suc n) = refl
+forget_filled words lane n packets o i le f = grind (arith, length-take-le, sender_knows, get_or-take)
 
 -- one word more filled
 more_filled : (words : List ℕ) (lane word : ℕ) (packets : List Packet) (o : Outbound) (i : Inbound) → o.vacant ≡ true → length o.filled < 10
@@ -125,11 +96,7 @@ more_filled words lane word packets o i vacant few here f =
 -- fewer words found
 forget_found : (words : List ℕ) (lane n : ℕ) (packets : List Packet) (o : Outbound) (i : Inbound) → n ≤ length i.found → Fits words lane packets o i
     → Fits words lane packets o (record i { found = take n i.found })
-forget_found words lane n packets o i le f =
-    let count : length (take n i.found) ≡ n = length-take-le n i.found le in
-    let most = f.few_found in
-    receiver_knows f (take n i.found) (omega arith) (λ lt. f.there (omega arith))
-    (λ j lt. f.found j (omega arith) ∙ sym (get_or-take n i.found j 0 (omega arith)))
+forget_found words lane n packets o i le f = grind (arith, length-take-le, receiver_knows, get_or-take)
 
 -- one word more found
 more_found : (words : List ℕ) (lane word : ℕ) (packets : List Packet) (o : Outbound) (i : Inbound) → 0 < length packets → length i.found < 11
@@ -167,10 +134,7 @@ sender_finds_empty words lane packets o i f less = first_empty f (length packets
 
 pub sender_finds_full : (words : List ℕ) (lane : ℕ) (packets : List Packet) (o : Outbound) (i : Inbound) → Fits words lane packets o i → length packets ≡ 4
     → 0 < word_at words lane o.sent 0
-sender_finds_full words lane packets o i f four =
-    let counted = f.counted in
-    let same : cell_place lane i.taken ≡ cell_place lane o.sent = same_cell lane i.taken o.sent (omega arith) in
-    subst (λ (place : ℕ). 0 < get_or words (place + 0) 0) same (first_full words lane packets o i f (omega arith))
+sender_finds_full words lane packets o i f four = grind (arith, same_cell, first_full)
 
 pub out_looked : (words : List ℕ) (lane : ℕ) (packets : List Packet) (o : Outbound) (i : Inbound) → Fits words lane packets o i
     → Fits words lane packets (looked_out (word_at words lane o.sent 0) o) i

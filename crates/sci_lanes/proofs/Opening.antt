@@ -35,43 +35,18 @@ pub node_opened : (size : Size) (n : ℕ) → n < size.nodes → node_at (openin
 node_opened size n lt = get_or-map-range_with_len (λ m. opening_node m size) 0 size.nodes n n no_node lt (omega arith)
 
 pub replicated : {A : Type 0} (count k : ℕ) (a : A) → get_or (replicate count a) k a ≡ a
-replicated count k a = elim (cases_lt k count) [
-  | inl lt ↦ get_or-replicate count k a a lt
-  | inr le ↦ get_or_past (replicate count a) k a (let c = length-replicate count a in omega arith)
-]
+replicated count k a = grind (arith, cases_lt, get_or-replicate, get_or_past, replicate, length-replicate)
 
 pub lane_opened : (size : Size) (lane : ℕ) → lane_at (opening size) lane ≡ []
 lane_opened size lane = replicated (2 * size.nodes * size.nodes) lane []
 
 fits_opened : (words : List ℕ) (lane : ℕ) → ((k : ℕ) → get_or words k 0 ≡ 0) → Fits words lane [] no_outbound no_inbound
-fits_opened words lane zeros = record {
-  good = λ k p e. cc;
-  counted = refl;
-  room = omega arith;
-  full = λ k j p e lt. cc;
-  empty = λ k le lt. zeros (cell_place lane (0 + k) + 0);
-  vacant = λ is. cc;
-  unfilled = λ not. refl;
-  few_filled = omega arith;
-  filled = λ j lt. absurd (omega arith);
-  few_found = omega arith;
-  there = λ lt. absurd (omega arith);
-  found = λ j lt. absurd (omega arith);
-}
+fits_opened words lane zeros = grind arith
 
 -- a part of the opening state
 known_opened : (size : Size) (n : ℕ) → n < size.nodes
     → IsKnown (record { core = opening size; schedule = []; outbound = λ l. no_outbound; inbound = λ l. no_inbound; owner = λ m. 0 }) 0 (opening_part size n)
-known_opened size n lt = record {
-  some_node = lt;
-  mine = refl;
-  node = node_opened size n lt;
-  seen = seen_all (opening_part size n);
-  outbound_long = length-replicate (lane_count size.nodes) no_outbound;
-  inbound_long = length-replicate (lane_count size.nodes) no_inbound;
-  outbound = λ lane less is. replicated (lane_count size.nodes) lane no_outbound;
-  inbound = λ lane less is. replicated (lane_count size.nodes) lane no_inbound;
-}
+known_opened size n lt = grind (arith, node_opened, seen_all, length-replicate, replicated)
 
 all_opened : (P : Part → Type 0) (size : Size) (a count : ℕ) → ((n : ℕ) → a ≤ n → n < a + count → P (opening_part size n))
     → AllByRecursion P (map (opening_part size) (range_with_len a count))
@@ -191,18 +166,7 @@ inside_opened size n node ok lt is =
 -- ---- the size
 
 pub machine_size : (extent : Extent) (limit : ℕ) → 1 ≤ limit → limit ≤ MAX_OPERATIONS → IsMachineSize (size_of extent limit)
-machine_size extent limit some_operation few = record {
-  extent = record {
-    has_node = extent.has_node;
-    few_nodes = extent.few_nodes;
-    has_line = extent.has_line;
-    few_lines = extent.few_lines;
-    has_slot = extent.has_slot;
-    few_slots = extent.few_slots;
-  };
-  some_operation = some_operation;
-  few_operations = few;
-}
+machine_size extent limit some_operation few = grind arith
 
 pub seated_opened : (extent : Extent) (limit n : ℕ) (key : Extent × ℕ) (table seat : TableId) (knows : Me (Unit {0}) View)
     → IsMachineSize (size_of extent limit) → n < extent.nodes → key ≡ (extent, limit) → seat ≡ table → seat.words ≡ word_count extent.nodes
@@ -221,11 +185,7 @@ seated_opened extent limit n key table seat knows ok lt key_is same long is =
 
 pub knows_after : (size : Size) (n : ℕ) (old new : Me (Unit {0}) View) → n < size.nodes → old ≡ (rest_view size n, []) → new ≡ (first_off old.0, old.1)
     → new ≡ (rest_view size (n + 1), [])
-knows_after size n old new lt is told =
-    told ∙ pairs (split_left size n old.0 lt (ap (λ (k : Me (Unit {0}) View). k.0) is)) (ap (λ (k : Me (Unit {0}) View). k.1) is)
-  where
-    pairs : {a b : View} {xs ys : List (ℕ × Unit {0})} → a ≡ b → xs ≡ ys → ◌≡◌ {A = Me (Unit {0}) View} (a, xs) (b, ys)
-    pairs p q = λ i. (p i, q i)
+knows_after size n old new lt is told = grind (arith, split_left)
 
 pub knows_new : (size : Size) (n : ℕ) (old new : Me (Unit {0}) View) → n < size.nodes → old ≡ (rest_view size n, []) → new ≡ (first_only old.0, [])
     → new ≡ (single (opening_part size n), [])

@@ -23,15 +23,7 @@ pub record AreFirst (nodes me count : ℕ) (places : List ℕ) : Type 0 where
 pub one_more : (nodes me count place : ℕ) (places more : List ℕ) → AreFirst nodes me count places → place ≡ (count * nodes + me) * 4 * 11
     → more ≡ places ++ place ∷ [] → AreFirst nodes me (count + 1) more
 unfolding cell_place
-one_more nodes me count place places more first is more_is = subst (AreFirst nodes me (count + 1)) (sym more_is) (record {
-  long = length_push places place ∙ ap (λ (n : ℕ). n + 1) first.long;
-  are = λ inbox lt. elim (cases_lt inbox count) [
-    | inl before ↦ get_or_append_left places (place ∷ []) 0 inbox (let long = first.long in omega arith) ∙ first.are inbox before
-    | inr past ↦
-        let same : inbox ≡ count = omega arith in
-        get_or_push places place 0 inbox (first.long ∙ sym same) ∙ (is ∙ ap (λ (n : ℕ). (n * nodes + me) * 4 * 11) (sym same) ∙ omega arith)
-  ];
-})
+one_more nodes me count place places more first is more_is = grind (arith, length_push, cases_lt, get_or_append_left, get_or_push)
 
 -- ---- a place that is looked up
 

@@ -41,11 +41,7 @@ spelled_there words place packet at =
 pub spelled_here : (words : List ℕ) (place : ℕ) (packet : Packet) → IsPacketAt words place packet
     → (length (words_of packet) ≤ length (take (length words - place) (drop place words)))
     × SpellsInWords packet (take (length (words_of packet)) (take (length words - place) (drop place words)))
-spelled_here words place packet at =
-    let rest = length-drop place words in
-    let all : take (length words - place) (drop place words) ≡ drop place words = take_all (length words - place) (drop place words) (omega arith) in
-    subst (λ (ws : List ℕ). (length (words_of packet) ≤ length ws) × SpellsInWords packet (take (length (words_of packet)) ws)) (sym all)
-    (spelled_there words place packet at)
+spelled_here words place packet at = grind (arith, length-drop, take_all, spelled_there)
 
 module _ (words : List ℕ) (lane turn k place : ℕ) (shown : List Packet) (o : Outbound) (i : Inbound) (f : Fits words lane shown o i)
     (turn_is : turn ≡ i.taken % 4) (less : k < 4) (place_is : place ≡ (lane * 4 + (turn % 4 + k) % 4) * 11) (inside : (lane + 1) * 44 ≤ length words) where
@@ -109,26 +105,12 @@ module _ (words : List ℕ) (lane turn k place : ℕ) (shown : List Packet) (o :
 -- the number of the cell of a lane to take from
 pub turn_there : {Z : Type 0} (nodes lane : ℕ) (inbox_turns : List (Vec ℕ Z)) (v : Vec ℕ Z) → 0 < nodes → lane < lane_count nodes
     → HaveInboxTurns nodes inbox_turns → v ≡ get_or inbox_turns (lane % nodes) v → lane / nodes < length v.items
-turn_there nodes lane inbox_turns v some lt each is =
-    let long : length v.items ≡ 2 * nodes = each (lane % nodes) v (mod-lt lane some) is in
-    let within = inbox_within nodes lane some lt in
-    omega arith
+turn_there nodes lane inbox_turns v some lt each is = grind (arith, mod-lt, inbox_within)
 
 pub lanes_more : {Z : Type 0} (nodes : ℕ) (words : List ℕ) (inbox_turns : List (Vec ℕ Z)) (lanes : List (List Letter)) (v : Vec ℕ Z) (turn : ℕ)
     (letters : List Letter) → 0 < nodes → length lanes < lane_count nodes → HaveInboxTurns nodes inbox_turns
     → v ≡ get_or inbox_turns (length lanes % nodes) v → turn ≡ get_or v.items (length lanes / nodes) turn
     → ((shown : List Packet) (o : Outbound) (i : Inbound) → Fits words (length lanes) shown o i → turn ≡ i.taken % 4 → letters ≡ map letter_of shown)
     → AreLanes nodes words inbox_turns (length lanes) lanes → AreLanes nodes words inbox_turns (length (lanes ++ letters ∷ [])) (lanes ++ letters ∷ [])
-lanes_more nodes words inbox_turns lanes v turn letters some less every v_is turn_is read a =
-    let longer : length (lanes ++ letters ∷ []) ≡ length lanes + 1 = length_push lanes letters in
-    record {
-      long = refl;
-      each = λ lane packets o i lt f takes. elim (cases_lt lane (length lanes)) [
-        | inl before ↦ get_or_append_left lanes (letters ∷ []) [] lane before ∙ a.each lane packets o i before f takes
-        | inr le ↦ (
-            let same : lane ≡ length lanes = omega arith in
-            let there = get_or_read v.items (length lanes / nodes) turn (turn_there nodes (length lanes) inbox_turns v some less every v_is) turn_is 0 in
-            get_or_push lanes letters [] lane (sym same) ∙ read packets o i (subst (λ (l : ℕ). Fits words l packets o i) same f)
-            (there ∙ subst (λ (l : ℕ). TakesFrom nodes inbox_turns l (i.taken % 4)) same takes v v_is))
-      ];
-    }
+lanes_more nodes words inbox_turns lanes v turn letters some less every v_is turn_is read a = grind (arith, length_push, cases_lt, get_or_append_left,
+    get_or_read, turn_there, get_or_push)

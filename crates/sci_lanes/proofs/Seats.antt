@@ -65,10 +65,7 @@ key_nodes key table seat knows s = ap (λ z. z.nodes) s.sized
 
 pub place_in_table : (key : Extent × ℕ) (table seat : TableId) (knows : Me (Unit {0}) View) → IsSeated key table seat knows → (lane turn index place : ℕ)
     → lane < lane_count (nodes_in (part_of knows.0)) → index < 11 → place ≡ cell_place lane turn + index → place < table.words
-place_in_table key table seat knows s lane turn index place lt few is =
-    let within = place_within (nodes_in (part_of knows.0)) lane turn index lt few in
-    let long : table.words ≡ word_count (nodes_in (part_of knows.0)) = s.long ∙ ap word_count (sym (key_nodes key table seat knows s)) in
-    subst (λ (n : ℕ). place < n) (sym long) (subst (λ (p : ℕ). p < word_count (nodes_in (part_of knows.0))) (sym is) within)
+place_in_table key table seat knows s lane turn index place lt few is = grind (arith, place_within, key_nodes)
 
 pub part_after : (how : List Event → Type 0) (part next : Part) (after : Me (Unit {0}) View) (t : Tells how part next after)
     → part_of after.0 ≡ informed t.schedule next
@@ -101,28 +98,16 @@ look_told knows after cell nodes place word slots next s nodes_are is told =
 
 -- the sender's cell is the one that is next
 pub is_sending_here : (part : Part) (cell : CellId) → IsShown part → IsNextToSend part cell → is_sending part (lane_at_cell part cell) cell.number ≡ true
-is_sending_here part cell s n =
-    let at = sends_in part cell s n in
-    and_from _ _ (eq-eqb (sender_of (nodes_in part) (lane_at_cell part cell)) (me_of part) (at.sender ∙ n.mine))
-    (eq-eqb cell.number ((outbound_at part (lane_at_cell part cell)).sent % 4) n.next)
+is_sending_here part cell s n = grind (arith, sends_in, and_from, eq-eqb)
 
 pub is_receiving_here : (part : Part) (cell : CellId) → IsShown part → IsNextToTake part cell → is_receiving part (lane_at_cell part cell) cell.number ≡ true
-is_receiving_here part cell s n =
-    let at = takes_in part cell s n in
-    and_from _ _ (eq-eqb (receiver_of (nodes_in part) (lane_at_cell part cell)) (me_of part) (at.receiver ∙ n.mine))
-    (eq-eqb cell.number ((inbound_at part (lane_at_cell part cell)).taken % 4) n.next)
+is_receiving_here part cell s n = grind (arith, takes_in, and_from, eq-eqb)
 
 -- what contracts see of a seat after a step
 pub view_after : (seat later : TableId) (knows after : Me (Unit {0}) View) (now : EndOf) (how : List Event → Type 0) (next : Part)
     → record { table = seat; part = part_of knows.0 } ≡ now → later ≡ seat → Tells how now.part next after
     → record { table = later; part = part_of after.0 } ≡ with_part now (informed (part_of after.0).schedule next)
-view_after seat later knows after now how next view same t =
-    let is = part_after how now.part next after t in
-    ends later now.table (part_of after.0) (informed (part_of after.0).schedule next) (same ∙ ap (λ (e : EndOf). e.table) view)
-    (is ∙ ap (λ (es : List Event). informed es next) (sym (ap (λ (p : Part). p.schedule) is)))
-  where
-    ends : (a b : TableId) (p q : Part) → a ≡ b → p ≡ q → record { table = a; part = p } ≡ with_part (record { table = b; part = q }) q
-    ends a b p q s t = λ i. record { table = s i; part = t i }
+view_after seat later knows after now how next view same t = grind (arith, part_after)
 
 -- ---- the other steps
 

@@ -1,5 +1,5 @@
 -- Splitting a seat, and joining two, keeps words and views showing the same state.
-use Rattle.std.proofs.Common.{◌≡◌, ◌≢◌, ℕ, zero, suc, ◌<◌, ◌⊎◌, inl, inr, eqb, if◌then◌else◌, List, [], ◌∷◌, ◌++◌, length, set, Some, refl, sym, ap, subst, ◌∙◌}
+use Rattle.std.proofs.Common.{◌≡◌, ◌≢◌, ℕ, zero, suc, ◌<◌, ◌⊎◌, inl, inr, eqb, if◌then◌else◌, List, [], ◌∷◌, ◌++◌, length, set, Some, refl, sym, ap, subst, ◌∙◌, arith}
 use Rattle.std.proofs.Common.{eq-eqb, ne_eqb}
 use Rattle.std.specs.Prelude.{slice_get}
 use Rattle.std.specs.List.{AllByRecursion}
@@ -37,16 +37,7 @@ kept_owned size s t kept owner shows =
 
 -- a part stays known, if its node's owner does
 moved : (x : Whole) (owner : ℕ → ℕ) (seat later : ℕ) (p : Part) → owner (me_of p) ≡ later → IsKnown x seat p → IsKnown (owned_by x owner) later p
-moved x owner seat later p is k = record {
-  some_node = k.some_node;
-  mine = is;
-  node = k.node;
-  seen = k.seen;
-  outbound_long = k.outbound_long;
-  inbound_long = k.inbound_long;
-  outbound = k.outbound;
-  inbound = k.inbound;
-}
+moved x owner seat later p is k = grind arith
 
 -- none of these parts is of the node
 abbrev pub NoneIs : ℕ → List Part → Type 0

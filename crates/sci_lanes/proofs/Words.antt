@@ -54,7 +54,4 @@ at_end (z ∷ xs) x (suc k) y e = elim (at_end xs x k y e) [ inl h ↦ inl (omeg
 -- what holds of the words of a list, and of one more
 pub one_more : (f : ℕ → ℕ) (xs : List ℕ) (x : ℕ) → f (length xs) ≡ x → ((j : ℕ) → j < length xs → f j ≡ get_or xs j 0) → (j : ℕ)
     → j < length (xs ++ x ∷ []) → f j ≡ get_or (xs ++ x ∷ []) j 0
-one_more f xs x here same j lt = elim (cases_lt j (length xs)) [
-  | inl less ↦ same j less ∙ sym (get_or_append_left xs (x ∷ []) 0 j less)
-  | inr le ↦ (let at : j ≡ length xs = omega (arith, length_push xs x) in ap f at ∙ (here ∙ sym (get_or_push xs x 0 j (sym at))))
-]
+one_more f xs x here same j lt = grind (arith, cases_lt, get_or_append_left, length_push, get_or_push)
