@@ -21,8 +21,8 @@ pub(crate) fn perform_wanted(node: &Node) -> Option<Want>
     node.performs_on_lines_with_contents();
     let line = oldest(node, Some(LineKind::CouldGiveWay), |line| {
         node.may_perform(line)
-    })?;
-    Some(Want::Perform(line))
+    });
+    line.map(|line| Want::Perform(line))
 }
 
 /// What the first rule that fits wants, where no operation can be performed.
@@ -41,8 +41,8 @@ fn purge_wanted(policy: &Policy, node: &Node) -> Option<Want>
 {
     let line = least_with(node, LineKind::HasSharers, |line| {
         policy.is_draining(line) || has_pending(node, line)
-    })?;
-    Some(Want::Ask(line, AskKind::Purge))
+    });
+    line.map(|line| Want::Ask(line, AskKind::Purge))
 }
 
 /// Sends the request of the least line that must send one.
@@ -57,8 +57,8 @@ fn send_wanted(node: &Node) -> Option<Want>
 fn due_wanted(policy: &Policy, node: &Node) -> Option<Want>
     ensures { result ≡ due_wanted_by policy.now node.now }
 {
-    let line = least_with(node, LineKind::HasFreshSharers, |line| policy.is_due(line))?;
-    Some(Want::Ask(line, AskKind::Claim))
+    let line = least_with(node, LineKind::HasFreshSharers, |line| policy.is_due(line));
+    line.map(|line| Want::Ask(line, AskKind::Claim))
 }
 
 /// The line's own ask.

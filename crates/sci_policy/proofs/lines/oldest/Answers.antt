@@ -3,35 +3,37 @@ use Rattle.sci_cache.specs.declared.line_kind.LineKind.{LineKind}
 use Rattle.sci_core.specs.Node.{NodeOf, lines_of, pending_on}
 use Rattle.sci_policy.specs.Lines.{has_pending, state_on}
 use Rattle.sci_policy.specs.Scan.{is_of_named}
-use Rattle.sci_policy.proofs.Oldest.{IsNarrowed, IsPassedOver, line_found, none_up_to, of_kind, of_no_kind, nothing_pending, older_found, not_meant, not_older}
+use Rattle.sci_policy.proofs.Oldest.{IsFoundBelow, IsNarrowed, line_found, none_up_to, of_kind, of_no_kind, nothing_pending, older_found, not_meant, not_older}
 use Rattle.sci_policy.proofs.lines.oldest.Goals as goal
 use Rattle.sci_policy.proofs.lines.oldest.Goals.{else-is_older-via-then-is_older+else-test, else-is_older-via-else-is_older}
 
-over : (node : NodeOf) (kind : Option LineKind) (IsMeant : (ℕ → Bool) → Type 0) (k n : ℕ)
+-- what was found so far is what there is up to a line, if no line between is of the kind and has an operation pending
+up_to : (node : NodeOf) (kind : Option LineKind) (IsMeant : (ℕ → Bool) → Type 0) (k n : ℕ) (found : Option (ℕ × ℕ)) → k ≤ n
     → ((j : ℕ) → k ≤ j → j < n → (has_pending node j && is_of_named kind (state_on node j)) ≡ false)
-    → (j : ℕ) → k ≤ j → j < n → IsPassedOver node (IsNarrowed (λ line. is_of_named kind (state_on node line)) IsMeant) j
-over node kind IsMeant k n none j from below = of_no_kind node (λ line. is_of_named kind (state_on node line)) IsMeant j (none j from below)
+    → IsFoundBelow node (IsNarrowed (λ line. is_of_named kind (state_on node line)) IsMeant) k found
+    → IsFoundBelow node (IsNarrowed (λ line. is_of_named kind (state_on node line)) IsMeant) n found
+up_to node kind IsMeant k n found le none = none_up_to node _ k n found le
+    (λ j from below. of_no_kind node (λ line. is_of_named kind (state_on node line)) IsMeant j (none j from below))
 
 pub pending-preserved-in_default-pending : goal.pending-preserved-in_default-pending
 pending-preserved-in_default-pending g c =
-    let below = c.in-Some.ensures.here in
-    let there = none_up_to c.args.node.now _ c.pending.from c.in-Some.line c.pending.found c.in-Some.ensures.order
-    (over c.args.node.now c.args.kind _ c.pending.from c.in-Some.line c.in-Some.ensures.between) c.pending.invariant.1 in
-    (omega arith, nothing_pending c.args.node.now _ c.in-Some.line c.pending.found (sym c.pending-in-Some.ensures ∙ c.in_default-pending.is) there)
+    let below = c.in-Some.ensures.here in (
+      omega arith,
+      nothing_pending c.args.node.now _ c.in-Some.line c.pending.found (sym c.pending-in-Some.ensures ∙ c.in_default-pending.is)
+          (up_to c.args.node.now c.args.kind _ c.pending.from c.in-Some.line c.pending.found c.in-Some.ensures.order c.in-Some.ensures.between
+          c.pending.invariant.1),
+    )
 
 pub pending-preserved-then-test : goal.pending-preserved-then-test
 pending-preserved-then-test g c =
-    let node = c.args.node.now in
-    let line = c.in-Some.line in
     let below = c.in-Some.ensures.here in
-    let there = none_up_to node _ c.pending.from line c.pending.found c.in-Some.ensures.order
-    (over c.args.node.now c.args.kind _ c.pending.from c.in-Some.line c.in-Some.ensures.between) c.pending.invariant.1 in
-    let at : pending_on node line ≡ Some c.in-Some-pending.pending = sym c.pending-in-Some.ensures ∙ c.in-Some-pending.is in (
+    let at : pending_on c.args.node.now c.in-Some.line ≡ Some c.in-Some-pending.pending = sym c.pending-in-Some.ensures ∙ c.in-Some-pending.is in (
       omega arith,
-      older_found node _ line c.pending.found c.in-Some-pending.pending at (sym c.is_older.ensures ∙ c.if-is_older.true)
-          (of_kind (λ j. is_of_named c.args.kind (state_on node j)) _ line true c.in-Some.ensures.found
-          (λ tested is. sym (is line true below c.if-test.ensures)))
-          there,
+      older_found c.args.node.now _ c.in-Some.line c.pending.found c.in-Some-pending.pending at (sym c.is_older.ensures ∙ c.if-is_older.true)
+          (of_kind (λ j. is_of_named c.args.kind (state_on c.args.node.now j)) _ c.in-Some.line true c.in-Some.ensures.found
+          (λ tested is. sym (is c.in-Some.line true below c.if-test.ensures)))
+          (up_to c.args.node.now c.args.kind _ c.pending.from c.in-Some.line c.pending.found c.in-Some.ensures.order c.in-Some.ensures.between
+          c.pending.invariant.1),
     )
 
 pub pending-preserved : goal.pending-preserved
@@ -39,8 +41,7 @@ pending-preserved g c =
     let node = c.args.node.now in
     let line = c.in-Some.line in
     let below = c.in-Some.ensures.here in
-    let there = none_up_to node _ c.pending.from line c.pending.found c.in-Some.ensures.order
-    (over c.args.node.now c.args.kind _ c.pending.from c.in-Some.line c.in-Some.ensures.between) c.pending.invariant.1 in
+    let there = up_to node c.args.kind _ c.pending.from line c.pending.found c.in-Some.ensures.order c.in-Some.ensures.between c.pending.invariant.1 in
     let at : pending_on node line ≡ Some c.in-Some-pending.pending = sym c.pending-in-Some.ensures ∙ c.in-Some-pending.is in (
       omega arith,
       elim c.else-is_older.branch [
@@ -54,8 +55,7 @@ pending-preserved g c =
 
 pub returns : goal.returns
 returns g c = λ tested is.
-    let found = none_up_to c.args.node.now _ c.pending.from (lines_of c.args.node.now) c.pending.found c.pending.invariant.0
-    (λ j from before. of_no_kind c.args.node.now (λ i. is_of_named c.args.kind (state_on c.args.node.now i)) _ j (c.in_default.ensures.between j from tt))
-    c.pending.invariant.1 in
+    let found = up_to c.args.node.now c.args.kind _ c.pending.from (lines_of c.args.node.now) c.pending.found c.pending.invariant.0
+    (λ j from before. c.in_default.ensures.between j from tt) c.pending.invariant.1 in
     let mapped : c.map.result ≡ line_found c.pending.found = search rules in
     mapped ∙ found.1 (λ line. is_of_named c.args.kind (state_on c.args.node.now line) && tested line) (tested, (is, λ line. refl))
