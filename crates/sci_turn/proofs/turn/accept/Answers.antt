@@ -37,12 +37,3 @@ returns-clause-goes g c = λ policy.
     goes_then policy policy policy _ _ _ _ _ _
     (goes_still policy (g.P.Post.post c.args.post.now) (g.P.Post.post c.look.new.self) c.args.progress.now c.args.progress.now c.look.ensures.still refl)
     (c.accept_seen.ensures.goes policy)
-
--- ---- what stays
-
-pub returns-in_err-accept_seen-clause-stays : goal.returns-in_err-accept_seen-clause-stays
-returns-in_err-accept_seen-clause-stays g c =
-    g.met.P.Post.stays_through c.args.post.now c.look.new.self c.accept_seen.new.post c.look.ensures.stays c.accept_seen.ensures.stays
-
-pub returns-clause-stays : goal.returns-clause-stays
-returns-clause-stays g c = g.met.P.Post.stays_through c.args.post.now c.look.new.self c.accept_seen.new.post c.look.ensures.stays c.accept_seen.ensures.stays

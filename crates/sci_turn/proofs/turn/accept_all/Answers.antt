@@ -1,4 +1,4 @@
-use Rattle.std.proofs.Common.{◌≡◌, ◌<◌, ℕ, refl, sym, subst, arith, inl, inr, []}
+use Rattle.std.proofs.Common.{rules, ◌≡◌, ◌<◌, ℕ, refl, sym, subst, arith, inl, inr, []}
 use Rattle.std.proofs.lemmas.Bool.{cases_lt}
 use Rattle.sci_core.specs.declared.lane.LaneKind.TheVariants.{Answers}
 use Rattle.sci_core.specs.Size.{Size}
@@ -17,10 +17,6 @@ pub returns-in_err-accept_from-clause-goes : goal.returns-in_err-accept_from-cla
 returns-in_err-accept_from-clause-goes g c =
     λ policy. goes_then policy policy policy _ _ _ _ _ _ (c.answers.invariant.goes policy) (c.accept_from.ensures.goes policy)
 
-pub returns-in_err-accept_from-clause-stays : goal.returns-in_err-accept_from-clause-stays
-returns-in_err-accept_from-clause-stays g c =
-    g.met.P.Post.stays_through c.args.post.now c.answers.post c.accept_from.new.post c.answers.invariant.stays c.accept_from.ensures.stays
-
 pub answers-preserved : goal.answers-preserved
 answers-preserved g c =
     let old = g.P.Post.post c.args.post.now in
@@ -31,7 +27,7 @@ answers-preserved g c =
     let came = c.answers.invariant.goes opening_policy in
     record {
       goes = λ policy. goes_then policy policy policy _ _ _ _ _ _ (c.answers.invariant.goes policy) (c.accept_from.ensures.goes policy);
-      stays = g.met.P.Post.stays_through c.args.post.now c.answers.post c.accept_from.new.post c.answers.invariant.stays c.accept_from.ensures.stays;
+      stays = search rules;
       none = λ nothing other some below. (
           let later = (c.accept_from.ensures.goes opening_policy).still nothing in
           let earlier = came.still later.nothing in

@@ -1,4 +1,4 @@
-use Rattle.std.proofs.Common.{◌≡◌, []}
+use Rattle.std.proofs.Common.{rules, ◌≡◌, []}
 use Rattle.sci_core.specs.declared.lane.LaneKind.TheVariants.{Answers}
 use Rattle.sci_policy.specs.Policy.{opening_policy}
 use Rattle.sci_turn.specs.Posts.{PostOf, lane_to}
@@ -16,7 +16,7 @@ returns-in_err-accept-clause-goes g c = λ policy. goes_then policy policy polic
 pub loop-cell-preserved : goal.loop-cell-preserved
 loop-cell-preserved g c = record {
   goes = λ policy. goes_then policy policy policy _ _ _ _ _ _ (c.loop-cell.invariant.goes policy) (c.accept.ensures.goes policy);
-  stays = g.met.P.Post.stays_through c.args.post.now c.loop-cell.post c.accept.new.post c.loop-cell.invariant.stays c.accept.ensures.stays;
+  stays = search rules;
   first = λ nothing. absurd (c.in_ok-accept.ensures.told c.if-not-branch.false nothing);
 }
 
@@ -32,13 +32,3 @@ returns-then-not-branch-clause-idle g c = λ _ nothing.
     let later = (c.accept.ensures.goes opening_policy).still nothing in
     let earlier = (c.loop-cell.invariant.goes opening_policy).still later.nothing in
     so_after (λ (post : PostOf). lane_to post Answers c.args.from ≡ []) old mid new earlier.post (c.in_ok-accept.ensures.idle c.if-not-branch.true)
-
--- ---- what stays
-
-pub returns-in_err-accept-clause-stays : goal.returns-in_err-accept-clause-stays
-returns-in_err-accept-clause-stays g c =
-    g.met.P.Post.stays_through c.args.post.now c.loop-cell.post c.accept.new.post c.loop-cell.invariant.stays c.accept.ensures.stays
-
-pub returns-then-not-branch-clause-stays : goal.returns-then-not-branch-clause-stays
-returns-then-not-branch-clause-stays g c =
-    g.met.P.Post.stays_through c.args.post.now c.loop-cell.post c.accept.new.post c.loop-cell.invariant.stays c.accept.ensures.stays

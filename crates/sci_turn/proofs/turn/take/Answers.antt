@@ -40,8 +40,3 @@ returns-clause-idle g c =
     if_ok_map (λ (taken : Bool). taken ≡ false → TookNone c.args.policy.now c.args.from mid new) (λ (taken : Bool). taken ≡ false
     → TookNone c.args.policy.now c.args.from old new) c.take_seen.result
     (λ taken was is. so_after P old mid new c.look.ensures.still (was is)) c.take_seen.ensures.idle
-
--- ---- what stays
-
-pub returns-clause-stays : goal.returns-clause-stays
-returns-clause-stays g c = g.met.P.Post.stays_through c.args.post.now c.look.new.self c.take_seen.new.post c.look.ensures.stays c.take_seen.ensures.stays

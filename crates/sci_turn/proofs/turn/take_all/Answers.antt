@@ -1,4 +1,4 @@
-use Rattle.std.proofs.Common.{◌≡◌, ◌<◌, ◌≤◌, ◌+◌, ◌%◌, ℕ, None, refl, ap, sym, subst, ◌∙◌, arith, inl, inr}
+use Rattle.std.proofs.Common.{rules, ◌≡◌, ◌<◌, ◌≤◌, ◌+◌, ◌%◌, ℕ, None, refl, ap, sym, subst, ◌∙◌, arith, inl, inr}
 use Rattle.std.proofs.lemmas.Bool.{cases_lt}
 use Rattle.sci_policy.specs.Policy.{PolicyOf}
 use Rattle.std.proofs.Math.Nat.{mod-add-mod, mod-lt}
@@ -32,7 +32,7 @@ loop-place-preserved g c =
       goes = goes_then _ _ _ _ _ _ _ _ _ invariant.goes c.take_from.ensures.goes;
       at = next_at nodes first place c.loop-place.from c.after-from.result c.after-from.ensures invariant.at;
       below = subst (λ (k : ℕ). k < nodes) (sym c.after-from.ensures) (mod-lt (c.loop-place.from + 1) (let below = invariant.below in omega arith));
-      stays = g.met.P.Post.stays_through c.args.post.now c.loop-place.post c.take_from.new.post c.loop-place.invariant.stays c.take_from.ensures.stays;
+      stays = search rules;
       none = λ nothing other below. (
           let later = c.take_from.ensures.goes.still nothing in
           let earlier = invariant.goes.still later.nothing in
@@ -59,7 +59,3 @@ returns-clause-idle g c = λ _ nothing from f.
     let ended : nodes ≤ c.loop-place._place = c.loop-place-test.false in
     let below : by.place < c.loop-place._place = let few = by.below in omega arith in
     subst (λ (j : ℕ). TookNone c.args.policy.now j old new) by.there (c.loop-place.invariant.none nothing by.place below)
-
-pub returns-in_err-take_from-clause-stays : goal.returns-in_err-take_from-clause-stays
-returns-in_err-take_from-clause-stays g c =
-    g.met.P.Post.stays_through c.args.post.now c.loop-place.post c.take_from.new.post c.loop-place.invariant.stays c.take_from.ensures.stays

@@ -1,4 +1,4 @@
-use Rattle.std.proofs.Common.{◌≡◌, None, subst}
+use Rattle.std.proofs.Common.{rules, ◌≡◌, None, subst}
 use Rattle.sci_policy.specs.Policy.{PolicyOf}
 use Rattle.sci_turn.specs.Posts.{PostOf}
 use Rattle.sci_turn.specs.Moves.{taken_next}
@@ -16,7 +16,7 @@ returns-in_err-take-clause-goes g c = goes_then _ _ _ _ _ _ _ _ _ c.loop-cell.in
 pub loop-cell-preserved : goal.loop-cell-preserved
 loop-cell-preserved g c = record {
   goes = goes_then _ _ _ _ _ _ _ _ _ c.loop-cell.invariant.goes c.take.ensures.goes;
-  stays = g.met.P.Post.stays_through c.args.post.now c.loop-cell.post c.take.new.post c.loop-cell.invariant.stays c.take.ensures.stays;
+  stays = search rules;
   first = λ nothing. absurd (c.in_ok-take.ensures.told c.if-not-branch.false nothing);
 }
 
@@ -33,13 +33,3 @@ returns-then-not-branch-clause-idle g c = λ _ nothing.
     subst (λ (p : PolicyOf). TookNone p c.args.from old new) earlier.policy
     (so_after (λ (x : PostOf). taken_next c.loop-cell.policy x.core c.args.from x.me ≡ None) old mid new earlier.post
     (c.in_ok-take.ensures.idle c.if-not-branch.true))
-
--- ---- what stays
-
-pub returns-in_err-take-clause-stays : goal.returns-in_err-take-clause-stays
-returns-in_err-take-clause-stays g c =
-    g.met.P.Post.stays_through c.args.post.now c.loop-cell.post c.take.new.post c.loop-cell.invariant.stays c.take.ensures.stays
-
-pub returns-then-not-branch-clause-stays : goal.returns-then-not-branch-clause-stays
-returns-then-not-branch-clause-stays g c =
-    g.met.P.Post.stays_through c.args.post.now c.loop-cell.post c.take.new.post c.loop-cell.invariant.stays c.take.ensures.stays

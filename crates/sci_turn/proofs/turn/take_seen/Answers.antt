@@ -66,11 +66,3 @@ returns-in_default-clause-idle g c = λ _.
     (taken_event c.args.policy.now c.args.from post request c.front-request.ensures c.requires.free
     ∙ (ap (λ d. decided_event d c.args.from post.me) decides
     ∙ (ap (decided_event c.decide.result c.args.from) (sym c.me-me.ensures) ∙ (sym c.event.ensures ∙ c.in_default.is))))
-
--- ---- what stays
-
-pub returns-in_err-reply-clause-stays : goal.returns-in_err-reply-clause-stays
-returns-in_err-reply-clause-stays g c = g.met.P.Post.stays_through c.args.post.now c.take.new.self c.reply.new.post c.take.ensures.stays c.reply.ensures.stays
-
-pub returns-clause-stays : goal.returns-clause-stays
-returns-clause-stays g c = g.met.P.Post.stays_through c.args.post.now c.take.new.self c.reply.new.post c.take.ensures.stays c.reply.ensures.stays

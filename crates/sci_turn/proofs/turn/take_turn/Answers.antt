@@ -123,24 +123,6 @@ returns-clause-rest g c = λ ok idle.
     (post_after c.args.policy.now (g.P.Post.post c.args.post.now) c.ask_some.new.policy (g.P.Post.post c.ask_some.new.post) c.ask_some.new.progress
     c.node-here.ensures.post (returns-clause-turn g c)) (returns-clause-idle g c ok idle)
 
--- ---- what stays
-
-pub returns-in_err-accept_all-clause-stays : goal.returns-in_err-accept_all-clause-stays
-returns-in_err-accept_all-clause-stays g c =
-    g.met.P.Post.stays_through c.args.post.now c.reply.new.post c.accept_all.new.post c.reply.ensures.stays c.accept_all.ensures.stays
-
-pub returns-in_err-take_all-clause-stays : goal.returns-in_err-take_all-clause-stays
-returns-in_err-take_all-clause-stays g c =
-    g.met.P.Post.stays_through c.args.post.now c.accept_all.new.post c.take_all.new.post
-    (g.met.P.Post.stays_through c.args.post.now c.reply.new.post c.accept_all.new.post c.reply.ensures.stays c.accept_all.ensures.stays)
-    c.take_all.ensures.stays
-
-pub returns-clause-stays : goal.returns-clause-stays
-returns-clause-stays g c = g.met.P.Post.stays_through c.args.post.now c.take_all.new.post c.ask_some.new.post
-    (g.met.P.Post.stays_through c.args.post.now c.accept_all.new.post c.take_all.new.post
-    (g.met.P.Post.stays_through c.args.post.now c.reply.new.post c.accept_all.new.post c.reply.ensures.stays c.accept_all.ensures.stays)
-    c.take_all.ensures.stays) c.ask_some.ensures.stays
-
 -- ---- the node
 
 pub returns-clause-node : goal.returns-clause-node
