@@ -1,6 +1,6 @@
 -- What the calls of a worker make of a driver and its node.
 use Rattle.std.proofs.Common.{◌≡◌, ◌≢◌, ◌≤◌, ◌<◌, ◌+◌, ◌-◌, ℕ, arith, true, false, Bool, List, [], ◌∷◌, ◌++◌, length, All, Option, Some, None, cond, ◌==◌, refl}
-use Rattle.std.proofs.Common.{sym, ap, subst, ◌∙◌, inl, inr}
+use Rattle.std.proofs.Common.{rules, sym, ap, subst, ◌∙◌, inl, inr}
 use Rattle.std.specs.Prelude.{slice_get, slice_index_or}
 use Rattle.std.specs.List.{Contains, remove}
 use Rattle.std.proofs.lemmas.Bool.{cases_eq, cases_lt, eq-eqb, ne_eqb}
@@ -282,12 +282,6 @@ tells driver node d = record {
   named = d.named;
   submitted = d.submitted;
   later = d.later;
-  pending = λ line p is. let was = d.pending line p is in record {
-    on = was.on;
-    named = was.named;
-    submitted = was.submitted;
-    unanswered = was.unanswered;
-    known = was.known;
-  };
+  pending = λ line p is. let was = d.pending line p is in search rules;
   counted = d.counted;
 }

@@ -1,6 +1,6 @@
 -- What the calls of a worker make of a driver that issues in order, and its node.
 use Rattle.std.proofs.Common.{true, ◌≡◌, ◌≤◌, ◌<◌, ℕ, arith, List, [], ◌∷◌, ◌++◌, length, take, All, Option, Some, None, refl, sym, ap, subst, ◌∙◌, inl}
-use Rattle.std.proofs.Common.{inr}
+use Rattle.std.proofs.Common.{inr, rules}
 use Rattle.std.specs.Prelude.{slice_get, slice_index_or}
 use Rattle.std.specs.List.{Contains, remove}
 use Rattle.std.proofs.lemmas.Bool.{cases_eq}
@@ -98,12 +98,4 @@ turns_in_order driver old new work o =
 -- ---- the gate is told
 
 pub tells_in_order : (driver : DriverOf) (node : NodeOf) → IsInOrder driver node → IsInOrder (record driver { was_done = true }) node
-tells_in_order driver node o = record {
-  issues = o.issues;
-  one = o.one;
-  ordered = o.ordered;
-  before = o.before;
-  behind = o.behind;
-  next_one = o.next_one;
-  front = o.front;
-}
+tells_in_order driver node o = search rules

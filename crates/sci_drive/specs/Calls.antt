@@ -15,22 +15,16 @@ pub data Call : Type 0 where
 
 -- the entry that a call tells of
 abbrev pub entry_told : Call → Option Entry
-entry_told (MayIssue index may) = None
 entry_told (Answered entry) = Some entry
-entry_told Done = None
-entry_told (AllDone all) = None
-entry_told Rest = None
+entry_told _ = None
 
 -- the entries that the gate is told of, in the order of the calls
 abbrev pub told : List Call → List Entry
 told calls = filter_map entry_told calls
 
 abbrev pub is_done : Call → Bool
-is_done (MayIssue index may) = false
-is_done (Answered entry) = false
 is_done Done = true
-is_done (AllDone all) = false
-is_done Rest = false
+is_done _ = false
 
 -- how often the gate is told that the whole script is answered
 abbrev pub times_done : List Call → ℕ
@@ -41,11 +35,8 @@ abbrev pub times_before : DriverOf → ℕ
 times_before driver = if driver.was_done then 1 else 0
 
 abbrev pub is_rest : Call → Bool
-is_rest (MayIssue index may) = false
-is_rest (Answered entry) = false
-is_rest Done = false
-is_rest (AllDone all) = false
 is_rest Rest = true
+is_rest _ = false
 
 -- how often the gate rests
 abbrev pub times_rested : List Call → ℕ
@@ -54,10 +45,7 @@ times_rested calls = count_by is_rest calls
 -- asked whether an operation may be submitted, the gate says that it may
 abbrev pub Allows : Call → Type 0
 Allows (MayIssue index may) = may ≡ true
-Allows (Answered entry) = Unit {0}
-Allows Done = Unit {0}
-Allows (AllDone all) = Unit {0}
-Allows Rest = Unit {0}
+Allows _ = Unit {0}
 
 -- each operation that the gate is asked about may be submitted
 abbrev pub AllowAll : List Call → Type 0

@@ -40,12 +40,6 @@ turned g c one = g.met.W.Worker.turned_on c.args.worker.now c.perform-answered.n
 pub returns-in_err-progress-clause-driven : goal.returns-in_err-progress-clause-driven
 returns-in_err-progress-clause-driven g c = driven g (goal.at.returns-in_err-progress-clause-driven g c).After-turn
 
-pub returns-in_err-progress-clause-stays : goal.returns-in_err-progress-clause-stays
-returns-in_err-progress-clause-stays g c =
-    g.met.W.Worker.stays_through c.args.worker.now c.perform-answered.new.worker c.turn.new.self
-    (g.met.W.Worker.stays_through c.args.worker.now c.submit.new.worker c.perform-answered.new.worker c.submit.ensures.stays
-    c.perform-answered.ensures.stays) c.turn.ensures.stays
-
 pub returns-in_err-progress-clause-goes : goal.returns-in_err-progress-clause-goes
 returns-in_err-progress-clause-goes g c = gone g (goal.at.returns-in_err-progress-clause-goes g c).After-turn _ (search rules)
 

@@ -7,9 +7,9 @@ use Rattle.std.proofs.lemmas.Option.{slice_get_past, slice_get_read}
 use Rattle.sci_words.specs.declared.operation.Op.{Op}
 use Rattle.sci_core.specs.Work.{IsIssued}
 use Rattle.sci_policy.specs.Turn.{submit_fault}
-use Rattle.sci_drive.specs.Calls.{IsHeard, MayIssue}
+use Rattle.sci_drive.specs.Calls.{MayIssue}
 use Rattle.sci_drive.specs.Driving.{DriverOf, IsDriven}
-use Rattle.sci_drive.specs.Rounds.{AllSubmitted, IsHeldBack, LineIsTaken, NoRoom, NotAllowed, Refused, Submits, most_pending, next_op}
+use Rattle.sci_drive.specs.Rounds.{AllSubmitted, LineIsTaken, NoRoom, NotAllowed, Refused, most_pending, next_op}
 use Rattle.sci_drive.proofs.Drives.{left_of, submits}
 use Rattle.sci_drive.proofs.Rounds.{asks, holds_back, submits_one}
 use Rattle.sci_drive.proofs.driver.Driver.submit.Goals as goal
@@ -56,21 +56,18 @@ returns-then-not-has_room-clause-submits g c =
 pub returns-in_default-clause-submits : goal.returns-in_default-clause-submits
 returns-in_default-clause-submits g c =
     let driver : DriverOf = left_of c.self.view_is in
-    let node = g.W.Worker.node c.args.worker.now in
-    let none : next_op driver ≡ None = past driver.script driver.next c.in_default.ensures.lookup.0 in
-    holds_back g.G.Gate.hears g.met.G.Gate.hears_nothing c.args.gate.now c.args.self.now node
-    (AllSubmitted (subst (λ (d : DriverOf). next_op d ≡ None) c.self.view_is none))
+    rw (← c.self.view_is) (holds_back g.G.Gate.hears g.met.G.Gate.hears_nothing c.args.gate.now driver (g.W.Worker.node c.args.worker.now)
+    (AllSubmitted (past driver.script driver.next c.in_default.ensures.lookup.0)))
 
 pub returns-then-contains-clause-submits : goal.returns-then-contains-clause-submits
 returns-then-contains-clause-submits g c =
     let driver : DriverOf = left_of c.self.view_is in
-    let node = g.W.Worker.node c.args.worker.now in
     let op = c.in-Some.op.now in
     let at = next_is g (goal.at.returns-then-contains-clause-submits g c).In-Some in
     let taken : Contains c.deref.result.now op.line = is_contained op.line c.deref.result.now (sym c.contains.ensures.value ∙ c.if-contains.true) in
     let there : Contains driver.pending op.line = subst (λ (lines : List ℕ). Contains lines op.line) c.deref.ensures.0 taken in
-    holds_back g.G.Gate.hears g.met.G.Gate.hears_nothing c.args.gate.now c.args.self.now node
-    (subst (λ (d : DriverOf). IsHeldBack d node []) c.self.view_is (LineIsTaken op at there))
+    rw (← c.self.view_is) (holds_back g.G.Gate.hears g.met.G.Gate.hears_nothing c.args.gate.now driver (g.W.Worker.node c.args.worker.now)
+    (LineIsTaken op at there))
 
 pub returns-then-not-may_issue-clause-submits : goal.returns-then-not-may_issue-clause-submits
 returns-then-not-may_issue-clause-submits g c =
@@ -78,29 +75,19 @@ returns-then-not-may_issue-clause-submits g c =
     let node = g.W.Worker.node c.args.worker.now in
     let hears = g.G.Gate.hears in
     let gate = c.args.gate.now in
-    let asked : hears gate (MayIssue driver.next false ∷ []) c.may_issue.new.self =
-    subst (λ (may : Bool). hears gate (MayIssue driver.next may ∷ []) c.may_issue.new.self) c.if-not-may_issue.true c.may_issue.ensures in
-    subst (λ (d : DriverOf). (heard : IsHeard hears gate c.may_issue.new.self d d node node) × Submits d d node node heard.calls) c.self.view_is
+    let asked : hears gate (MayIssue driver.next false ∷ []) c.may_issue.new.self = rw (← c.if-not-may_issue.true) c.may_issue.ensures in
+    rw (← c.self.view_is)
     (asks hears g.met.G.Gate.hears_nothing gate c.may_issue.new.self false driver node node asked refl (NotAllowed (0, omega arith, refl)))
 
 pub returns-in-Ok-clause-submits : goal.returns-in-Ok-clause-submits
 returns-in-Ok-clause-submits g c =
     let driver : DriverOf = left_of c.self.view_is in
-    let old = g.W.Worker.node c.args.worker.now in
-    let new = g.W.Worker.node c.submit.new.self in
     let hears = g.G.Gate.hears in
-    let gate = c.args.gate.now in
-    let later = c.may_issue.new.self in
-    let op = c.in-Some.op.now in
+    let asked : hears c.args.gate.now (MayIssue driver.next true ∷ []) c.may_issue.new.self = rw (← c.if-not-may_issue.false) c.may_issue.ensures in
     let at = next_is g (goal.at.returns-in-Ok-clause-submits g c).In-Some in
-    let issued : IsIssued old new op = c.in-Ok.ensures.issued in
-    let asked : hears gate (MayIssue driver.next true ∷ []) later =
-    subst (λ (may : Bool). hears gate (MayIssue driver.next may ∷ []) later) c.if-not-may_issue.false c.may_issue.ensures in
-    let made = submits_one hears g.met.G.Gate.hears_nothing gate later driver old new op asked at issued in
-    let pushed = subst (λ (lines : List ℕ). (heard : IsHeard hears gate later driver (record driver { next = driver.next + 1; pending = lines }) old new)
-    × Submits driver (record driver { next = driver.next + 1; pending = lines }) old new heard.calls) (sym c.push.ensures.items) made in
-    subst (λ (d : DriverOf). (heard : IsHeard hears gate later d (record driver { next = driver.next + 1; pending = c.push.new.self.items }) old new)
-    × Submits d (record driver { next = driver.next + 1; pending = c.push.new.self.items }) old new heard.calls) c.self.view_is pushed
+    let made = submits_one hears g.met.G.Gate.hears_nothing c.args.gate.now c.may_issue.new.self driver (g.W.Worker.node c.args.worker.now)
+    (g.W.Worker.node c.submit.new.self) c.in-Some.op.now asked at c.in-Ok.ensures.issued in
+    rw (← c.self.view_is, c.push.ensures.items) made
 
 not_ok : {A E : Type 0} (r : Result A E) → ((x : A) → r ≡ Ok x → ⊥) → IsErr r
 not_ok (Ok x) isnt = absurd (isnt x refl)
@@ -116,14 +103,8 @@ pub returns-in_default-submit-clause-submits : goal.returns-in_default-submit-cl
 returns-in_default-submit-clause-submits g c =
     let driver : DriverOf = left_of c.self.view_is in
     let old = g.W.Worker.node c.args.worker.now in
-    let new = g.W.Worker.node c.submit.new.self in
-    let hears = g.G.Gate.hears in
-    let gate = c.args.gate.now in
-    let later = c.may_issue.new.self in
-    let op = c.in-Some.op.now in
     let at = next_is g (goal.at.returns-in_default-submit-clause-submits g c).In-Some in
     let err = not_ok c.submit.result c.in_default-submit.not-Ok in
-    let same : new ≡ old = c.submit.ensures.same err in
-    let fault : IsSome (submit_fault old op) = has_fault c.submit.result (submit_fault old op) err c.submit.ensures.fault in
-    subst (λ (d : DriverOf). (heard : IsHeard hears gate later d d old new) × Submits d d old new heard.calls) c.self.view_is
-    (asks hears g.met.G.Gate.hears_nothing gate later c.may_issue.result driver old new c.may_issue.ensures same (Refused op at fault))
+    let fault : IsSome (submit_fault old c.in-Some.op.now) = has_fault c.submit.result (submit_fault old c.in-Some.op.now) err c.submit.ensures.fault in
+    rw (← c.self.view_is) (asks g.G.Gate.hears g.met.G.Gate.hears_nothing c.args.gate.now c.may_issue.new.self c.may_issue.result driver old
+    (g.W.Worker.node c.submit.new.self) c.may_issue.ensures (c.submit.ensures.same err) (Refused c.in-Some.op.now at fault))
