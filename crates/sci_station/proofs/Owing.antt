@@ -17,7 +17,7 @@ use Rattle.sci_core.specs.Node.{NodeOf, no_node, node_accepting, node_asking, no
 use Rattle.sci_core.specs.Size.{Size}
 use Rattle.sci_core.specs.WellFormed.{IsAnswerLetter, IsInLane, IsWellFormed}
 use Rattle.sci_core.proofs.Step.Applied.{front_holds}
-use Rattle.sci_core.proofs.Settling.Drains.{Took, made_by, some_node, some_sender, took_along}
+use Rattle.sci_core.proofs.Settling.Drains.{Took, made_by, some_node, took_from}
 use Rattle.sci_core.proofs.Basics.Options.{of_some}
 use Rattle.sci_core.proofs.WellFormed.Parts.{SendsWell, part_asking}
 use Rattle.sci_core.proofs.Step.Places.{place_answers, place_from, place_requests, place_to}
@@ -86,17 +86,40 @@ long_else : (core : Core) (m place other : ℕ) (next : NodeOf) (lane : List Let
     → length (lane_at (moved core m next place lane) other) ≡ length (lane_at core other)
 long_else core m place other next lane apart = ap (λ (l : List Letter). length l) (lane_else (with_node core m next) place other lane apart)
 
-long_here : (core : Core) (m place other : ℕ) (next : NodeOf) (lane : List Letter) → other ≡ place → place < length core.lanes
-    → length (lane_at (moved core m next place lane) other) ≡ length lane
-long_here core m place other next lane same below =
-    ap (λ (p : ℕ). length (lane_at (moved core m next place lane) p)) same
-    ∙ ap (λ (l : List Letter). length l) (lane_here (with_node core m next) place lane below)
+long_here : (core : Core) (m place : ℕ) (next : NodeOf) (lane : List Letter) → place < length core.lanes
+    → length (lane_at (moved core m next place lane) place) ≡ length lane
+long_here core m place next lane below = ap (λ (l : List Letter). length l) (lane_here (with_node core m next) place lane below)
 
-one_here : (a b : ℕ) → a ≡ b → one_if (a == b) ≡ 1
-one_here a b same = ap one_if (eq-eqb a b same)
+-- numbers that are the same but at one place, where one is more by one
+more_there : (long short : ℕ → ℕ) (place other a b : ℕ) → long place ≡ short place + 1 → (other ≢ place → long other ≡ short other)
+    → (a ≡ b → other ≡ place) → (other ≡ place → a ≡ b) → long other ≡ short other + one_if (a == b)
+more_there long short place other a b here stays same back = elim (cases_eq a b) [
+  | inl e ↦
+      let one : one_if (a == b) ≡ 1 = ap one_if (eq-eqb a b e) in
+      subst (λ (p : ℕ). long p ≡ short p + one_if (a == b)) (sym (same e)) (omega arith)
+  | inr apart ↦
+      let none : one_if (a == b) ≡ 0 = ap one_if (ne_eqb a b apart) in
+      let there = stays (λ e. apart (back e)) in
+      omega arith
+]
 
-one_else : (a b : ℕ) → a ≢ b → one_if (a == b) ≡ 0
-one_else a b apart = ap one_if (ne_eqb a b apart)
+-- a lane becomes longer by a packet, or shorter, and no other lane does
+lane_grows : (core : Core) (m place other a b : ℕ) (next : NodeOf) (letter : Letter) → place < length core.lanes → (a ≡ b → other ≡ place)
+    → (other ≡ place → a ≡ b)
+    → length (lane_at (moved core m next place (lane_at core place ++ letter ∷ [])) other) ≡ length (lane_at core other) + one_if (a == b)
+lane_grows core m place other a b next letter below =
+    let lane = lane_at core place ++ letter ∷ [] in
+    more_there (λ p. length (lane_at (moved core m next place lane) p)) (λ p. length (lane_at core p)) place other a b
+    (long_here core m place next lane below ∙ length_push (lane_at core place) letter) (long_else core m place other next lane)
+
+lane_shrinks : (core : Core) (m place other a b : ℕ) (next : NodeOf) (letter : Letter) (rest : List Letter) → place < length core.lanes
+    → lane_at core place ≡ letter ∷ rest → (a ≡ b → other ≡ place) → (other ≡ place → a ≡ b)
+    → length (lane_at core other) ≡ length (lane_at (moved core m next place rest) other) + one_if (a == b)
+lane_shrinks core m place other a b next letter rest below front =
+    let here = long_here core m place next rest below in
+    let long : length (lane_at core place) ≡ length (letter ∷ rest) = ap (λ (l : List Letter). length l) front in
+    more_there (λ p. length (lane_at core p)) (λ p. length (lane_at (moved core m next place rest) p)) place other a b (omega arith)
+    (λ apart. sym (long_else core m place other next rest apart))
 
 -- ---- what is owed after a step
 
@@ -132,31 +155,26 @@ owes_asked : (core : Core) (n other : ℕ) (next : NodeOf) (letter : Letter) →
     → owed (sent_by core n Requests next letter) n other ≡ owed core n other + one_if (letter.target == other)
 owes_asked core n other next letter well ln lo lt same =
     let place = lane_place core.size.nodes Requests n letter.target in
-    let before = lane_of core Requests n letter.target in
-    let lane = before ++ letter ∷ [] in
+    let lane = lane_of core Requests n letter.target ++ letter ∷ [] in
     let w = waits_same core n n other place next lane (node_below core n well ln) same in
     let a = long_else core n place (lane_place core.size.nodes Answers other n) next lane
     (λ e. kinds_apart core.size.nodes n letter.target other n ln lt (sym e)) in
-    elim (cases_eq letter.target other) [
-      | inl here ↦
-          let there : lane_place core.size.nodes Requests n other ≡ place = ap (lane_place core.size.nodes Requests n) (sym here) in
-          let r = long_here core n place (lane_place core.size.nodes Requests n other) next lane there (lane_below core Requests n letter.target well ln lt) in
-          let old : length (lane_of core Requests n other) ≡ length before = ap (λ (p : ℕ). length (lane_at core p)) there in
-          let one = one_here letter.target other here in
-          let more = length_push before letter in
-          omega arith
-      | inr apart ↦
-          let r = long_else core n place (lane_place core.size.nodes Requests n other) next lane
-          (λ e. apart (sym (same_receiver core.size.nodes Requests n other n letter.target lo lt e))) in
-          let one = one_else letter.target other apart in
-          omega arith
-    ]
+    let r = lane_grows core n place (lane_place core.size.nodes Requests n other) letter.target other next letter
+    (lane_below core Requests n letter.target well ln lt) (λ here. ap (lane_place core.size.nodes Requests n) (sym here))
+    (λ e. sym (same_receiver core.size.nodes Requests n other n letter.target lo lt e)) in
+    omega arith
 
 -- a request is taken, and its answer waits
-owes_served : (core new : Core) (m from n other : ℕ) (taking : NodeOf → Letter → Option NodeOf) → IsWellFormed core → m < core.size.nodes
-    → from < core.size.nodes → n < core.size.nodes → other < core.size.nodes → Took core new Requests m from taking
-    → ((letter : Letter) → IfSome (taking (node_at core m) letter) (AnswersTo core.size.nodes letter (node_at core m))) → owed new n other ≡ owed core n other
-owes_served core new m from n other taking well lm lf ln lo took answers =
+owes_served : (core new : Core) (e : Event) (from n other : ℕ) (taking : NodeOf → Letter → Option NodeOf) → IsWellFormed core → n < core.size.nodes
+    → other < core.size.nodes → side (node_at core (node_of e)) e ≡ Takes Requests from (taking (node_at core (node_of e))) → stepping core e ≡ Some new
+    → ((letter : Letter) → IfSome (taking (node_at core (node_of e)) letter) (AnswersTo core.size.nodes letter (node_at core (node_of e))))
+    → owed new n other ≡ owed core n other
+owes_served core new e from n other taking well ln lo is steps answers =
+    let m = node_of e in
+    let taken = took_from core new Requests from taking e is steps in
+    let took = taken.took in
+    let lm = taken.some in
+    let lf = taken.sender in
     let place = lane_place core.size.nodes Requests from m in
     let source : took.letter.source ≡ from =
     (front_holds (IsInLane core.size.nodes core.size.lines place) (lane_of core Requests from m) took.letter
@@ -177,7 +195,6 @@ owes_served core new m from n other taking well lm lf ln lo took answers =
         → owed (moved core m next (lane_place core.size.nodes Requests from m) rest) n other ≡ owed core n other
     owes_served_at core m from n other next letter rest well lm lf ln lo front does source a =
         let place = lane_place core.size.nodes Requests from m in
-        let long : length (lane_at core place) ≡ length (letter ∷ rest) = ap (λ (l : List Letter). length l) front in
         elim (cases_eq m other) [
           | inl here ↦
               let w : one_if (answers_to (node_at (moved core m next place rest) m).waiting n) ≡ one_if (letter.source == n) =
@@ -185,19 +202,10 @@ owes_served core new m from n other taking well lm lf ln lo took answers =
               let free : one_if (answers_to (node_at core m).waiting n) ≡ 0 = ap (λ (w : Option Letter). one_if (answers_to w n)) does.free in
               subst (λ (k : ℕ). length (lane_at (moved core m next place rest) (lane_place core.size.nodes Answers k n)) ≡ length
               (lane_at core (lane_place core.size.nodes Answers k n)) → owed (moved core m next place rest) n k ≡ owed core n k) here (λ same. (
-              elim (cases_eq from n) [
-                | inl mine ↦
-                    let there : lane_place core.size.nodes Requests n m ≡ place = ap (λ (k : ℕ). lane_place core.size.nodes Requests k m) (sym mine) in
-                    let r = long_here core m place (lane_place core.size.nodes Requests n m) next rest there (lane_below core Requests from m well lf lm) in
-                    let old : length (lane_of core Requests n m) ≡ length (lane_at core place) = ap (λ (p : ℕ). length (lane_at core p)) there in
-                    let one = one_here letter.source n (source ∙ mine) in
-                    omega arith
-                | inr apart ↦
-                    let r = long_else core m place (lane_place core.size.nodes Requests n m) next rest
-                    (λ e. apart (sym (same_sender core.size.nodes Requests n m from m ln lm lf lm e))) in
-                    let one = one_else letter.source n (λ e. apart (sym source ∙ e)) in
-                    omega arith
-              ])) a
+              let r = lane_shrinks core m place (lane_place core.size.nodes Requests n m) letter.source n next letter rest
+              (lane_below core Requests from m well lf lm) front (λ mine. ap (λ (k : ℕ). lane_place core.size.nodes Requests k m) (sym mine ∙ source))
+              (λ e. source ∙ sym (same_sender core.size.nodes Requests n m from m ln lm lf lm e)) in
+              omega arith)) a
           | inr apart ↦
               let w = waits_else core m n other place next rest apart in
               let r = long_else core m place (lane_place core.size.nodes Requests n other) next rest
@@ -211,9 +219,7 @@ owes_replied : (core : Core) (m n other : ℕ) (next : NodeOf) (letter : Letter)
     → (node_at core m).waiting ≡ Some letter → next.waiting ≡ None → owed (sent_by core m Answers next letter) n other ≡ owed core n other
 owes_replied core m n other next letter well lm ln lo lt waited gone =
     let place = lane_place core.size.nodes Answers m letter.target in
-    let before = lane_of core Answers m letter.target in
-    let lane = before ++ letter ∷ [] in
-    let more = length_push before letter in
+    let lane = lane_of core Answers m letter.target ++ letter ∷ [] in
     let r = long_else core m place (lane_place core.size.nodes Requests n other) next lane (λ e. kinds_apart core.size.nodes n other m letter.target ln lo e) in
     elim (cases_eq m other) [
       | inl here ↦
@@ -222,19 +228,10 @@ owes_replied core m n other next letter well lm ln lo lt waited gone =
           let was : one_if (answers_to (node_at core m).waiting n) ≡ one_if (letter.target == n) = ap (λ (w : Option Letter). one_if (answers_to w n)) waited in
           subst (λ (k : ℕ). length (lane_at (moved core m next place lane) (lane_place core.size.nodes Requests n k)) ≡ length
           (lane_at core (lane_place core.size.nodes Requests n k)) → owed (moved core m next place lane) n k ≡ owed core n k) here (λ same. (
-          elim (cases_eq letter.target n) [
-            | inl mine ↦
-                let there : lane_place core.size.nodes Answers m n ≡ place = ap (lane_place core.size.nodes Answers m) (sym mine) in
-                let a = long_here core m place (lane_place core.size.nodes Answers m n) next lane there (lane_below core Answers m letter.target well lm lt) in
-                let old : length (lane_of core Answers m n) ≡ length before = ap (λ (p : ℕ). length (lane_at core p)) there in
-                let one = one_here letter.target n mine in
-                omega arith
-            | inr apart ↦
-                let a = long_else core m place (lane_place core.size.nodes Answers m n) next lane
-                (λ e. apart (sym (same_receiver core.size.nodes Answers m n m letter.target ln lt e))) in
-                let one = one_else letter.target n apart in
-                omega arith
-          ])) r
+          let a = lane_grows core m place (lane_place core.size.nodes Answers m n) letter.target n next letter
+          (lane_below core Answers m letter.target well lm lt) (λ mine. ap (lane_place core.size.nodes Answers m) (sym mine))
+          (λ e. sym (same_receiver core.size.nodes Answers m n m letter.target ln lt e)) in
+          omega arith)) r
       | inr apart ↦
           let w = waits_else core m n other place next lane apart in
           let a = long_else core m place (lane_place core.size.nodes Answers other n) next lane
@@ -262,20 +259,10 @@ owes_accepted core from n other next letter rest well lf ln lo same front =
     let place = lane_place core.size.nodes Answers from n in
     let w = waits_same core n n other place next rest (node_below core n well ln) same in
     let r = long_else core n place (lane_place core.size.nodes Requests n other) next rest (λ e. kinds_apart core.size.nodes n other from n ln lo e) in
-    let long : length (lane_at core place) ≡ length (letter ∷ rest) = ap (λ (l : List Letter). length l) front in
-    elim (cases_eq from other) [
-      | inl here ↦
-          let there : lane_place core.size.nodes Answers other n ≡ place = ap (λ (k : ℕ). lane_place core.size.nodes Answers k n) (sym here) in
-          let a = long_here core n place (lane_place core.size.nodes Answers other n) next rest there (lane_below core Answers from n well lf ln) in
-          let old : length (lane_of core Answers other n) ≡ length (lane_at core place) = ap (λ (p : ℕ). length (lane_at core p)) there in
-          let one = one_here from other here in
-          omega arith
-      | inr apart ↦
-          let a = long_else core n place (lane_place core.size.nodes Answers other n) next rest
-          (λ e. apart (sym (same_sender core.size.nodes Answers other n from n lo ln lf ln e))) in
-          let one = one_else from other apart in
-          omega arith
-    ]
+    let a = lane_shrinks core n place (lane_place core.size.nodes Answers other n) from other next letter rest (lane_below core Answers from n well lf ln)
+    front (λ here. ap (λ (k : ℕ). lane_place core.size.nodes Answers k n) (sym here))
+    (λ e. sym (same_sender core.size.nodes Answers other n from n lo ln lf ln e)) in
+    omega arith
 
 -- ---- the events
 
@@ -329,24 +316,6 @@ asked core new m line kind well steps =
     (ask_once core.size.nodes part line kind (well.each_part m lt).all ((well.each_part m lt).asks line)) in
     record { lt = lt; next = made.0.0; letter = made.0.1; asks = made.1; then_ = made.2; target = sends.request.letter_ok.target; waiting = once.waiting }
 
-served_owes : (core new : Core) (m from n other : ℕ) → IsWellFormed core → n < core.size.nodes → other < core.size.nodes
-    → stepping core (event.Serve from m) ≡ Some new → owed new n other ≡ owed core n other
-served_owes core new m from n other well ln lo steps =
-    let lt = some_node core new (event.Serve from m) steps in
-    let f = some_sender core new (event.Serve from m) Requests from (node_serving (node_at core m)) lt refl steps in
-    owes_served core new m from n other node_serving well lt f ln lo
-    (took_along core new Requests m from node_serving (event.Serve from m) (lane_of core Requests from m) ((steps_by_sides core m lt).serve from f) refl
-    steps) (λ letter. serve_answers core.size.nodes (node_at core m) letter)
-
-refused_owes : (core new : Core) (m from n other : ℕ) → IsWellFormed core → n < core.size.nodes → other < core.size.nodes
-    → stepping core (event.Refuse from m) ≡ Some new → owed new n other ≡ owed core n other
-refused_owes core new m from n other well ln lo steps =
-    let lt = some_node core new (event.Refuse from m) steps in
-    let f = some_sender core new (event.Refuse from m) Requests from (node_refusing (node_at core m)) lt refl steps in
-    owes_served core new m from n other node_refusing well lt f ln lo
-    (took_along core new Requests m from node_refusing (event.Refuse from m) (lane_of core Requests from m) ((steps_by_sides core m lt).refuse from f) refl
-    steps) (λ letter. refuse_answers core.size.nodes (node_at core m) letter)
-
 replied_owes : (core new : Core) (m n other : ℕ) → IsWellFormed core → n < core.size.nodes → other < core.size.nodes → stepping core (event.Reply m) ≡ Some new
     → owed new n other ≡ owed core n other
 replied_owes core new m n other well ln lo steps =
@@ -368,13 +337,11 @@ record Accepted (core new : Core) (from m : ℕ) : Type 0 where
 
 accepted : (core new : Core) (m from : ℕ) → IsWellFormed core → stepping core (event.Accept from m) ≡ Some new → Accepted core new from m
 accepted core new m from well steps =
-    let lt = some_node core new (event.Accept from m) steps in
-    let f = some_sender core new (event.Accept from m) Answers from (node_accepting (node_at core m)) lt refl steps in
-    let took = took_along core new Answers m from node_accepting (event.Accept from m) (lane_of core Answers from m) ((steps_by_sides core m lt).accept from f)
-    refl steps in
+    let taken = took_from core new Answers from node_accepting (event.Accept from m) refl steps in
+    let took = taken.took in
     record {
-      lt = lt;
-      sender = f;
+      lt = taken.some;
+      sender = taken.sender;
       took = took;
       waiting = (of_some (Accepts took.letter.line (node_at core m)) (node_accepting (node_at core m) took.letter) took.next took.takes
           (accept_accepts (node_at core m) took.letter)).waiting;
@@ -388,8 +355,10 @@ other_owes core new (event.Perform m line) n other well ln lo apart steps = perf
 other_owes core new (event.Ask m line kind) n other well ln lo apart steps =
     let a = asked core new m line kind well steps in
     ap (λ (c : Core). owed c n other) a.then_ ∙ owes_asked_else core m n other a.next a.letter well a.lt ln lo a.target a.waiting apart
-other_owes core new (event.Serve from m) n other well ln lo apart steps = served_owes core new m from n other well ln lo steps
-other_owes core new (event.Refuse from m) n other well ln lo apart steps = refused_owes core new m from n other well ln lo steps
+other_owes core new (event.Serve from m) n other well ln lo apart steps =
+    owes_served core new (event.Serve from m) from n other node_serving well ln lo refl steps (serve_answers core.size.nodes (node_at core m))
+other_owes core new (event.Refuse from m) n other well ln lo apart steps =
+    owes_served core new (event.Refuse from m) from n other node_refusing well ln lo refl steps (refuse_answers core.size.nodes (node_at core m))
 other_owes core new (event.Reply m) n other well ln lo apart steps = replied_owes core new m n other well ln lo steps
 other_owes core new (event.Accept from m) n other well ln lo apart steps =
     let a = accepted core new m from well steps in
@@ -447,11 +416,13 @@ taken_owes core new (event.Ask m line ask) from other kind taking well lo is ste
 taken_owes core new (event.Reply m) from other kind taking well lo is steps = by_option (sends Answers) _ (λ e. cc) (λ x e. cc) _ is
 taken_owes core new (event.Serve f m) from other kind taking well lo is steps =
     let what = takes_what Requests kind f from (node_serving (node_at core m)) taking is in
-    let none = served_owes core new m f m other well (some_node core new (event.Serve f m) steps) lo steps in
+    let none = owes_served core new (event.Serve f m) f m other node_serving well (some_node core new (event.Serve f m) steps) lo refl steps
+    (serve_answers core.size.nodes (node_at core m)) in
     subst (λ (k : LaneKind). owed new m other + takes_one k from other ≡ owed core m other) what.0 (omega arith)
 taken_owes core new (event.Refuse f m) from other kind taking well lo is steps =
     let what = takes_what Requests kind f from (node_refusing (node_at core m)) taking is in
-    let none = refused_owes core new m f m other well (some_node core new (event.Refuse f m) steps) lo steps in
+    let none = owes_served core new (event.Refuse f m) f m other node_refusing well (some_node core new (event.Refuse f m) steps) lo refl steps
+    (refuse_answers core.size.nodes (node_at core m)) in
     subst (λ (k : LaneKind). owed new m other + takes_one k from other ≡ owed core m other) what.0 (omega arith)
 taken_owes core new (event.Accept f m) from other kind taking well lo is steps =
     let what = takes_what Answers kind f from (node_accepting (node_at core m)) taking is in

@@ -1,5 +1,5 @@
 -- Ends that have made no event.
-use Rattle.std.proofs.Common.{◌≡◌, ◌≢◌, ◌++◌, List, get_or, set, ℕ, ◌%◌, ◌<◌, Bool, true, false, [], refl, sym, ap, subst, ◌∙◌}
+use Rattle.std.proofs.Common.{◌≡◌, ◌≢◌, ◌++◌, List, get_or, set, ℕ, ◌%◌, Bool, true, false, [], refl, sym, ap, subst, ◌∙◌, arith}
 use Rattle.std.specs.Prelude.{if◌then◌else◌}
 use Rattle.sci_core.proofs.Basics.Lists.{at_place_set}
 use Rattle.sci_lanes.specs.declared.cell.CellId.{CellId}
@@ -55,23 +55,15 @@ same_of_still old new still = record {
 
 -- ---- the next cells stay
 
+-- the lane of a cell stays
+pub lane_still : (old new : EndOf) (cell : CellId) → IsStill old new → lane_at_cell new.part cell ≡ lane_at_cell old.part cell
+lane_still old new cell still = ap (λ (n : NodeOf). lane_number n.cache.nodes cell) still.node
+
 pub still_sends : (old new : EndOf) (cell : CellId) → IsStill old new → IsNextToSend old.part cell → IsNextToSend new.part cell
-still_sends old new cell still next = record {
-  mine = next.mine ∙ ap (λ (n : NodeOf). n.cache.me) (sym still.node);
-  other = subst (λ (n : NodeOf). cell.receiver < n.cache.nodes) (sym still.node) next.other;
-  next = next.next ∙ (ap (λ (k : ℕ). k % 4) (sym (still.sent (lane_at_cell old.part cell)))
-      ∙ ap (λ (n : NodeOf). (outbound_at new.part (lane_at_cell (record { node = n; schedule = []; outbound = []; inbound = [] }) cell)).sent % 4)
-      (sym still.node));
-}
+still_sends old new cell still next = grind (arith, lane_still)
 
 pub still_takes : (old new : EndOf) (cell : CellId) → IsStill old new → IsNextToTake old.part cell → IsNextToTake new.part cell
-still_takes old new cell still next = record {
-  mine = next.mine ∙ ap (λ (n : NodeOf). n.cache.me) (sym still.node);
-  other = subst (λ (n : NodeOf). cell.sender < n.cache.nodes) (sym still.node) next.other;
-  next = next.next ∙ (ap (λ (k : ℕ). k % 4) (sym (still.taken (lane_at_cell old.part cell)))
-      ∙ ap (λ (n : NodeOf). (inbound_at new.part (lane_at_cell (record { node = n; schedule = []; outbound = []; inbound = [] }) cell)).taken % 4)
-      (sym still.node));
-}
+still_takes old new cell still next = grind (arith, lane_still)
 
 -- ---- steps that are no event
 
@@ -125,10 +117,6 @@ next_same part a b one two kind sender =
     λ i. record { kind = kind i; sender = sender i; receiver = receiver i; number = number i }
 
 -- ---- other lanes
-
--- the lane of a cell stays
-pub lane_still : (old new : EndOf) (cell : CellId) → IsStill old new → lane_at_cell new.part cell ≡ lane_at_cell old.part cell
-lane_still old new cell still = ap (λ (n : NodeOf). lane_number n.cache.nodes cell) still.node
 
 pub others_then : (lane : ℕ) (old mid new : Part) → LeavesOthers lane old mid → LeavesOthers lane mid new → LeavesOthers lane old new
 others_then lane old mid new one two other apart = two other apart ∙ one other apart
