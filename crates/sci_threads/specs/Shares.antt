@@ -1,5 +1,5 @@
 -- What each node of a machine does of a script.
-use Rattle.std.specs.Prelude.{◌≡◌, ◌<◌, ◌==◌, ℕ, Bool, true, List, [], filter, length, map, Result, IfOk, slice_index_or, Vec}
+use Rattle.std.specs.Prelude.{◌≡◌, ◌<◌, ◌==◌, ℕ, All, Bool, true, List, [], filter, length, map, Result, IfOk, slice_index_or, Vec}
 use Rattle.sci_words.specs.declared.limits.TheConstants.{MAX_OPERATIONS}
 use Rattle.sci_words.specs.declared.operation.Op.{Op}
 use Rattle.sci_words.specs.declared.stamped.Stamped.{Stamped}
@@ -18,6 +18,7 @@ use Rattle.sci_drive.specs.declared.driver.Issuing.TheVariants.{InOrder}
 use Rattle.sci_drive.specs.Driving.{DriverOf, IsDriven, IsInOrder}
 use Rattle.sci_drive.specs.Script.{IsFrontOf, IsLogOf, IsWholeLogOf}
 use Rattle.sci_station.specs.Ends.{IsSameEnd}
+use Rattle.sci_threads.specs.declared.share.Share.{Share}
 
 -- the operations of a node, in their order
 abbrev pub operations_of : ℕ → List (ℕ × Op) → List Op
@@ -74,3 +75,11 @@ pub record GoesOn (driver : DriverOf) (end : EndOf) (later : DriverOf) (last : E
 abbrev pub HaveGoneOn : {A : Type 0} → (A → DriverOf) → (A → EndOf) → List A → List A → ℕ → A → Type 0
 HaveGoneOn driver end old new k d =
     GoesOn (driver (slice_index_or old k d)) (end (slice_index_or old k d)) (driver (slice_index_or new k d)) (end (slice_index_or new k d))
+
+-- each share is well
+abbrev pub AreWell : {G : Type 0} → List (Share G) → Type 0
+AreWell shares = All (λ share. IsWell share.driver share.station.end share.finished) shares
+
+-- each share goes on from what it was
+abbrev pub AllGoOn : {G : Type 0} → List (Share G) → List (Share G) → Type 0
+AllGoOn old new = (k : ℕ) (d : _) → k < length old → HaveGoneOn (λ share. share.driver) (λ share. share.station.end) old new k d

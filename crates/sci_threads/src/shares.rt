@@ -5,7 +5,7 @@ ghost use Rattle.sci_words.specs.declared.limits.TheConstants.{MAX_OPERATIONS};
 ghost use Rattle.sci_drive.specs.Driving.{HasSubmittedNothing};
 ghost use Rattle.sci_station.specs.Station.{node_in};
 ghost use Rattle.sci_lanes.specs.Shown.{me_of};
-ghost use Rattle.sci_threads.specs.Shares.{GoesOn, HaveGoneOn, IsOpened, IsWell, operations_of, own_of};
+ghost use Rattle.sci_threads.specs.Shares.{AllGoOn, AreWell, GoesOn, IsOpened, IsWell, operations_of, own_of};
 
 use crate::share::Share;
 use crate::start::Start;
@@ -27,12 +27,9 @@ pub(crate) struct Plan<'a> {
 
 /// Each share that has not ended goes on for a turn. Whether one has not ended then.
 fn go_round<G: Gate>(shares: &mut [Share<'_, G>]) -> bool
-    requires well { All
-        (λ share. IsWell share.driver share.station.end share.finished) shares.old }
-    ensures well { All
-        (λ share. IsWell share.driver share.station.end share.finished) shares.new }
-    ensures gone { (k : ℕ) (d : _) → k < length shares.old → HaveGoneOn
-        (λ share. share.driver) (λ share. share.station.end) shares.old shares.new k d }
+    requires well { AreWell shares.old }
+    ensures well { AreWell shares.new }
+    ensures gone { AllGoOn shares.old shares.new }
 {
     let mut more = false;
     for n in 0..shares.len() {
@@ -46,12 +43,9 @@ fn go_round<G: Gate>(shares: &mut [Share<'_, G>]) -> bool
 
 /// All shares go on in this thread, a turn each in a circle, until all have ended.
 fn go_on_in_a_circle<G: Gate>(shares: &mut [Share<'_, G>], turns: u32)
-    requires well { All
-        (λ share. IsWell share.driver share.station.end share.finished) shares.old }
-    ensures well { All
-        (λ share. IsWell share.driver share.station.end share.finished) shares.new }
-    ensures gone { (k : ℕ) (d : _) → k < length shares.old → HaveGoneOn
-        (λ share. share.driver) (λ share. share.station.end) shares.old shares.new k d }
+    requires well { AreWell shares.old }
+    ensures well { AreWell shares.new }
+    ensures gone { AllGoOn shares.old shares.new }
 {
     for _round in 0..turns {
         if !go_round(shares) {
@@ -69,12 +63,9 @@ pub(crate) fn run_all<R: Threads + Sync, G: Gate + Send>(
     shares: &mut [Share<'_, G>],
     turns: u32,
 )
-    requires well { All
-        (λ share. IsWell share.driver share.station.end share.finished) shares.old }
-    ensures well { All
-        (λ share. IsWell share.driver share.station.end share.finished) shares.new }
-    ensures gone { (k : ℕ) (d : _) → k < length shares.old → HaveGoneOn
-        (λ share. share.driver) (λ share. share.station.end) shares.old shares.new k d }
+    requires well { AreWell shares.old }
+    ensures well { AreWell shares.new }
+    ensures gone { AllGoOn shares.old shares.new }
 {
     let start = Start::new(shares.len());
     let run = |_place: usize, share: &mut Share<'_, G>|
@@ -151,8 +142,7 @@ pub(crate) fn shares<'a, G: Drop>(
     requires fresh { All (λ station. HasSubmittedNothing (node_in station)) stations.items }
     ensures stations { IfOk result
         (λ shares. map (λ share. share.station) shares.items ≡ stations.items) }
-    ensures well { IfOk result (λ shares. All
-        (λ share. IsWell share.driver share.station.end share.finished) shares.items) }
+    ensures well { IfOk result (λ shares. AreWell shares.items) }
     ensures opened { IfOk result (λ shares. All
         (λ share. IsOpened plan.entry.issuing (own_of plan.entry.operations.now) share.driver
         share.station.end) shares.items) }
