@@ -41,12 +41,19 @@ pub trait Post {
         ensures post { IsPost (post self.now) };
 
     /// The first node from one on whose lane of answers is to be looked at, or None if no more is. Nothing has come by the
-    /// lanes that are passed over.
+    /// lanes that are passed over. A post that doesn't know of such lanes passes over none.
     fn next_answering(&self, from: u8) -> Option<u8>
         ensures order { IfSome result (λ node. from ≤ node) }
         ensures here { IfSome result (λ node. node < nodes_in (post self.now)) }
         ensures passed { (other : ℕ) → from ≤ other → other < nodes_in (post self.now) →
-            IsBefore other result → lane_to (post self.now) Answers other ≡ [] };
+            IsBefore other result → lane_to (post self.now) Answers other ≡ [] }
+    {
+        if from < self.nodes() {
+            Some(from)
+        } else {
+            None
+        }
+    }
 
     /// Looks whether a packet has come by the lane of a kind from a node. It stays there. Requires that there
     /// is such a node.
