@@ -47,14 +47,6 @@ impl<'a> Post for Lent<'a> {
         self.recorder.machine().node(self.node)
     }
 
-    fn next_answering(&self, from: u8) -> Option<u8> {
-        if from < self.nodes() {
-            Some(from)
-        } else {
-            None
-        }
-    }
-
     fn look(&mut self, kind: LaneKind, from: u8) -> Result<bool, AllocError> {
         Ok(self.recorder.machine().count(kind, from, self.node) > 0)
     }

@@ -10,14 +10,11 @@ use Rattle.sci_runs.proofs.Sparing.{spares_step}
 use Rattle.sci_runs.proofs.recorder.Recorder.perform.Goals as goal
 
 pub push-requires : goal.push-requires
-push-requires c = event_within c.self.inside.machine c.perform_on.new.machine c.self.inside.events.schedule (Perform c.args.node c.args.line)
-    c.self.invariant.sized c.extent-extent.ensures.reached c.in_ok-entry.ensures.event
+push-requires c = event_within _ _ _ (Perform c.args.node c.args.line) c.self.invariant.sized c.extent-extent.ensures.reached c.in_ok-entry.ensures.event
 
 pub invariant_of-self-2 : goal.invariant_of-self-2
-invariant_of-self-2 c =
-    recorder_on c.self.inside.machine c.perform_on.new.machine c.self.inside.events.schedule c.push.new.self.schedule c.self.inside.events.lost
-    c.push.new.self.lost (Perform c.args.node c.args.line) c.self.invariant
-    c.extent-extent.ensures.reached c.in_ok-entry.ensures.event c.perform_on.ensures.size c.push.ensures.size c.push.ensures.before c.push.ensures.recorded
+invariant_of-self-2 c = recorder_on _ _ _ _ _ _ (Perform c.args.node c.args.line) c.self.invariant c.extent-extent.ensures.reached c.in_ok-entry.ensures.event
+    c.perform_on.ensures.size c.push.ensures.size c.push.ensures.before c.push.ensures.recorded
 
 pub returns-clause-performed : goal.returns-clause-performed
 returns-clause-performed c =

@@ -9,14 +9,11 @@ use Rattle.sci_runs.proofs.Sparing.{spares_step}
 use Rattle.sci_runs.proofs.recorder.Recorder.submit.Goals as goal
 
 pub push-requires : goal.push-requires
-push-requires c = event_within c.self.inside.machine c.submit_on.new.machine c.self.inside.events.schedule (Issue c.args.node c.args.op) c.self.invariant.sized
-    c.extent-extent.ensures.reached c.in_ok-serial.ensures.issued
+push-requires c = event_within _ _ _ (Issue c.args.node c.args.op) c.self.invariant.sized c.extent-extent.ensures.reached c.in_ok-serial.ensures.issued
 
 pub invariant_of-self-2 : goal.invariant_of-self-2
-invariant_of-self-2 c =
-    recorder_on c.self.inside.machine c.submit_on.new.machine c.self.inside.events.schedule c.push.new.self.schedule c.self.inside.events.lost
-    c.push.new.self.lost (Issue c.args.node c.args.op) c.self.invariant
-    c.extent-extent.ensures.reached c.in_ok-serial.ensures.issued c.submit_on.ensures.size c.push.ensures.size c.push.ensures.before c.push.ensures.recorded
+invariant_of-self-2 c = recorder_on _ _ _ _ _ _ (Issue c.args.node c.args.op) c.self.invariant c.extent-extent.ensures.reached c.in_ok-serial.ensures.issued
+    c.submit_on.ensures.size c.push.ensures.size c.push.ensures.before c.push.ensures.recorded
 
 pub returns-clause-issued : goal.returns-clause-issued
 returns-clause-issued c =

@@ -5,8 +5,4 @@ use Rattle.sci_runs.proofs.seat.SeatWorker.perform.Goals as goal
 
 pub returns-clause-turned : goal.returns-clause-turned
 returns-clause-turned c =
-    let seat = c.args.self.now in (
-      refl,
-      takes_perform c.perform.result seat.node seat.policy.now seat.recorder.now.core c.perform.new.self.core (Perform seat.node c.args.line) refl
-          c.perform.ensures.event c.perform.ensures.same,
-    )
+    (refl, takes_perform c.perform.result _ _ _ _ (Perform c.args.self.now.node c.args.line) refl c.perform.ensures.event c.perform.ensures.same)

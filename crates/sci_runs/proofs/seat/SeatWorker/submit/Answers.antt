@@ -5,8 +5,4 @@ use Rattle.sci_runs.proofs.seat.SeatWorker.submit.Goals as goal
 
 pub returns-clause-turned : goal.returns-clause-turned
 returns-clause-turned c =
-    let seat = c.args.self.now in (
-      refl,
-      takes_submit c.submit.result seat.node seat.policy.now seat.recorder.now.core c.submit.new.self.core (Issue seat.node c.args.op) refl
-          c.submit.ensures.event c.submit.ensures.same,
-    )
+    (refl, takes_submit c.submit.result _ _ _ _ (Issue c.args.self.now.node c.args.op) refl c.submit.ensures.event c.submit.ensures.same)
