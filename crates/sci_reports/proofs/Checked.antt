@@ -1,10 +1,7 @@
 -- What reading a text as one kind after another comes to.
-use Rattle.std.proofs.Common.{◌≡◌, ℕ, suc, ◌+◌, ◌<◌, ◌≤◌, ◌⊎◌, List, [], ◌∷◌, ◌++◌, length, take, refl, sym, ap, ◌∙◌, subst, arith, inl, inr}
+use Rattle.std.proofs.Common.{◌≡◌, ℕ, ◌+◌, ◌<◌, ◌≤◌, ◌⊎◌, List, [], ◌∷◌, ◌++◌, length, take, refl, sym, ap, ◌∙◌, subst, arith, inl, inr}
 use Rattle.std.specs.Prelude.{Bool, false, Option, Result, Ok, Err, IfOk, IfErr}
-use Rattle.std.specs.List.{flat_map}
-use Rattle.std.proofs.Math.Seq.{take-suc}
-use Rattle.std.proofs.lemmas.List.{append-nil, length-append, take_all}
-use Rattle.std.proofs.lemmas.List.Concat.{flat_map-append}
+use Rattle.std.proofs.lemmas.List.{append-nil, take_all}
 use Rattle.sci_history.specs.declared.entry.Entry.{Entry}
 use Rattle.sci_history.specs.Placed.{log_of}
 use Rattle.sci_text.specs.declared.fault.TextFault.{TextFault}
@@ -24,7 +21,7 @@ use Rattle.sci_command.specs.Answer.{IsAnswered}
 use Rattle.sci_command.specs.declared.answer.Answer.{Answer}
 use Rattle.sci_command.specs.declared.outcome.Outcome.{Outcome}
 use Rattle.sci_command.specs.declared.outcome.Outcome.TheVariants.{Done, Unlawful, Refused}
-use Rattle.sci_command.specs.Refusal.{Refuses, line_refusal}
+use Rattle.sci_command.specs.Refusal.{Refuses}
 use Rattle.sci_reports.specs.declared.checking.Reading.{Reading}
 use Rattle.sci_reports.specs.declared.checking.Reading.TheVariants.{Size, Fault}
 use Rattle.sci_reports.specs.declared.checking.TextSize.{TextSize}
@@ -78,10 +75,7 @@ schedule_said readings size is e =
     (right_nil (said_of Script readings.script) (said_of Schedule readings.schedule ++ said_of Log readings.log) e)
 
 pub log_said : (readings : Readings) (size : TextSize) → readings.log ≡ Size size → known_text readings ≡ [] → ⊥
-log_said readings size is e =
-    let last = right_nil (said_of Schedule readings.schedule) (said_of Log readings.log)
-    (right_nil (said_of Script readings.script) (said_of Schedule readings.schedule ++ said_of Log readings.log) e) in
-    said_some Log size readings.log [] is (append-nil (said_of Log readings.log) ∙ last)
+log_said readings size is e = grind (arith, right_nil, said_some, append-nil)
 
 -- a text with a fault of a kind isn't of that kind
 said_is : {V : Type 0} (kind : TextKind) (is_text : V → Type 0) (size : V → TextSize) (is_first : ℕ → TextFaultKind → Type 0) (reading : Reading)
@@ -170,13 +164,7 @@ of_line input line kind h last = elim last.reached [
 ]
 
 has_line : (input : List ℕ) (line : ℕ) (kind : TextFaultKind) → IsLastFault input line kind → 0 < line
-has_line input line kind last = elim last.reached [
-  | inl s ↦ first_has_line MachineFault BeginsScript (λ s rest. 0 < length rest) (λ s. length s.operations + 1) OperationFault input line kind s
-  | inr rest ↦ elim rest [
-    | inl s ↦ first_has_line MachineFault BeginsSchedule (λ s rest. 0 < length rest) (λ s. length s.events + 1) EventFault input line kind s
-    | inr l ↦ first_has_line SizeFault BeginsFront GoesOn line_count LogLineFault input line kind l
-  ]
-]
+has_line input line kind last = grind (arith, first_has_line)
 
 told : (known : Option (List ℕ)) (failed : Bool) (bytes : List ℕ) (line : ℕ) (kind : TextFaultKind) → failed ≡ false → AreRead known bytes
     → IsLastFault bytes line kind → IsTold IsLastFault kind known failed line
@@ -211,15 +199,7 @@ checked_answers known failed bytes slice (Err fault) ok read same checked memory
 -- a refusal of the whole input
 pub refused_whole : (known : Option (List ℕ)) (failed : Bool) (fault : TextFault) (text : List ℕ) → IsCheckFault fault.kind known failed fault.line
     → Refuses fault text → IsRefusedAt known failed text
-refused_whole known failed fault text why (inl is) =
-    record {
-      line = fault.line;
-      kind = fault.kind;
-      note = [];
-      is_told = why.1;
-      written = is ∙ sym (append-nil (line_refusal fault.line fault.kind));
-      bare = λ e. refl;
-    }
+refused_whole known failed fault text why (inl is) = grind (arith, append-nil)
 refused_whole known failed fault text why (inr m) = absurd (omega (arith, why.0, m.0))
 
 -- ---- counting entries

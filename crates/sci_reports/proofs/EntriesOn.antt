@@ -1,9 +1,9 @@
 -- The entries of logs on a line of memory, with their lines of the text.
-use Rattle.std.proofs.Common.{◌≡◌, ◌<◌, ◌≤◌, ℕ, ◌+◌, List, [], ◌∷◌, ◌++◌, length, take, get_or, Bool, true, false, cond, append_assoc}
+use Rattle.std.proofs.Common.{◌≡◌, ◌<◌, ℕ, ◌+◌, List, [], ◌∷◌, ◌++◌, length, take, get_or, Bool, true, false, cond, append_assoc}
 use Rattle.std.proofs.Common.{◌∙◌, arith, ap, sym}
 use Rattle.std.specs.Prelude.{filter}
 use Rattle.std.specs.List.{enumerate_from, flat_map}
-use Rattle.std.proofs.lemmas.List.{append-nil, length-take-le, take_all, take_more, map-append}
+use Rattle.std.proofs.lemmas.List.{append-nil, length-take-le, take_more, map-append}
 use Rattle.std.proofs.lemmas.List.Concat.{flat_map-append}
 use Rattle.std.proofs.lemmas.List.Elements.{filter-append}
 use Rattle.sci_history.specs.declared.entry.Entry.{Entry}

@@ -1,5 +1,5 @@
 -- What a search for an order finds, as `order` writes it.
-use Rattle.std.proofs.Common.{◌≡◌, ◌↔◌, ℕ, List, Option, length, sym, ap, ◌∙◌, subst}
+use Rattle.std.proofs.Common.{◌≡◌, ◌↔◌, ℕ, List, Option, length, arith}
 use Rattle.std.specs.Prelude.{Result, Ok, Err, IfOk}
 use Rattle.sci_words.specs.declared.limits.TheConstants.{MAX_NODES}
 use Rattle.sci_words.specs.declared.stamped.Stamped.{Stamped}
@@ -56,23 +56,10 @@ pub serial_found : (request : OrderRequest) (before : ℕ) (logs sorted : List (
     → IsOrderVerdict sorted last verdict → IsOrdered verdict ↔ (Lawful sorted last × IsSequentiallyConsistent sorted last)
     → IsOrderText request before logs verdict text → (outcome ≡ Refused → ⊥) → (outcome ≡ Done) ↔ IsOrdered verdict
     → IsFound request before logs last text outcome
-serial_found request before logs sorted last verdict text outcome keeps is lawful still own sixteen found ordered written judged ends =
-    let same : sorted ≡ kept request.keeps logs = is ∙ ap (λ (k : NodeOrder). kept k logs) (sym keeps) in
-    let still_kept = subst (λ (ls : List (List Entry)). Lawful ls last) (sym is ∙ same) still in
-    record {
-      verdict = verdict;
-      found = kept_verdict request.keeps logs last verdict lawful still_kept (subst AreOwn same own)
-          (sym (ap (λ (ls : List (List Entry)). length ls) same) ∙ sixteen) (subst (λ (ls : List (List Entry)). IsOrderVerdict ls last verdict) same found);
-      written = written;
-      judged = judged;
-      ends = (
-        λ e. (lawful, subst (λ (ls : List (List Entry)). IsSequentiallyConsistent ls last) same (ordered.0 (ends.0 e)).1),
-        λ h. ends.1 (ordered.1 (
-          subst (λ (ls : List (List Entry)). Lawful ls last) (sym is) still,
-          subst (λ (ls : List (List Entry)). IsSequentiallyConsistent ls last) (sym same) h.1,
-        )),
-      );
-    }
+serial_found request before logs sorted last verdict text outcome keeps is lawful still own sixteen found ordered written judged ends = grind (
+  arith,
+  kept_verdict,
+)
 
 -- what is found of logs as they are
 logged_verdict : (logs : List (List Entry)) (last : List Stamped) (verdict : OrderVerdict) → IsOrderVerdict logs last verdict
@@ -86,15 +73,4 @@ pub logged_found : (request : OrderRequest) (before : ℕ) (logs : List (List En
     → IsOrderVerdict logs last verdict → IsOrdered verdict ↔ (Lawful logs last × IsSequentiallyConsistent logs last)
     → IsOrderText request before logs verdict text → (outcome ≡ Refused → ⊥) → (outcome ≡ Done) ↔ IsOrdered verdict
     → IsFound request before logs last text outcome
-logged_found request before logs last verdict text outcome keeps found ordered written judged ends =
-    let same : logs ≡ kept request.keeps logs = ap (λ (k : NodeOrder). kept k logs) (sym keeps) in
-    record {
-      verdict = verdict;
-      found = subst (λ (k : NodeOrder). IsVerdictOf k logs last verdict) (sym keeps) (logged_verdict logs last verdict found);
-      written = written;
-      judged = judged;
-      ends = (
-        λ e. let h = ordered.0 (ends.0 e) in (h.0, subst (λ (ls : List (List Entry)). IsSequentiallyConsistent ls last) same h.1),
-        λ h. ends.1 (ordered.1 (h.0, subst (λ (ls : List (List Entry)). IsSequentiallyConsistent ls last) (sym same) h.1)),
-      );
-    }
+logged_found request before logs last verdict text outcome keeps found ordered written judged ends = grind (arith, logged_verdict)
