@@ -1,5 +1,5 @@
 -- What a station may do with what it has received, and what it has to send.
-use Rattle.std.proofs.Common.{◌≡◌, ◌≢◌, ◌<◌, ℕ, false, List, [], ◌∷◌, ◌++◌, get_or, length, Option, Some, None, refl, sym, ap, subst, ◌∙◌}
+use Rattle.std.proofs.Common.{◌≡◌, ◌<◌, ℕ, false, List, ◌∷◌, get_or, length, Option, Some, None, refl, sym, ap, subst, ◌∙◌, arith}
 use Rattle.std.specs.Prelude.{IsSome}
 use Rattle.sci_words.specs.declared.event.AskKind.{AskKind}
 use Rattle.sci_words.specs.declared.event.Event.{Event}
@@ -9,8 +9,8 @@ use Rattle.sci_packets.proofs.Whole.{one_by_words}
 use Rattle.sci_cache.specs.Cache.{Letter, letter_of}
 use Rattle.sci_core.specs.declared.lane.LaneKind.{LaneKind}
 use Rattle.sci_core.specs.declared.lane.LaneKind.TheVariants.{Answers, Requests}
-use Rattle.sci_core.specs.Core.{Takes, run, side, stepping, lane_at, lane_of, lane_place, node_at}
-use Rattle.sci_core.specs.Node.{NodeOf, is_setback, node_accepting, node_asking, node_refusing, node_replying, node_serving, replied_by}
+use Rattle.sci_core.specs.Core.{Takes, side, lane_at, lane_of, lane_place, node_at}
+use Rattle.sci_core.specs.Node.{NodeOf, is_setback, node_accepting, node_asking, node_refusing, node_serving}
 use Rattle.sci_core.proofs.Tidy.Enabled.{accept_enabled, request_enabled}
 use Rattle.sci_policy.proofs.Targets.{asked_target, waiting_target}
 use Rattle.sci_lanes.specs.declared.cell.CellId.{CellId}
@@ -18,8 +18,7 @@ use Rattle.sci_lanes.specs.declared.view.Part.{Part}
 use Rattle.std.proofs.lemmas.List.{append_assoc}
 use Rattle.sci_core.specs.Core.{node_of}
 use Rattle.sci_core.proofs.Basics.Options.{found}
-use Rattle.sci_core.proofs.Step.Applied.{waits_replying}
-use Rattle.sci_lanes.specs.Shown.{inbound_at, me_of, AreOfOthers}
+use Rattle.sci_lanes.specs.Shown.{inbound_at, me_of}
 use Rattle.sci_station.proofs.Stills.{same_of_still}
 use Rattle.sci_lanes.specs.Telling.{IsShown}
 use Rattle.sci_lanes.specs.Ends.{EndOf, MayFree, lane_at_cell, nodes_in}
@@ -115,14 +114,4 @@ may_refuse part cell packet from n read k f is free no_setback =
 
 -- an event that was made after steps that are none
 pub made_later : (old mid : EndOf) (e : Event) (schedule : List Event) → IsStill old mid → IsMade mid.part e schedule → IsMade old.part e schedule
-made_later old mid e schedule still m =
-    let others = still.seen.others in
-    let same = (same_of_still old mid still).node in
-    let known : mid.part.schedule ++ m.others ≡ old.part.schedule ++ (others ++ m.others) =
-    ap (λ (es : List Event). es ++ m.others) still.seen.further ∙ append_assoc old.part.schedule others m.others in
-    record {
-      others = others ++ m.others;
-      further = m.further ∙ ap (λ (es : List Event). es ++ e ∷ []) known;
-      apart = all-append (λ v. node_of v ≢ me_of old.part) others m.others still.seen.apart (subst (λ (n : ℕ). AreOfOthers n m.others) same.me m.apart);
-      stepped = (λ i. stepping (run (sym same.sized i) (sym known i)) e) ∙ (m.stepped ∙ (λ i. Some (run (same.sized i) schedule)));
-    }
+made_later old mid e schedule still m = grind (arith, same_of_still, append_assoc, all-append)

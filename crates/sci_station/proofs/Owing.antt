@@ -13,9 +13,9 @@ use Rattle.sci_core.specs.declared.lane.LaneKind.TheVariants.{Answers, Requests}
 use Rattle.sci_core.specs.Core.{Changes, Core, Sends, Takes, changes, lane_at, lane_of, lane_place, node_at, node_of, performs, sends, sent_by, side, stepping}
 use Rattle.sci_core.specs.Core.{with_lane, with_node}
 use Rattle.sci_core.specs.Draining.{one_if}
-use Rattle.sci_core.specs.Node.{NodeOf, no_node, node_accepting, node_asking, node_issuing, node_performing, node_refusing, node_replying, node_serving}
+use Rattle.sci_core.specs.Node.{NodeOf, no_node, node_accepting, node_asking, node_issuing, node_performing, node_refusing, node_serving}
 use Rattle.sci_core.specs.Size.{Size}
-use Rattle.sci_core.specs.WellFormed.{IsAnswerLetter, IsInLane, IsWellFormed}
+use Rattle.sci_core.specs.WellFormed.{IsInLane, IsWellFormed}
 use Rattle.sci_core.proofs.Step.Applied.{front_holds}
 use Rattle.sci_core.proofs.Settling.Drains.{Took, made_by, some_node, took_from}
 use Rattle.sci_core.proofs.Basics.Options.{of_some}
@@ -30,7 +30,7 @@ use Rattle.sci_turn.specs.Posts.{OthersLead}
 use Rattle.sci_turn.proofs.Working.{other_node}
 use Rattle.sci_words.specs.declared.event.AskKind.{AskKind}
 use Rattle.sci_words.specs.declared.operation.Op.{Op}
-use Rattle.sci_core.proofs.Tidy.WaitingNodes.{Accepts, Answers as AnswersTo, AsksOnce, Replies, Stays, accept_accepts, ask_once, issue_stays, perform_stays}
+use Rattle.sci_core.proofs.Tidy.WaitingNodes.{Accepts, Answers as AnswersTo, AsksOnce, Stays, accept_accepts, ask_once, issue_stays, perform_stays}
 use Rattle.sci_core.proofs.Tidy.WaitingNodes.{refuse_answers, reply_replies, serve_answers}
 use Rattle.sci_station.specs.Posts.{answers_to, owed}
 
@@ -93,15 +93,7 @@ long_here core m place next lane below = ap (λ (l : List Letter). length l) (la
 -- numbers that are the same but at one place, where one is more by one
 more_there : (long short : ℕ → ℕ) (place other a b : ℕ) → long place ≡ short place + 1 → (other ≢ place → long other ≡ short other)
     → (a ≡ b → other ≡ place) → (other ≡ place → a ≡ b) → long other ≡ short other + one_if (a == b)
-more_there long short place other a b here stays same back = elim (cases_eq a b) [
-  | inl e ↦
-      let one : one_if (a == b) ≡ 1 = ap one_if (eq-eqb a b e) in
-      subst (λ (p : ℕ). long p ≡ short p + one_if (a == b)) (sym (same e)) (omega arith)
-  | inr apart ↦
-      let none : one_if (a == b) ≡ 0 = ap one_if (ne_eqb a b apart) in
-      let there = stays (λ e. apart (back e)) in
-      omega arith
-]
+more_there long short place other a b here stays same back = grind (arith, cases_eq, eq-eqb, ne_eqb)
 
 -- a lane becomes longer by a packet, or shorter, and no other lane does
 lane_grows : (core : Core) (m place other a b : ℕ) (next : NodeOf) (letter : Letter) → place < length core.lanes → (a ≡ b → other ≡ place)
@@ -126,14 +118,7 @@ lane_shrinks core m place other a b next letter rest below front =
 -- the node alone changes, and not the answer that waits at it
 owes_changed : (core : Core) (m n other : ℕ) (next : NodeOf) → m < length core.parts → next.waiting ≡ (node_at core m).waiting
     → owed (with_node core m next) n other ≡ owed core n other
-owes_changed core m n other next below same =
-    elim (cases_eq m other) [
-      | inl here ↦ subst (λ (k : ℕ). owed (with_node core m next) n k ≡ owed core n k) here
-          (ap (λ (w : Option Letter). length (lane_of core Requests n m) + (one_if (answers_to w n) + length (lane_of core Answers m n)))
-          (ap (λ (v : NodeOf). v.waiting) (node_here core m next below) ∙ same))
-      | inr apart ↦ ap (λ (v : NodeOf). length (lane_of core Requests n other) + (one_if (answers_to v.waiting n) + length (lane_of core Answers other n)))
-          (other_node core m other next apart)
-    ]
+owes_changed core m n other next below same = grind (arith, cases_eq, node_here, other_node)
 
 -- another node sends a request
 owes_asked_else : (core : Core) (m n other : ℕ) (next : NodeOf) (letter : Letter) → IsWellFormed core → m < core.size.nodes → n < core.size.nodes
@@ -318,15 +303,7 @@ asked core new m line kind well steps =
 
 replied_owes : (core new : Core) (m n other : ℕ) → IsWellFormed core → n < core.size.nodes → other < core.size.nodes → stepping core (event.Reply m) ≡ Some new
     → owed new n other ≡ owed core n other
-replied_owes core new m n other well ln lo steps =
-    let lt = some_node core new (event.Reply m) steps in
-    let made = made_by (λ (s : NodeOf × Letter). sent_by core m Answers s.0 s.1) (node_replying (node_at core m)) new
-    (sym (steps_by_sides core m lt).reply ∙ steps) in
-    let does = of_some (Replies core.size.nodes (node_at core m)) (node_replying (node_at core m)) made.0 made.1
-    (reply_replies core.size.nodes (node_at core m)) in
-    let answers = (of_some (λ (l : Letter). IsAnswerLetter core.size.nodes core.size.lines l × (l.source ≡ m)) (node_at core m).waiting made.0.1 does.waited
-    (well.each_part m lt).answer).0 in
-    ap (λ (c : Core). owed c n other) made.2 ∙ owes_replied core m n other made.0.0 made.0.1 well lt ln lo answers.letter_ok.target does.waited does.gone
+replied_owes core new m n other well ln lo steps = grind (arith, some_node, made_by, steps_by_sides, of_some, reply_replies, owes_replied)
 
 -- an answer was accepted
 record Accepted (core new : Core) (from m : ℕ) : Type 0 where
@@ -379,10 +356,7 @@ others_owe n other old (e ∷ others) new well ln lo lead =
 sends_what : (k : LaneKind) (o : Option (NodeOf × Letter)) (kind : LaneKind) (next : NodeOf) (letter : Letter) → sends k o ≡ Sends kind next letter
     → (k ≡ kind) × (o ≡ Some (next, letter))
 sends_what k None kind next letter e = cc
-sends_what k (Some x) kind next letter e = (cc, sent_by_same x next letter (let node : x.0 ≡ next = cc in node) (let packet : x.1 ≡ letter = cc in packet))
-  where
-    sent_by_same : (x : NodeOf × Letter) (next : NodeOf) (letter : Letter) → x.0 ≡ next → x.1 ≡ letter → Some x ≡ Some (next, letter)
-    sent_by_same x next letter node packet = λ i. Some (node i, packet i)
+sends_what k (Some x) kind next letter e = grind arith
 
 -- it sends a packet: a request adds one at its target
 pub sent_owes : (core new : Core) (e : Event) (other : ℕ) (kind : LaneKind) (next : NodeOf) (letter : Letter) → IsWellFormed core → other < core.size.nodes
@@ -400,10 +374,7 @@ sent_owes core new (event.Ask m line ask) other kind next letter well lo is step
   where
     second_same : (o : Option (NodeOf × Letter)) (p q : NodeOf × Letter) → o ≡ Some p → o ≡ Some q → p.1 ≡ q.1
     second_same o p q one two = let both : Some p ≡ Some q = sym one ∙ two in cc
-sent_owes core new (event.Reply m) other kind next letter well lo is steps =
-    let what = sends_what Answers (node_replying (node_at core m)) kind next letter is in
-    let none = replied_owes core new m m other well (some_node core new (event.Reply m) steps) lo steps in
-    subst (λ (k : LaneKind). owed new m other ≡ owed core m other + adds_one k letter.target other) what.0 (omega arith)
+sent_owes core new (event.Reply m) other kind next letter well lo is steps = grind (arith, sends_what, replied_owes, some_node)
 sent_owes core new _ other kind next letter well lo is steps = cc
 
 -- it takes a packet: an answer takes one from its sender

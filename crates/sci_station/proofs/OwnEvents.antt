@@ -1,9 +1,8 @@
 -- The events of one node in a schedule that goes on.
-use Rattle.std.proofs.Common.{◌≡◌, ℕ, Bool, eqb, List, [], ◌∷◌, ◌++◌, refl, ap, ◌∙◌}
+use Rattle.std.proofs.Common.{◌≡◌, ℕ, Bool, List, [], ◌∷◌, ◌++◌, refl, ap, ◌∙◌, arith}
 use Rattle.std.specs.Prelude.{cond}
-use Rattle.std.proofs.lemmas.Bool.{eq-eqb, ne_eqb}
+use Rattle.std.proofs.lemmas.Bool.{ne_eqb}
 use Rattle.std.proofs.lemmas.List.{append-nil}
-use Rattle.std.proofs.lemmas.List.Elements.{filter-append}
 use Rattle.sci_words.specs.declared.event.Event.{Event}
 use Rattle.sci_core.specs.Core.{node_of}
 use Rattle.sci_lanes.specs.declared.view.Part.{Part}
@@ -25,7 +24,4 @@ own_known part schedule seen = ap (own_of (me_of part)) seen.further ∙ own_see
 
 pub own_added : (part : Part) (e : Event) (schedule : List Event) → node_of e ≡ me_of part → IsMade part e schedule
     → own_of (me_of part) schedule ≡ own_of (me_of part) part.schedule ++ e ∷ []
-own_added part e schedule own made =
-    let n = me_of part in
-    ap (own_of n) made.further ∙ (own_join n (part.schedule ++ made.others) (e ∷ [])
-    ∙ (λ i. own_seen n part.schedule made.others made.apart i ++ own_one n e own i))
+own_added part e schedule own made = grind (arith, own_join, own_seen, own_one)

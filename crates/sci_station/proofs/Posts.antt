@@ -1,5 +1,5 @@
 -- An end of the lanes as its node's post.
-use Rattle.std.proofs.Common.{◌≡◌, ◌<◌, ℕ, List, [], ◌∷◌, ◌++◌, Option, Some, None, refl, sym, ap, subst, ◌∙◌}
+use Rattle.std.proofs.Common.{◌≡◌, ℕ, List, [], ◌∷◌, ◌++◌, Option, Some, None, refl, sym, ap, subst, ◌∙◌, arith}
 use Rattle.std.specs.Prelude.{IsSome, unwrap_or}
 use Rattle.std.proofs.lemmas.List.{append-nil, append_assoc}
 use Rattle.sci_words.specs.declared.event.Event.{Event}
@@ -7,7 +7,6 @@ use Rattle.sci_cache.specs.Cache.{Letter}
 use Rattle.sci_core.specs.WellFormed.{IsWellFormed}
 use Rattle.sci_core.specs.Core.{Core, Takes, lane_of, node_at, run, run_from, side, step, stepping}
 use Rattle.sci_core.specs.Node.{NodeOf}
-use Rattle.sci_core.specs.Reached.{IsReached}
 use Rattle.sci_core.specs.Size.{Size}
 use Rattle.sci_lanes.specs.declared.view.Part.{Part}
 use Rattle.sci_lanes.specs.Shown.{AreEnabled, AreOfOthers, IsSeen, me_of}
@@ -66,17 +65,10 @@ node_there part s = ap (λ (c : Core). node_at c (me_of part)) s.leads ∙ s.her
 -- what holds of a post's node before and after holds of the end's
 pub turned_so : (R : NodeOf → NodeOf → Type 0) (inside now : StationOf) (before : StationPostOf) (new : EndOf) → inside ≡ now → before.end ≡ inside.end
     → IsShown before.end.part → IsShown new.part → R (node_in (post_of before.end)) (node_in (post_of new)) → R now.end.part.node new.part.node
-turned_so R inside now before new view same s t is =
-    subst (λ (x : StationOf). R x.end.part.node new.part.node) view
-    (subst (λ (e : EndOf). R e.part.node new.part.node) same
-    (subst (λ (m : NodeOf). R m new.part.node) (node_there before.end.part s)
-    (subst (λ (m : NodeOf). R (node_in (post_of before.end)) m) (node_there new.part t) is)))
+turned_so R inside now before new view same s t is = grind (arith, node_there)
 
 pub is_post : (end : EndOf) → IsShown end.part → IsPost (post_of end)
-is_post end s = record {
-  reached = subst IsReached (sym s.leads) s.reached;
-  some = subst (λ (c : Core). me_of end.part < c.size.nodes) (sym s.leads) s.some_node;
-}
+is_post end s = grind arith
 
 pub still_post : (old new : EndOf) → IsShown old.part → IsShown new.part → new.part.node ≡ old.part.node → IsSeen old.part new.part.schedule
     → IsStill (post_of old) (post_of new)

@@ -13,7 +13,7 @@ use Rattle.sci_packets.specs.declared.packet.Packet.{Packet}
 use Rattle.sci_packets.specs.Spelling.{SpellsInWords}
 use Rattle.sci_core.specs.declared.lane.LaneKind.{LaneKind}
 use Rattle.sci_core.specs.declared.lane.LaneKind.TheVariants.{Answers, Requests}
-use Rattle.sci_core.specs.Core.{Changes, Core, Sends, Takes, changes, lane_at, lane_of, lane_place, node_at, node_of, opening, performs, run, side, stepping}
+use Rattle.sci_core.specs.Core.{Changes, Core, Sends, Takes, changes, lane_at, lane_of, lane_place, node_at, node_of, performs, side, stepping}
 use Rattle.sci_core.specs.Draining.{one_if}
 use Rattle.sci_core.specs.Node.{NodeOf}
 use Rattle.sci_core.specs.Size.{Size}
@@ -29,7 +29,7 @@ use Rattle.sci_lanes.specs.Ends.{EndOf, HasIssued, HasPerformed, lane_at_cell, n
 use Rattle.sci_lanes.proofs.Seats.{me_below, shown_nodes}
 use Rattle.sci_lanes.proofs.Opening.{lane_opened, node_opened}
 use Rattle.sci_lanes.specs.Shown.{inbound_at, me_of}
-use Rattle.sci_lanes.specs.Telling.{IsSameNode, IsShown, size_in, state_of}
+use Rattle.sci_lanes.specs.Telling.{IsSameNode, IsShown, state_of}
 use Rattle.sci_turn.specs.Posts.{IsMade, IsPost, IsStill as IsStillPost, OthersLead, PostOf, nodes_in as nodes_at}
 use Rattle.sci_station.specs.declared.receiving.Seen.{Seen}
 use Rattle.sci_station.specs.Ends.{HasRead, HasSeen, IsStill, LeavesOthers}
@@ -115,10 +115,7 @@ AreApart kept part lane = (kind : LaneKind) (node : ℕ) → is_kept kept kind n
 -- a lane to the node, whose packet isn't kept
 pub apart_looked : (kept : KeptOf) (part : Part) (kind : LaneKind) (from : ℕ) → IsShown part → from < nodes_in part → is_kept kept kind from ≡ false
     → AreApart kept part (lane_place (nodes_in part) kind from (me_of part))
-apart_looked kept part kind from s lt none k node is other below e =
-    let one = same_lane (nodes_in part) k kind node from (me_of part) below lt (me_below part s) e in
-    let clash : true ≡ false = sym is ∙ ((λ i. is_kept kept (one.0 i) (one.1 i)) ∙ none) in
-    cc
+apart_looked kept part kind from s lt none k node is other below e = grind (arith, same_lane, me_below)
 
 -- a lane from the node
 pub apart_sent : (kept : KeptOf) (part : Part) (kind : LaneKind) (to : ℕ) → IsShown part → to < nodes_in part
@@ -182,11 +179,7 @@ remembers_answer end unanswered kept answer r = record { shown = r.shown; owing 
 
 set_either : (marks : List Bool) (place : ℕ) (mark : Bool)
     → (get_or (set marks place mark) place false ≡ mark) ⊎ (get_or (set marks place mark) place false ≡ false)
-set_either marks place mark =
-    elim (cases_lt place (length marks)) [
-      | inl below ↦ inl (get_or-set_same marks place mark false below)
-      | inr past ↦ inr (ap (λ (ms : List Bool). get_or ms place false) (set_past marks place mark past) ∙ get_or_past marks place false past)
-    ]
+set_either marks place mark = grind (arith, cases_lt, get_or-set_same, set_past, get_or_past)
 
 either_is : (a b mark : Bool) → (a ≡ mark) ⊎ (a ≡ false) → a ≡ true → mark ≡ true
 either_is a b mark (inl same) is = sym same ∙ is
@@ -391,16 +384,7 @@ few_owed end node s lt =
 
 pub nothing_owed : (end : EndOf) (node : ℕ) → IsShown end.part → end.part.schedule ≡ [] → node < nodes_in end.part
     → owed (state_of end.part) (me_of end.part) node ≡ 0
-nothing_owed end node s none lt =
-    let size = size_in end.part in
-    let me = me_of end.part in
-    let is : state_of end.part ≡ opening size = ap (run size) none in
-    let requests : length (lane_of (opening size) Requests me node) ≡ 0 = ap (λ (l : List Letter). length l) (lane_opened size _) in
-    let answers : length (lane_of (opening size) Answers node me) ≡ 0 = ap (λ (l : List Letter). length l) (lane_opened size _) in
-    let waits : one_if (answers_to (node_at (opening size) node).waiting me) ≡ 0 =
-    ap (λ (v : NodeOf). one_if (answers_to v.waiting me)) (node_opened size node lt) in
-    let all : owed (opening size) me node ≡ 0 = omega arith in
-    ap (λ (c : Core). owed c me node) is ∙ all
+nothing_owed end node s none lt = grind (arith, lane_opened, node_opened)
 
 -- ---- the calls of a post
 

@@ -56,17 +56,9 @@ Only words result = (p : Packet) (k : ℕ) → k ≤ length words → SpellsInWo
 -- they are decoded
 pub never_refused : (q : Packet) (count : ℕ) (words found : List ℕ) (e : PacketFault) (result : Result (Packet × ℕ) PacketFault) → SpellsInWords q found
     → found ≡ take count words → count ≤ length words → Only words result → result ≡ Err e → ⊥
-never_refused q count words found e result spelled is within only fails =
-    never (only q count within (subst (SpellsInWords q) is spelled)) fails
-  where
-    never : {r : Result (Packet × ℕ) PacketFault} → r ≡ Ok (q, count) → r ≡ Err e → ⊥
-    never h k = cc
+never_refused q count words found e result spelled is within only fails = grind arith
 
 -- as that packet
 pub only_that : (q packet : Packet) (count k : ℕ) (words found : List ℕ) (result : Result (Packet × ℕ) PacketFault) → SpellsInWords q found
     → found ≡ take count words → count ≤ length words → Only words result → result ≡ Ok (packet, k) → SpellsInWords packet found
-only_that q packet count k words found result spelled is within only read =
-    subst (λ (p : Packet). SpellsInWords p found) (first_of (sym (only q count within (subst (SpellsInWords q) is spelled)) ∙ read)) spelled
-  where
-    first_of : ◌≡◌ {A = Result (Packet × ℕ) PacketFault} (Ok (q, count)) (Ok (packet, k)) → q ≡ packet
-    first_of e = let both : ◌≡◌ {A = Packet × ℕ} (q, count) (packet, k) = cc in ap (λ (x : Packet × ℕ). x.0) both
+only_that q packet count k words found result spelled is within only read = grind arith

@@ -1,5 +1,5 @@
 -- Ends that have made no event.
-use Rattle.std.proofs.Common.{◌≡◌, ◌≢◌, ◌++◌, List, get_or, set, ℕ, ◌%◌, Bool, true, false, [], refl, sym, ap, subst, ◌∙◌, arith}
+use Rattle.std.proofs.Common.{◌≡◌, List, get_or, set, ℕ, Bool, true, false, refl, sym, ap, subst, ◌∙◌, arith}
 use Rattle.std.specs.Prelude.{if◌then◌else◌}
 use Rattle.sci_core.proofs.Basics.Lists.{at_place_set}
 use Rattle.sci_lanes.specs.declared.cell.CellId.{CellId}
@@ -8,10 +8,8 @@ use Rattle.sci_lanes.specs.declared.view.Outbound.{Outbound}
 use Rattle.sci_lanes.specs.declared.view.Part.{Part}
 use Rattle.std.proofs.lemmas.List.{append_assoc, get_or-set_other}
 use Rattle.sci_words.specs.declared.event.Event.{Event}
-use Rattle.sci_core.specs.Core.{node_of}
-use Rattle.sci_lanes.specs.Shown.{inbound_at, me_of, no_inbound, no_outbound, outbound_at, AreOfOthers, IsSeen}
+use Rattle.sci_lanes.specs.Shown.{inbound_at, me_of, no_inbound, no_outbound, outbound_at, IsSeen}
 use Rattle.sci_lanes.specs.Knowing.{has_sent_more, filled_out, is_receiving, is_sending, looked_in, looked_out, read_in, with_lane_known}
-use Rattle.sci_lanes.specs.Telling.{size_in}
 use Rattle.sci_lanes.specs.Ends.{EndOf, IsNextToSend, IsNextToTake, filled_at, informed_at, lane_at_cell, looked_at, read_at, with_part}
 use Rattle.sci_lanes.specs.Cells.{lane_number}
 use Rattle.sci_core.specs.Node.{NodeOf}
@@ -22,36 +20,17 @@ pub same_itself : (end : EndOf) → IsSameEnd end end
 same_itself end = record { table = refl; node = record { me = refl; sized = refl } }
 
 pub same_then : (old mid new : EndOf) → IsSameEnd old mid → IsSameEnd mid new → IsSameEnd old new
-same_then old mid new one_ two = record {
-  table = two.table ∙ one_.table;
-  node = record { me = two.node.me ∙ one_.node.me; sized = two.node.sized ∙ one_.node.sized };
-}
+same_then old mid new one_ two = grind arith
 
 -- what was seen, and what was seen then
 pub seen_then : (p q : Part) (schedule : List Event) → me_of q ≡ me_of p → IsSeen p q.schedule → IsSeen q schedule → IsSeen p schedule
-seen_then p q schedule me one two = record {
-  others = one.others ++ two.others;
-  further = two.further ∙ (ap (λ (es : List Event). es ++ two.others) one.further ∙ append_assoc p.schedule one.others two.others);
-  apart = all-append (λ e. node_of e ≢ me_of p) one.others two.others one.apart (subst (λ (n : ℕ). AreOfOthers n two.others) me two.apart);
-}
+seen_then p q schedule me one two = grind (arith, append_assoc, all-append)
 
 pub still_then : (old mid new : EndOf) → IsStill old mid → IsStill mid new → IsStill old new
-still_then old mid new one two = record {
-  table = two.table ∙ one.table;
-  node = two.node ∙ one.node;
-  seen = seen_then old.part mid.part new.part.schedule (ap (λ (n : NodeOf). n.cache.me) one.node) one.seen two.seen;
-  sent = λ lane. two.sent lane ∙ one.sent lane;
-  taken = λ lane. two.taken lane ∙ one.taken lane;
-}
+still_then old mid new one two = grind (arith, seen_then)
 
 pub same_of_still : (old new : EndOf) → IsStill old new → IsSameEnd old new
-same_of_still old new still = record {
-  table = still.table;
-  node = record { me = ap (λ (n : NodeOf). n.cache.me) still.node; sized = sizes old.part.node new.part.node old.part new.part still.node };
-}
-  where
-    sizes : (a b : NodeOf) (p q : Part) → q.node ≡ p.node → size_in q ≡ size_in p
-    sizes a b p q same = λ i. size_in (record { node = same i; schedule = []; outbound = []; inbound = [] })
+same_of_still old new still = grind arith
 
 -- ---- the next cells stay
 
@@ -109,12 +88,7 @@ look_still end new cell word seen is =
 -- ---- one cell is the next
 
 pub next_same : (part : Part) (a b : CellId) → IsNextToTake part a → IsNextToTake part b → a.kind ≡ b.kind → a.sender ≡ b.sender → a ≡ b
-next_same part a b one two kind sender =
-    let receiver : a.receiver ≡ b.receiver = one.mine ∙ sym two.mine in
-    let lane : lane_at_cell part a ≡ lane_at_cell part b =
-    (λ i. lane_at_cell part (record { kind = kind i; sender = sender i; receiver = receiver i; number = 0 })) in
-    let number : a.number ≡ b.number = one.next ∙ (ap (λ (l : ℕ). (inbound_at part l).taken % 4) lane ∙ sym two.next) in
-    λ i. record { kind = kind i; sender = sender i; receiver = receiver i; number = number i }
+next_same part a b one two kind sender = grind arith
 
 -- ---- other lanes
 
