@@ -132,14 +132,7 @@ same_before : (a b : DriverOf) → b.was_done ≡ a.was_done → times_before a 
 same_before a b same = ap (λ (done : Bool). if done then 1 else 0) (sym same)
 
 pub no_calls : (a b : DriverOf) (x y : NodeOf) → b.next ≡ a.next → b.was_done ≡ a.was_done → y.log ≡ x.log → AreCalls a b x y []
-no_calls a b x y next done log = record {
-  told_all = log ∙ sym (append-nil x.log);
-  submitted = λ index low high. absurd (omega arith);
-  allowed = λ front back entry e. absurd (none (Answered entry) front back e);
-  once = omega (arith, same_before a b done);
-  last = λ front back e. absurd (none Done front back e);
-  quiet = λ was. refl;
-}
+no_calls a b x y next done log = grind (arith, append-nil, none, same_before)
 
 -- a question or a rest
 pub one_call : (a b : DriverOf) (x y : NodeOf) (call : Call) → entry_told call ≡ None → is_done call ≡ false → b.next ≡ a.next → b.was_done ≡ a.was_done
@@ -166,34 +159,12 @@ one_call a b x y call silent other next done log = record {
 
 -- an operation is submitted, as it was allowed
 pub submit_call : (a b : DriverOf) (x y : NodeOf) → b.next ≡ a.next + 1 → b.was_done ≡ a.was_done → y.log ≡ x.log → AreCalls a b x y (MayIssue a.next true ∷ [])
-submit_call a b x y next done log = record {
-  told_all = log ∙ sym (append-nil x.log);
-  submitted = λ index low high. (let here : index ≡ a.next = omega arith in
-      subst (λ (k : ℕ). Contains (MayIssue a.next true ∷ []) (MayIssue k true)) (sym here) (0, omega arith, refl));
-  allowed = λ front back entry e. absurd (not_asked entry ((alone (MayIssue a.next true) (Answered entry) front back e).1));
-  once = omega (arith, same_before a b done);
-  last = λ front back e. ap told ((alone (MayIssue a.next true) Done front back e).2);
-  quiet = λ was. refl;
-}
-  where
-    not_asked : (entry : Entry) → MayIssue a.next true ≡ Answered entry → ⊥
-    not_asked entry e = cc
+submit_call a b x y next done log = grind (arith, append-nil, alone, same_before)
 
 -- an operation is performed
 pub answer_call : (a b : DriverOf) (x y : NodeOf) (entry : Entry) → b.next ≡ a.next → b.was_done ≡ a.was_done → (a.was_done ≡ true → ⊥) → entry.serial < a.next
     → y.log ≡ x.log ++ entry ∷ [] → AreCalls a b x y (Answered entry ∷ [])
-answer_call a b x y entry next done undone low log = record {
-  told_all = log;
-  submitted = λ index le lt. absurd (omega arith);
-  allowed = λ front back other e. (let same : entry ≡ other = same_entry other ((alone (Answered entry) (Answered other) front back e).1) in
-      inl (subst (λ (o : Entry). o.serial < a.next) same low));
-  once = omega (arith, same_before a b done);
-  last = λ front back e. ap told ((alone (Answered entry) Done front back e).2);
-  quiet = λ was. absurd (undone was);
-}
-  where
-    same_entry : (other : Entry) → Answered entry ≡ Answered other → entry ≡ other
-    same_entry other e = cc
+answer_call a b x y entry next done undone low log = grind (arith, alone, same_before)
 
 -- the gate is told that the whole script is answered
 pub done_call : (a b : DriverOf) (x y : NodeOf) → b.next ≡ a.next → a.was_done ≡ false → b.was_done ≡ true → y.log ≡ x.log → AreCalls a b x y (Done ∷ [])
@@ -232,21 +203,8 @@ module _ {G : Type 0} (hears : G → List Call → G → Type 0) (hears_nothing 
 
 pub calls_of : (script : List Op) (issuing : Issuing) (new : DriverOf) (x y : NodeOf) (calls : List Call) → x.log ≡ [] → IsDriven new y
     → AreCalls (opening_driver script issuing) new x y calls → AreCallsOf y calls
-calls_of script issuing new x y calls empty driven are = record {
-  told_all = are.told_all ∙ ap (λ (l : List Entry). l ++ told calls) empty;
-  submitted = λ index lt. are.submitted index (omega arith) (subst (λ (k : ℕ). index < k) driven.issued lt);
-  allowed = are.allowed;
-  once = few new.was_done (times_done calls) are.once;
-  last = are.last;
-}
-  where
-    few : (done : Bool) (k : ℕ) → k + 0 ≡ (if done then 1 else 0) → k ≤ 1
-    few true k e = omega arith
-    few false k e = omega arith
+calls_of script issuing new x y calls empty driven are = grind arith
 
 pub told_once : (script : List Op) (issuing : Issuing) (new : DriverOf) (x y : NodeOf) (calls : List Call) → new.was_done ≡ true
     → AreCalls (opening_driver script issuing) new x y calls → times_done calls ≡ 1
-told_once script issuing new x y calls done are =
-    let one : times_before new ≡ 1 = ap (λ (b : Bool). if b then 1 else 0) done in
-    let sum : times_done calls + 0 ≡ times_before new = are.once in
-    omega arith
+told_once script issuing new x y calls done are = grind arith

@@ -47,15 +47,7 @@ times_other serial log e other =
 -- ---- the first moment
 
 pub opens : (script : List Op) (issuing : Issuing) (node : NodeOf) → HasSubmittedNothing node → IsDriven (opening_driver script issuing) node
-opens script issuing node none = record {
-  issued = none.issued;
-  within = omega arith;
-  named = rw none.log (All-nil (IsNamedBy script));
-  submitted = λ serial lt. absurd (omega arith);
-  later = λ serial le. ap (times_answered serial) none.log;
-  pending = λ line p is. absurd (never_both (pending_on node line) p (none.pending line) is);
-  counted = ap (λ (l : List Entry). length l + 0) (sym none.log);
-}
+opens script issuing node none = grind (arith, never_both)
 
 -- ---- an operation is submitted
 

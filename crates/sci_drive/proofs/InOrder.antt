@@ -24,15 +24,7 @@ use Rattle.sci_drive.proofs.Drives.{never_both}
 -- ---- the first moment
 
 pub opens_in_order : (script : List Op) (node : NodeOf) → HasSubmittedNothing node → IsInOrder (opening_driver script InOrder) node
-opens_in_order script node none = record {
-  issues = refl;
-  one = omega arith;
-  ordered = rw none.log (λ i j d lt within. absurd (omega arith));
-  before = rw none.log (All-nil (λ (e : Entry). e.serial < 0));
-  behind = λ line p is. absurd (never_both (pending_on node line) p (none.pending line) is);
-  next_one = λ line p is. absurd (never_both (pending_on node line) p (none.pending line) is);
-  front = rw none.log refl;
-}
+opens_in_order script node none = grind (arith, never_both)
 
 -- ---- an operation is performed
 
@@ -51,10 +43,7 @@ front_more script log e next named front =
 -- in a list of one, what stands at a place is all that it contains
 only_one : (items : List ℕ) (place line other : ℕ) → length items ≤ 1 → place < length items → slice_index_or items place line ≡ line → Contains items other
     → other ≡ line
-only_one items place line other one within here there =
-    let lt = there.1 in
-    let same : there.0 ≡ place = omega arith in
-    sym there.2 ∙ (ap (λ (k : ℕ). slice_index_or items k other) same ∙ (get_or_default items place other line within ∙ here))
+only_one items place line other one within here there = grind (arith, get_or_default)
 
 module _ (driver : DriverOf) (old new : NodeOf) (place line : ℕ) (entry : Entry) (d : IsDriven driver old) (i : IsLogged old new line entry)
     (within : place < length driver.pending) (here : slice_index_or driver.pending place line ≡ line) (o : IsInOrder driver old) where
@@ -83,17 +72,7 @@ module _ (driver : DriverOf) (old new : NodeOf) (place line : ℕ) (entry : Entr
 -- ---- a turn
 
 pub turns_in_order : (driver : DriverOf) (old new : NodeOf) → HasSameWork old new → IsInOrder driver old → IsInOrder driver new
-turns_in_order driver old new work o =
-    let on : (line : ℕ) → pending_on new line ≡ pending_on old line = λ line. ap (λ (l : List (Option Pending)). slice_index_or l line None) work.pending in
-    record {
-      issues = o.issues;
-      one = o.one;
-      ordered = subst IsInProgramOrder (sym work.log) o.ordered;
-      before = subst (All (λ e. e.serial < driver.next)) (sym work.log) o.before;
-      behind = λ line p is. subst (All (λ e. e.serial < p.serial)) (sym work.log) (o.behind line p (sym (on line) ∙ is));
-      next_one = λ line p is. o.next_one line p (sym (on line) ∙ is) ∙ ap (λ (l : List Entry). length l) (sym work.log);
-      front = subst (IsFrontOf driver.script) (sym work.log) o.front;
-    }
+turns_in_order driver old new work o = grind arith
 
 -- ---- the gate is told
 

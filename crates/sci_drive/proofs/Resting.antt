@@ -19,11 +19,7 @@ told_both : (first second : List Call) → length (told (first ++ second)) ≡ l
 told_both first second = ap (λ (l : List Entry). length l) (filter_map-append entry_told first second) ∙ length-append (told first) (told second)
 
 pub row_is_short : (round : Round) (restless : ℕ) → restless ≤ 15 → in_a_row round restless ≤ 16
-row_is_short round restless few = short round.answered
-  where
-    short : (answered : Bool) → (if answered then 0 else restless + 1) ≤ 16
-    short true = omega arith
-    short false = omega arith
+row_is_short round restless few = grind arith
 
 -- A gate has heard these calls in so many turns, of which the last ones in a row had neither an entry nor a rest.
 pub record HasGone {G : Type 0} (hears : G → List Call → G → Type 0) (gate later : G) (old new : DriverOf) (before after : NodeOf) (turns restless : ℕ) : Type
