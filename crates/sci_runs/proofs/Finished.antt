@@ -44,11 +44,7 @@ front_by (x ∷ xs) (y ∷ ys) le at =
 known_named : (driver : DriverOf) (node : NodeOf) (serial : ℕ) (op : Op) → IsDriven driver node → IsKnown node serial op
     → slice_get driver.script serial ≡ Some op
 known_named driver node serial op d (inl pends) = (d.pending op.line (record { serial = serial; op = op }) pends).named
-known_named driver node serial op d (inr logged) =
-    let entry = logged.0 in
-    let there = logged.1 in
-    let named : slice_get driver.script entry.serial ≡ Some entry.op = subst (IsNamedBy driver.script) there.2 (d.named there.0 entry there.1) in
-    subst (λ (k : ℕ). slice_get driver.script k ≡ Some op) logged.2 (named ∙ ap Some logged.3)
+known_named driver node serial op d (inr logged) = grind arith
 
 -- they are the first ones of the driver's script
 issued_first : (ops : List Op) (driver : DriverOf) (node : NodeOf) → HasIssued ops node → IsDriven driver node → ops ≡ take (length ops) driver.script

@@ -33,25 +33,11 @@ use Rattle.sci_runs.specs.Recorded.{HasIssued, IsKnown, issued_at, issues_at}
 -- ---- an Issue
 
 known_issued : (old new : NodeOf) (op : Op) (serial : ℕ) (o : Op) → IsIssued old new op → IsKnown old serial o → IsKnown new serial o
-known_issued old new op serial o i (inl pends) = elim (cases_eq o.line op.line) [
-  | inl same ↦ let waits : Pending = record { serial = serial; op = o } in let free : pending_on old o.line ≡ None = ap (pending_on old) same ∙ i.free in
-      let clash : None ≡ Some waits = sym free ∙ pends in cc
-  | inr other ↦ inl (i.others o.line other ∙ pends)
-]
+known_issued old new op serial o i (inl pends) = grind (arith, cases_eq)
 known_issued old new op serial o i (inr logged) = inr (logged.0, subst (λ (log : List Entry). Contains log logged.0) (sym i.log) logged.1, logged.2, logged.3)
 
 pub issued_more : (ops : List Op) (old new : NodeOf) (op : Op) → IsIssued old new op → HasIssued ops old → HasIssued (ops ++ op ∷ []) new
-issued_more ops old new op i has = record {
-  counted = let long = length_push ops op in let before = has.counted in let now = i.issued in omega (arith, long, before, now);
-  each = λ serial o at. elim (at_end ops op serial o at) [
-    | inl before ↦ known_issued old new op serial o i (has.each serial o before.1)
-    | inr last ↦
-        let number : old.issued ≡ serial = sym has.counted ∙ sym last.0 in
-        let pends : pending_on new op.line ≡ Some (record { serial = serial; op = op }) =
-        subst (λ (n : ℕ). pending_on new op.line ≡ Some (record { serial = n; op = op })) number i.pending in
-        inl (subst (λ (p : Op). pending_on new p.line ≡ Some (record { serial = serial; op = p })) last.1 pends)
-  ];
-}
+issued_more ops old new op i has = grind (arith, length_push, at_end, known_issued)
 
 -- ---- a Perform
 
@@ -85,13 +71,7 @@ issued_logged ops old new line entry i has = record {
 -- ---- any other event
 
 pub issued_same : (ops : List Op) (old new : NodeOf) → SameWork old new → HasIssued ops old → HasIssued ops new
-issued_same ops old new same has = record {
-  counted = has.counted ∙ sym same.issued;
-  each = λ serial o at. elim (has.each serial o at) [
-    | inl pends ↦ inl (ap (λ (ps : List (Option Pending)). slice_index_or ps o.line None) same.pending ∙ pends)
-    | inr logged ↦ inr (logged.0, subst (λ (log : List Entry). Contains log logged.0) (sym same.log) logged.1, logged.2, logged.3)
-  ];
-}
+issued_same ops old new same has = grind arith
 
 same_itself : (node : NodeOf) → SameWork node node
 same_itself node = record { pending = refl; issued = refl; log = refl }

@@ -130,11 +130,7 @@ none_issued : (node : NodeOf) → node.issued ≡ 0 → HasIssued [] node
 none_issued node zero_ = record { counted = sym zero_; each = λ serial op at. cc }
 
 pub led_opening : (size : Size) → HasLed [] (opening size)
-led_opening size = record {
-  leads = opening_raised MAX_OPERATIONS size;
-  enabled = tt;
-  issued = λ n lt. none_issued (node_at (opening size) n) (ap (λ (node : NodeOf). node.issued) (node_opened size n lt));
-}
+led_opening size = grind (arith, opening_raised, none_issued, node_opened)
 
 -- ---- a recorder
 

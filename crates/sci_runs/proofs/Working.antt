@@ -39,12 +39,7 @@ opened_driver s issuing (v ∷ all) drivers n d long each lt is =
 
 opened_work : (s : ScriptValue) (issuing : Issuing) (n : ℕ) (node : NodeOf) → HasSubmittedNothing node
     → IsAtWork s issuing n (opening_driver (operations_of n s.operations) issuing) node
-opened_work s issuing n node fresh = record {
-  script_is = refl;
-  driven = opens (operations_of n s.operations) issuing node fresh;
-  ordered = λ is. subst (λ (i : Issuing). IsInOrder (opening_driver (operations_of n s.operations) i) node) (sym is)
-      (opens_in_order (operations_of n s.operations) node fresh);
-}
+opened_work s issuing n node fresh = grind (arith, opens, opens_in_order)
 
 pub all_opened : {Z : Type 0} (s : ScriptValue) (issuing : Issuing) (recorder : RecorderOf) (extent : Extent) (limit : ℕ) (all : List (Vec Op Z))
     (drivers : List DriverOf) (policies : List PolicyOf) → recorder.core ≡ opening (size_of extent limit)
@@ -102,10 +97,7 @@ begins f g s issuing core extent limit all players opens nodes lines slots long 
 -- what stands at a place of a list where one element was replaced
 placed_here : {A B : Type 0} (h : A → B) (players : List A) (k n : ℕ) (new : A) (d : B) → k ≡ n → n < length players
     → slice_index_or (map h (set players k new)) n d ≡ h new
-placed_here h players k n new d same lt =
-    let long = length-map players h in
-    ap (λ (xs : List _). slice_index_or xs n d) (map-set h players k new)
-    ∙ (ap (λ (i : ℕ). slice_index_or (set (map h players) i (h new)) n d) same ∙ get_or-set_same (map h players) n (h new) d (omega (arith, lt, long)))
+placed_here h players k n new d same lt = grind (arith, length-map, map-set, get_or-set_same)
 
 placed_other : {A B : Type 0} (h : A → B) (players : List A) (k n : ℕ) (new : A) → k ≡ n → StaysBut n (map h players) (map h (set players k new))
 placed_other h players k n new same m d other =
