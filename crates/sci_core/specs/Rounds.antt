@@ -31,7 +31,7 @@ pub data IsServed (core : Core) (n line : ℕ) (request : Body) (old new : Cache
 
 -- what node n asks about a line is answered, and the node takes the answer; no other state changes but the server's, and no
 -- operation is performed
-pub record IsAnswered (core new : Core) (n line : ℕ) (asked : Asked) : Type 0 where
+pub record IsRepliedTo (core new : Core) (n line : ℕ) (asked : Asked) : Type 0 where
   pub server : ℕ
   pub to : server ≡ server_of core line asked.to
   -- the server's state as it serves, and after it; the asker may be the server
@@ -57,7 +57,7 @@ pub record IsAnswered (core new : Core) (n line : ℕ) (asked : Asked) : Type 0 
 pub record IsRound (core new : Core) (n line : ℕ) (ask : AskKind) : Type 0 where
   pub asked : Asked
   pub asks : asking (state_at core line n) ask ≡ Some asked
-  pub answered : IsAnswered core new n line asked
+  pub answered : IsRepliedTo core new n line asked
 
 -- ---- which round is next
 

@@ -112,5 +112,12 @@ pub lanes_more : {Z : Type 0} (nodes : ℕ) (words : List ℕ) (inbox_turns : Li
     → v ≡ get_or inbox_turns (length lanes % nodes) v → turn ≡ get_or v.items (length lanes / nodes) turn
     → ((shown : List Packet) (o : Outbound) (i : Inbound) → Fits words (length lanes) shown o i → turn ≡ i.taken % 4 → letters ≡ map letter_of shown)
     → AreLanes nodes words inbox_turns (length lanes) lanes → AreLanes nodes words inbox_turns (length (lanes ++ letters ∷ [])) (lanes ++ letters ∷ [])
-lanes_more nodes words inbox_turns lanes v turn letters some less every v_is turn_is read a = grind (arith, length_push, cases_lt, get_or_append_left,
-    get_or_read, turn_there, get_or_push)
+lanes_more nodes words inbox_turns lanes v turn letters some less every v_is turn_is read a = grind (
+  arith,
+  length_push,
+  cases_lt,
+  get_or_append_left,
+  get_or_read,
+  turn_there,
+  get_or_push,
+)

@@ -20,7 +20,7 @@ use Rattle.sci_core.proofs.ReachedLaws.{log_at}
 use Rattle.sci_lanes.specs.Shown.{AreEnabled}
 use Rattle.sci_drive.specs.declared.driver.Issuing.{Issuing}
 use Rattle.sci_drive.specs.Driving.{DriverOf, IsDriven}
-use Rattle.sci_drive.specs.Script.{IsFrontOf, IsLogOf, IsNamedBy, IsWholeLogOf}
+use Rattle.sci_drive.specs.Script.{IsFrontOf, IsLogOf, IsWholeLogOf}
 use Rattle.sci_drive.proofs.Drives.{log_of as log_driven, whole_of}
 use Rattle.sci_threads.specs.Shares.{operations_of, size_for}
 use Rattle.sci_threads.proofs.Sharing.{in_order}

@@ -1,8 +1,8 @@
 -- An operation that is written is read again, and what is read as one was written so.
 use Rattle.std.proofs.Common.{◌≡◌, ℕ, ◌^◌, ◌<◌, ◌≤◌, ltb, List, ◌++◌, length, Option, Some, None, refl, sym, ap, subst, ◌∙◌, append_assoc, arith}
-use Rattle.std.specs.Prelude.{option_map, IsSome, IfNone}
+use Rattle.std.specs.Prelude.{option_map}
 use Rattle.std.specs.Option.{SomeIff}
-use Rattle.std.proofs.lemmas.Bool.{false≢true, cases_lt, lt-ltb, le-ltb}
+use Rattle.std.proofs.lemmas.Bool.{cases_lt, lt-ltb, le-ltb}
 use Rattle.std.proofs.lemmas.Option.{none-some, cond_some, some_pair_parts}
 use Rattle.sci_words.specs.declared.operation.LockOp.{LockOp}
 use Rattle.sci_words.specs.declared.operation.LockOp.TheVariants.{MaskSwap, CompareSwap, FetchAdd, BoundedAdd, WrapAdd}
@@ -56,10 +56,6 @@ byte_some (Some m) n e = ap (λ (x : ℕ). Some x) (cond_some (ltb m 256) m n e)
 
 pub byte_refused : (o : Option ℕ) (n : ℕ) → byte o ≡ None → o ≡ Some n → 256 ≤ n
 byte_refused o n refused e = grind (arith, cases_lt, none-some, byte_below)
-
-pub none_then : {X : Type 0} (o : Option X) (P Q : Type 0) → (P → IsSome o) → ((P → ⊥) → Q) → IfNone o Q
-none_then None P Q f g = g (λ p. false≢true (f p))
-none_then (Some x) P Q f g = tt
 
 -- the value of a step that did not fail
 pub bind_some : {A B : Type 0} (o : Option A) (f : A → Option B) (y : B) → (o >>= f) ≡ Some y → (x : A) × (o ≡ Some x) × (f x ≡ Some y)

@@ -22,7 +22,7 @@ use Rattle.sci_core.specs.Core.{Core, node_at}
 use Rattle.sci_core.specs.Draining.{IsDrained}
 use Rattle.sci_core.specs.Node.{NodeOf, lines_of, node_asking}
 use Rattle.sci_core.specs.Reached.{IsReached}
-use Rattle.sci_core.specs.Rounds.{At_home, In_cache, IsAnswered, IsNext, IsRound, IsServed, Joins, Parts, Tells, entry_rank, is_head, is_telling, joins_before}
+use Rattle.sci_core.specs.Rounds.{At_home, In_cache, IsRepliedTo, IsNext, IsRound, IsServed, Joins, Parts, Tells, entry_rank, is_head, is_telling, joins_before}
 use Rattle.sci_core.specs.Rounds.{parting, rank, server_of}
 use Rattle.sci_core.specs.Shape.{state_at}
 use Rattle.sci_core.specs.Sharing.{home_at}
@@ -67,8 +67,8 @@ asks_if part line ask made below is free = grind (arith, lt-ltb)
 -- ---- a round whose request is known
 
 pub known : (core new : Core) (n line : ℕ) (ask : AskKind) (a : Asked) → IsRound core new n line ask → asking (state_at core line n) ask ≡ Some a
-    → IsAnswered core new n line a
-known core new n line ask a r is = subst (IsAnswered core new n line) (same_some r.asked a (sym r.asks ∙ is)) r.answered
+    → IsRepliedTo core new n line a
+known core new n line ask a r is = subst (IsRepliedTo core new n line) (same_some r.asked a (sym r.asks ∙ is)) r.answered
 
 -- ---- the home serves: the asker's state alone changes
 
@@ -89,7 +89,7 @@ at_home : (core : Core) (n line : ℕ) (a : Asked) (old served : CacheState) (an
 at_home core n line a old served answer none (At_home home is same) = record { stays = same; answers = (home, is) }
 at_home core n line a old served answer none (In_cache is) = no_answer (serving old n a.request) (served, answer) (none old) is
 
-pub home_round : (core new : Core) (n line : ℕ) (a : Asked) (final : CacheState) → IsAnswered core new n line a → Homely core n line a final
+pub home_round : (core new : Core) (n line : ℕ) (a : Asked) (final : CacheState) → IsRepliedTo core new n line a → Homely core n line a final
     → Shifts core new n line final
 home_round core new n line a final k h =
     let here = at_home core n line a k.old k.served k.answer h.alone k.serves in
@@ -136,7 +136,7 @@ in_cache core n line a old served answer none (At_home home is same) =
     no_answer (home_serving (home_at core line) n a.request) (home, answer) (none (home_at core line)) is
 in_cache core n line a old served answer none (In_cache is) = is
 
-cache_round : (core new : Core) (n line q : ℕ) (a : Asked) (served final : CacheState) → IsAnswered core new n line a → Cached core n line q a served final
+cache_round : (core new : Core) (n line q : ℕ) (a : Asked) (served final : CacheState) → IsRepliedTo core new n line a → Cached core n line q a served final
     → Pair core new n q line final served
 cache_round core new n line q a served final k h =
     let server : k.server ≡ q = k.to ∙ ap (server_of core line) h.to in
@@ -164,7 +164,7 @@ telling_same (Rolling f b c) n w = search rules
 telling_same _ n w = search rules
 
 told_lowers : (core new : Core) (n line r w : ℕ) → n < core.size.nodes → line < core.size.lines → r < core.size.nodes → state_at core line n ≡ Telling r w false
-    → IsAnswered core new n line (record { to = Some r; request = body.Setback w; next = Telling r w true }) → rank new < rank core
+    → IsRepliedTo core new n line (record { to = Some r; request = body.Setback w; next = Telling r w true }) → rank new < rank core
 told_lowers core new n line r w lt inside below was k =
     let a : Asked = record { to = Some r; request = body.Setback w; next = Telling r w true } in
     let is = in_cache core n line a k.old k.served k.answer (λ h. refl) k.serves in
@@ -205,7 +205,7 @@ if_same : {X : Type 0} (n : ℕ) (x y : X) → (if n == n then x else y) ≡ x
 if_same n x y = ap (λ (b : Bool). if b then x else y) (eq-eqb n n refl)
 
 wback_lowers : (core new : Core) (n line : ℕ) (c : Stamped) → n < core.size.nodes → line < core.size.lines → state_at core line n ≡ Head None c
-    → home_at core line ≡ at.Gone n → IsAnswered core new n line (record { to = None; request = body.Wback c; next = Returning c }) → rank new < rank core
+    → home_at core line ≡ at.Gone n → IsRepliedTo core new n line (record { to = None; request = body.Wback c; next = Returning c }) → rank new < rank core
 wback_lowers core new n line c lt inside was home k =
     let a : Asked = record { to = None; request = body.Wback c; next = Returning c } in
     let serves : home_serving (home_at core line) n (body.Wback c) ≡ Some (at.Home c, body.Wbok) =
@@ -217,7 +217,7 @@ wback_lowers core new n line c lt inside was home k =
 
 claim_lowers : (core new : Core) (n line : ℕ) (f : Option ℕ) (c d : Stamped) → n < core.size.nodes → line < core.size.lines
     → state_at core line n ≡ FreshHead f c → home_at core line ≡ at.Fresh n d
-    → IsAnswered core new n line (record { to = None; request = body.Claim; next = Claiming f c }) → rank new < rank core
+    → IsRepliedTo core new n line (record { to = None; request = body.Claim; next = Claiming f c }) → rank new < rank core
 claim_lowers core new n line f c d lt inside was home k =
     let a : Asked = record { to = None; request = body.Claim; next = Claiming f c } in
     let serves : home_serving (home_at core line) n body.Claim ≡ Some (at.Gone n, body.Wbok) =
@@ -229,7 +229,7 @@ claim_lowers core new n line f c d lt inside was home k =
     omega arith
 
 clear_lowers : (core new : Core) (n line : ℕ) (c d : Stamped) → n < core.size.nodes → line < core.size.lines → state_at core line n ≡ FreshHead None c
-    → home_at core line ≡ at.Fresh n d → IsAnswered core new n line (record { to = None; request = body.Clear; next = Clearing c }) → rank new < rank core
+    → home_at core line ≡ at.Fresh n d → IsRepliedTo core new n line (record { to = None; request = body.Clear; next = Clearing c }) → rank new < rank core
 clear_lowers core new n line c d lt inside was home k =
     let a : Asked = record { to = None; request = body.Clear; next = Clearing c } in
     let serves : home_serving (home_at core line) n body.Clear ≡ Some (at.Home d, body.Wbok) =
@@ -247,7 +247,7 @@ differ core line n q s t is are not e = not (sym is ∙ (ap (state_at core line)
 cached_lowers : (core new : Core) (n line q : ℕ) (a : Asked) (was old served final : CacheState) (answer : Body) → n < core.size.nodes → q < core.size.nodes
     → line < core.size.lines → state_at core line n ≡ was → state_at core line q ≡ old → (was ≡ old → ⊥) → a.to ≡ Some q
     → serving old n a.request ≡ Some (served, answer) → ((h : HomeState) → home_serving h n a.request ≡ None) → accepting a.next answer ≡ Some final
-    → entry_rank final + entry_rank served < entry_rank was + entry_rank old → IsAnswered core new n line a → rank new < rank core
+    → entry_rank final + entry_rank served < entry_rank was + entry_rank old → IsRepliedTo core new n line a → rank new < rank core
 cached_lowers core new n line q a was old served final answer lt below inside here there not to serves alone accepts less k =
     let apart = differ core line n q was old here there not in
     let serves_ = ap (λ (s : CacheState). serving s n a.request) there ∙ serves in
@@ -260,7 +260,7 @@ cached_lowers core new n line q a was old served final answer lt below inside he
 
 purge_lowers : (core new : Core) (n line q : ℕ) (c : Stamped) (f : Option ℕ) (b : ℕ) (d : Stamped) → n < core.size.nodes → q < core.size.nodes
     → line < core.size.lines → state_at core line n ≡ Head (Some q) c → state_at core line q ≡ Below f b d
-    → IsAnswered core new n line (record { to = Some q; request = body.Purge; next = Purging q c }) → rank new < rank core
+    → IsRepliedTo core new n line (record { to = Some q; request = body.Purge; next = Purging q c }) → rank new < rank core
 purge_lowers core new n line q c f b d lt below inside was next k =
     cached_lowers core new n line q (record { to = Some q; request = body.Purge; next = Purging q c }) (Head (Some q) c) (Below f b d) Out (Head f c)
     (body.Purged f) lt below inside was next (λ e. cc) refl refl (λ h. refl) refl (omega arith) k
@@ -268,7 +268,7 @@ purge_lowers core new n line q c f b d lt below inside was next k =
 -- who joins before a head
 join_lowers : (core new : Core) (n line q : ℕ) (f : Option ℕ) (d : Stamped) → n < core.size.nodes → q < core.size.nodes → line < core.size.lines
     → state_at core line n ≡ Joining q false → (state_at core line q ≡ Head f d) ⊎ (state_at core line q ≡ FreshHead f d)
-    → IsAnswered core new n line (record { to = Some q; request = body.Cread; next = Joining q true }) → rank new < rank core
+    → IsRepliedTo core new n line (record { to = Some q; request = body.Cread; next = Joining q true }) → rank new < rank core
 join_lowers core new n line q f d lt below inside was (inl head) k =
     cached_lowers core new n line q (record { to = Some q; request = body.Cread; next = Joining q true }) (Joining q false) (Head f d) (Below f n d)
     (Head (Some q) d) (body.Cdata d) lt below inside was head (λ e. cc) refl refl (λ h. refl) refl (omega arith) k
@@ -278,7 +278,7 @@ join_lowers core new n line q f d lt below inside was (inr head) k =
 
 fresh_join_lowers : (core new : Core) (n line q : ℕ) (c : Stamped) (f : Option ℕ) (d : Stamped) → n < core.size.nodes → q < core.size.nodes
     → line < core.size.lines → state_at core line n ≡ FreshJoining q false c → state_at core line q ≡ FreshHead f d
-    → IsAnswered core new n line (record { to = Some q; request = body.Cread; next = FreshJoining q true c }) → rank new < rank core
+    → IsRepliedTo core new n line (record { to = Some q; request = body.Cread; next = FreshJoining q true c }) → rank new < rank core
 fresh_join_lowers core new n line q c f d lt below inside was head k =
     cached_lowers core new n line q (record { to = Some q; request = body.Cread; next = FreshJoining q true c }) (FreshJoining q false c) (FreshHead f d)
     (Below f n d) (FreshHead (Some q) c) (body.Cdata d) lt below inside was head (λ e. cc) refl refl (λ h. refl) refl (omega arith) k
@@ -292,7 +292,7 @@ pub record Lowers (core : Core) (n line : ℕ) (ask : AskKind) : Type 0 where
 
 -- a line with an entry needs no free slot
 lowers_so : (core : Core) (n line : ℕ) (ask : AskKind) (s : CacheState) (a : Asked) → IsReached core → n < core.size.nodes → line < core.size.lines
-    → state_at core line n ≡ s → is_out s ≡ false → asking s ask ≡ Some a → ((new : Core) → IsAnswered core new n line a → rank new < rank core)
+    → state_at core line n ≡ s → is_out s ≡ false → asking s ask ≡ Some a → ((new : Core) → IsRepliedTo core new n line a → rank new < rank core)
     → Lowers core n line ask
 lowers_so core n line ask s a reached lt inside is entry asks then_ =
     let made = ap (λ (x : CacheState). asking x ask) is ∙ asks in

@@ -18,7 +18,7 @@ use Rattle.sci_core.specs.Core.{Core, lane_at, lane_of, lane_place, node_at, sen
 use Rattle.sci_core.specs.Draining.{IsDrained}
 use Rattle.sci_core.specs.Node.{NodeOf, answering, home_of, lines_of, no_node, node_accepting, node_asking, node_serving}
 use Rattle.sci_core.specs.Reached.{IsReached}
-use Rattle.sci_core.specs.Rounds.{At_home, In_cache, IsAnswered, IsRound, IsServed, server_of}
+use Rattle.sci_core.specs.Rounds.{At_home, In_cache, IsRepliedTo, IsRound, IsServed, server_of}
 use Rattle.sci_core.specs.Shape.{state_at}
 use Rattle.sci_core.specs.Sharing.{home_at}
 use Rattle.sci_core.specs.Sides.{taken_to}
@@ -261,7 +261,7 @@ pub record Rounds (core : Core) (n line : ℕ) (kind : AskKind) (target : ℕ) :
 round_of : (core first second third last : Core) (n line : ℕ) (kind : AskKind) (a : Asks core first n line kind)
     (s : Serves core first second n line a.sent.1 a.as_.asked.request) → Shifts core first n line a.as_.asked.next
     → Shifts second third n line (state_at second line n) → Accepts third last n line s.answer
-    → a.sent.1.target ≡ server_of core line a.as_.asked.to → IsAnswered core last n line a.as_.asked
+    → a.sent.1.target ≡ server_of core line a.as_.asked.to → IsRepliedTo core last n line a.as_.asked
 round_of core first second third last n line kind a s one three four to =
     let t = a.sent.1.target in
     let taker = state_at third line n in
