@@ -11,6 +11,7 @@ import glob
 import re
 import subprocess
 import sys
+import textwrap
 from collections import namedtuple
 
 WORD = re.compile(r"(?<![\w.\-'])([a-z_][\w\-']*)")
@@ -44,8 +45,8 @@ def clauses_of(lines, least):
         end = start + 1
         while end < len(lines) and lines[end].startswith((" ", "}", ")", "]")):
             end += 1
-        parts = re.match(r"(.*?) =(?:\s|$)", "\n".join(lines[start:end]), re.S)
-        if end - start < least or not parts or "\n" in parts[1]:
+        parts = re.match(r"((?:\{[^}]*\}|[^{}=])*?) =(?:\s|$)", "\n".join(lines[start:end]))
+        if end - start < least or not parts or "\n" in parts[1] or lines[end + 1 : end + 2] and lines[end + 1].startswith(" "):
             continue
         body = "\n".join(lines[start:end])[parts.end() :]
         bound = set(WORD.findall(parts[1])) | set(re.findall(r"let ([a-z_][\w\-']*)", body))
@@ -61,7 +62,8 @@ def shortened(lines, clauses):
     while place < len(lines):
         clause = by_start.get(place)
         if clause:
-            out.append(f"{clause.head} = grind ({', '.join(['arith', *clause.cited])})" if clause.cited else f"{clause.head} = grind arith")
+            cited = f"({', '.join(['arith', *clause.cited])})" if clause.cited else "arith"
+            out += textwrap.wrap(f"{clause.head} = grind {cited}", 160, subsequent_indent="    ", break_long_words=False, break_on_hyphens=False)
             place = clause.end
         else:
             out.append(lines[place])
@@ -95,7 +97,7 @@ def main():
                 file.write(shortened(texts[path], clauses))
         print(f"{sum(map(len, left.values()))} left", flush=True)
         ran = subprocess.run(["rt", "check"], cwd=folder, stdout=subprocess.PIPE, stderr=subprocess.STDOUT, text=True)
-        if "logic=proved" in ran.stdout:
+        if re.findall(r"^logic=([\w-]+)", ran.stdout, re.M)[-1:] == ["proved"]:
             break
         wrong = refused(ran.stdout, folder, left)
         if not wrong:
