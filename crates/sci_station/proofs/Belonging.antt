@@ -31,22 +31,25 @@ module _ {S : Type 0} (end_of : S → EndOf) (f : LanesOf) where
   first : (x : S) (xs : List S) → All (x ∷ xs) → IsOf f (end_of x)
   first x xs all = all zero (end_of x) refl
 
-  pub of_there : (xs : List S) (k : ℕ) (d : S) → k < length xs → All xs → IsOf f (end_of (get_or xs k d))
+  of_there : (xs : List S) (k : ℕ) (d : S) → k < length xs → All xs → IsOf f (end_of (get_or xs k d))
   of_there [] k d lt all = absurd (omega arith)
   of_there (y ∷ xs) zero d lt all = first y xs all
   of_there (y ∷ xs) (suc k) d lt all = of_there xs k d (omega arith) (later y xs all)
-
-  pub of_at : (xs : List S) (k : ℕ) (x : S) → k < length xs → x ≡ get_or xs k x → All xs → IsOf f (end_of x)
-  of_at xs k x lt is all = subst (λ (s : S). IsOf f (end_of s)) (sym is) (of_there xs k x lt all)
 
   pub of_more : (x : S) (xs : List S) → IsOf f (end_of x) → All xs → All (x ∷ xs)
   of_more x xs is all zero end e = subst (IsOf f) (same_some (end_of x) end e) is
   of_more x xs is all (suc place) end e = all place end e
 
-  pub of_put : (xs : List S) (k : ℕ) (x : S) → IsOf f (end_of x) → All xs → All (set xs k x)
+  of_put : (xs : List S) (k : ℕ) (x : S) → IsOf f (end_of x) → All xs → All (set xs k x)
   of_put [] k x is all = all
   of_put (y ∷ xs) zero x is all = of_more x xs is (later y xs all)
   of_put (y ∷ xs) (suc k) x is all = of_more y (set xs k x) (first y xs all) (of_put xs k x is (later y xs all))
+
+  -- one of them is changed, and its end is the same
+  pub of_changed : (xs : List S) (k : ℕ) (old new : S) → k < length xs → old ≡ get_or xs k old → IsSameEnd (end_of old) (end_of new) → All xs
+      → All (set xs k new)
+  of_changed xs k old new lt is same all =
+      of_put xs k new (same_of f _ _ same (subst (λ (s : S). IsOf f (end_of s)) (sym is) (of_there xs k old lt all))) all
 
   pub of_swapped : (xs : List S) (i j : ℕ) → i < length xs → j < length xs → All xs → All (swap xs i j)
   of_swapped [] i j a b all = all
