@@ -1,21 +1,13 @@
 //! Ends that go through events by hand, and are gathered with packets under way.
 
 use crate::by_hand::ByHand;
-use crate::given::{ORDERS, op, stored};
+use crate::given::{ORDERS, stored};
 use sci_core::Machine;
 use sci_history::{Last, Logs};
-use sci_words::{Act, AskKind, Event, Extent};
+use sci_text::schedule_of;
+use sci_words::{Event, Extent};
 use std::alloc::Global;
 use std::test::*;
-
-/// A node asks a request about line 0.
-fn asks(node: u8, kind: AskKind) -> Event {
-    Event::Ask {
-        node,
-        line: 0,
-        kind,
-    }
-}
 
 /// An error unless line 0 is the only line, and has this word 0 and this version.
 fn ends_with(last: &Last, word: u64, version: u64) -> Result<(), Fail> {
@@ -29,9 +21,8 @@ fn ends_with(last: &Last, word: u64, version: u64) -> Result<(), Fail> {
     Ok(())
 }
 
-/// The ends of so many nodes and one line, after these events.
-fn hand_after(alloc: Global, nodes: u8, events: &[Event]) -> Result<ByHand, Fail> {
-    let extent = Extent::new(nodes, 1, 1).ok_or("an extent")?;
+/// The ends of a machine of this size, after these events.
+fn hand_after(alloc: Global, extent: Extent, events: &[Event]) -> Result<ByHand, Fail> {
     let mut hand = ByHand::new(alloc, extent, 1)?;
     for event in events {
         hand.make(event)?;
@@ -39,12 +30,17 @@ fn hand_after(alloc: Global, nodes: u8, events: &[Event]) -> Result<ByHand, Fail
     Ok(hand)
 }
 
+/// The logs and last contents of the ends of a schedule's machine, after its events.
+fn gathered(alloc: Global, schedule: &[u8]) -> Result<(Logs, Last), Fail> {
+    let schedule = schedule_of(alloc, schedule)?;
+    hand_after(alloc, schedule.extent(), schedule.events())?.gather(alloc)
+}
+
 /// One end looks, fills and publishes an mread as its Ask; the other looks, reads and frees it as its Serve. Nothing
 /// was performed then, and the line is as it was.
 #[test]
 fn ends_by_hand(rt: HostRuntime) -> Result<(), Fail> {
-    let events = [asks(1, AskKind::Mread), Event::Serve { from: 1, node: 0 }];
-    let (logs, last) = hand_after(rt.alloc(), 2, &events)?.gather(rt.alloc())?;
+    let (logs, last) = gathered(rt.alloc(), b"machine 2 1 1\nask 1 0 mread\nserve 1 0\n")?;
     if !logs.of(0).is_empty() || !logs.of(1).is_empty() {
         return Err(Fail::from("an entry"));
     }
@@ -53,50 +49,18 @@ fn ends_by_hand(rt: HostRuntime) -> Result<(), Fail> {
 
 /// Node 1 joins an empty list and stores 7. Node 0, which is the home, joins before it, purges it and stores 8. Then
 /// node 0 writes the line back.
-fn join_purge_and_write_back() -> [Event; 27] {
-    [
-        Event::Issue {
-            node: 1,
-            op: op(Act::Store(7)),
-        },
-        asks(1, AskKind::Mread),
-        Event::Serve { from: 1, node: 0 },
-        Event::Reply { node: 0 },
-        Event::Accept { from: 0, node: 1 },
-        Event::Perform { node: 1, line: 0 },
-        Event::Issue {
-            node: 0,
-            op: op(Act::Store(8)),
-        },
-        asks(0, AskKind::Mread),
-        Event::Serve { from: 0, node: 0 },
-        Event::Reply { node: 0 },
-        Event::Accept { from: 0, node: 0 },
-        asks(0, AskKind::Cread),
-        Event::Refuse { from: 0, node: 1 },
-        Event::Reply { node: 1 },
-        Event::Accept { from: 1, node: 0 },
-        asks(0, AskKind::Cread),
-        Event::Serve { from: 0, node: 1 },
-        Event::Reply { node: 1 },
-        Event::Accept { from: 1, node: 0 },
-        asks(0, AskKind::Purge),
-        Event::Serve { from: 0, node: 1 },
-        Event::Reply { node: 1 },
-        Event::Accept { from: 1, node: 0 },
-        Event::Perform { node: 0, line: 0 },
-        asks(0, AskKind::Wback),
-        Event::Serve { from: 0, node: 0 },
-        Event::Reply { node: 0 },
-    ]
-}
+const JOIN_PURGE_AND_WRITE_BACK: &[u8] = b"machine 2 1 1\n\
+    issue 1 store 0 0 7\nask 1 0 mread\nserve 1 0\nreply 0\naccept 0 1\nperform 1 0\n\
+    issue 0 store 0 0 8\nask 0 0 mread\nserve 0 0\nreply 0\naccept 0 0\n\
+    ask 0 0 cread\nrefuse 0 1\nreply 1\naccept 1 0\n\
+    ask 0 0 cread\nserve 0 1\nreply 1\naccept 1 0\n\
+    ask 0 0 purge\nserve 0 1\nreply 1\naccept 1 0\nperform 0 0\n\
+    ask 0 0 wback\nserve 0 0\nreply 0\naccept 0 0\n";
 
 /// Two ends go through a whole join, a purge and a write-back.
 #[test]
 fn ends_join_purge_and_write_back(rt: HostRuntime) -> Result<(), Fail> {
-    let mut hand = hand_after(rt.alloc(), 2, &join_purge_and_write_back())?;
-    hand.make(&Event::Accept { from: 0, node: 0 })?;
-    let (logs, last) = hand.gather(rt.alloc())?;
+    let (logs, last) = gathered(rt.alloc(), JOIN_PURGE_AND_WRITE_BACK)?;
     if logs.of(0) != [stored(0, 8, 2)].as_slice() || logs.of(1) != [stored(1, 7, 1)].as_slice() {
         return Err(Fail::from("the logs"));
     }
@@ -105,28 +69,18 @@ fn ends_join_purge_and_write_back(rt: HostRuntime) -> Result<(), Fail> {
 
 /// Node 2 has stored 7 and writes the line back. Node 1 is told that node 2 is the head, and node 0 asks itself for the
 /// line. The packets of all three are under way.
-fn three_under_way() -> [Event; 11] {
-    [
-        Event::Issue {
-            node: 2,
-            op: op(Act::Store(7)),
-        },
-        asks(2, AskKind::Mread),
-        Event::Serve { from: 2, node: 0 },
-        Event::Reply { node: 0 },
-        Event::Accept { from: 0, node: 2 },
-        Event::Perform { node: 2, line: 0 },
-        asks(2, AskKind::Wback),
-        asks(1, AskKind::Mread),
-        Event::Serve { from: 1, node: 0 },
-        Event::Reply { node: 0 },
-        asks(0, AskKind::Fread),
-    ]
-}
+const THREE_UNDER_WAY: &[u8] = b"machine 3 1 1\n\
+    issue 2 store 0 0 7\nask 2 0 mread\nserve 2 0\nreply 0\naccept 0 2\nperform 2 0\n\
+    ask 2 0 wback\nask 1 0 mread\nserve 1 0\nreply 0\nask 0 0 fread\n";
 
 /// The ends of three nodes after these events, in one of their orders.
-fn three(alloc: Global, events: &[Event], order: &[(usize, usize)]) -> Result<ByHand, Fail> {
-    let mut hand = hand_after(alloc, 3, events)?;
+fn three(
+    alloc: Global,
+    extent: Extent,
+    events: &[Event],
+    order: &[(usize, usize)],
+) -> Result<ByHand, Fail> {
+    let mut hand = hand_after(alloc, extent, events)?;
     for (first, second) in order {
         hand.swap(*first, *second)?;
     }
@@ -136,9 +90,10 @@ fn three(alloc: Global, events: &[Event], order: &[(usize, usize)]) -> Result<By
 /// Three ends are gathered in every order with packets in lanes: the store is logged, and the line has what it stored.
 #[test]
 fn three_ends_are_gathered_in_every_order(rt: HostRuntime) -> Result<(), Fail> {
-    let events = three_under_way();
+    let schedule = schedule_of(rt.alloc(), THREE_UNDER_WAY)?;
     for order in &ORDERS {
-        let (logs, last) = three(rt.alloc(), &events, order)?.gather(rt.alloc())?;
+        let hand = three(rt.alloc(), schedule.extent(), schedule.events(), order)?;
+        let (logs, last) = hand.gather(rt.alloc())?;
         if !logs.of(0).is_empty() || !logs.of(1).is_empty() {
             return Err(Fail::from("an entry of a node that did nothing"));
         }
@@ -169,8 +124,8 @@ fn are_of(machine: &Machine, alloc: Global, logs: &Logs, last: &Last) -> Result<
 /// events.
 #[test]
 fn ends_agree_with_a_machine(rt: HostRuntime) -> Result<(), Fail> {
-    let extent = Extent::new(3, 1, 1).ok_or("an extent")?;
-    let events = three_under_way();
+    let schedule = schedule_of(rt.alloc(), THREE_UNDER_WAY)?;
+    let (extent, events) = (schedule.extent(), schedule.events());
     for count in 0..=events.len() {
         let mut machine = Machine::new(rt.alloc(), extent, 1)?;
         for event in &events[..count] {
@@ -179,7 +134,8 @@ fn ends_agree_with_a_machine(rt: HostRuntime) -> Result<(), Fail> {
             }
         }
         for order in &ORDERS {
-            let (logs, last) = three(rt.alloc(), &events[..count], order)?.gather(rt.alloc())?;
+            let hand = three(rt.alloc(), extent, &events[..count], order)?;
+            let (logs, last) = hand.gather(rt.alloc())?;
             are_of(&machine, rt.alloc(), &logs, &last)?;
         }
     }
