@@ -12,7 +12,7 @@ use Rattle.sci_words.specs.declared.operation.Op.{Op}
 use Rattle.sci_words.specs.declared.operation.Reply.{Reply}
 use Rattle.sci_words.specs.Operation.{is_maker}
 use Rattle.sci_words.specs.Stamped.{after, reply_of}
-use Rattle.sci_cache.specs.State.{CacheState, Out, Head, FreshHead, Below, is_out}
+use Rattle.sci_cache.specs.State.{CacheState, Head, FreshHead, Below, is_out}
 use Rattle.sci_cache.specs.Performing.{Performed, performing}
 use Rattle.sci_cache.specs.Line.{LineState, untouched}
 use Rattle.sci_cache.specs.Cache.{slots_taken}
@@ -20,11 +20,6 @@ use Rattle.sci_cache.specs.Index.{IsIndex}
 use Rattle.sci_cache.specs.Kinds.{is_of}
 use Rattle.sci_cache.specs.LineKinds.{KindSets, set_of}
 use Rattle.sci_cache.specs.LineSet.{is_in}
-
--- a line that was never asked for is of no kind
-pub no_kind : (of : LineKind) → is_of of Out ≡ false
-no_kind kind.HasSharers = refl
-no_kind _ = refl
 
 abbrev weight : LineState → ℕ
 weight line = cond {A = ℕ} (not (is_out line.state)) 1 0

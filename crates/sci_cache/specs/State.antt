@@ -1,7 +1,7 @@
 -- The states of a node's cache for one line. From IEEE Std 1596-1992 are its stable states, whose names stand in brackets,
 -- and the forward and backward identifier of an entry. The other states, and all that is defined below, are this
 -- project's profile.
-use Rattle.std.specs.Prelude.{ℕ, Bool, true, false, Option, Some, None}
+use Rattle.std.specs.Prelude.{ℕ, Bool, true, false, List, codes, Option, Some, None}
 use Rattle.sci_words.specs.declared.stamped.Stamped.{Stamped}
 
 -- f is the forward identifier, b the backward identifier, c the contents, p the old head, q the next in the list
@@ -34,6 +34,23 @@ pub data CacheState : Type 0 where
   Telling : (r : ℕ) (w : ℕ) (sent : Bool) → CacheState
   -- purged while its Roll was unanswered
   Fading : CacheState
+
+-- the name of a state (the profile)
+unfoldable pub state_name : CacheState → List ℕ
+state_name Out = codes "Out"
+state_name Asking = codes "Asking"
+state_name (Joining p sent) = codes "Joining"
+state_name (FreshJoining p sent c) = codes "FreshJoining"
+state_name (Head f c) = codes "Head"
+state_name (FreshHead f c) = codes "FreshHead"
+state_name (Below f b c) = codes "Below"
+state_name (Purging q c) = codes "Purging"
+state_name (Claiming f c) = codes "Claiming"
+state_name (Clearing c) = codes "Clearing"
+state_name (Returning c) = codes "Returning"
+state_name (Rolling f b c) = codes "Rolling"
+state_name (Telling r w sent) = codes "Telling"
+state_name Fading = codes "Fading"
 
 -- whether a line awaits an answer: one transaction at a time (the profile)
 abbrev pub waits : CacheState → Bool

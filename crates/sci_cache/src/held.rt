@@ -30,7 +30,7 @@ pub enum Held {
 
 impl Held {
     ghost use Rattle.std.specs.Prelude.{◌≡◌, IfSome, IsSome, IfOk, IsErr, Some, None, option_map};
-    ghost use Rattle.sci_cache.specs.State.{is_out as is_out_of};
+    ghost use Rattle.sci_cache.specs.State.{is_out as is_out_of, state_name};
     ghost use Rattle.sci_cache.specs.Asking.{asking};
     ghost use Rattle.sci_cache.specs.Accepting.{accepting};
     ghost use Rattle.sci_cache.specs.Held.{state_of};
@@ -54,6 +54,29 @@ impl Held {
             Held::Rolling(state) => Held::Rolling(*state),
             Held::Telling(state) => Held::Telling(*state),
             Held::Fading(state) => Held::Fading(*state),
+        }
+    }
+
+    /// The name of the state.
+    #[tactic(auto, unfolding(crate::specs::State::state_name))]
+    pub fn name(&self) -> &'static str
+        ensures { result.now ≡ state_name (state_of self.now) }
+    {
+        match self {
+            Held::Out(_) => "Out",
+            Held::Asking(_) => "Asking",
+            Held::Joining(_) => "Joining",
+            Held::FreshJoining(_) => "FreshJoining",
+            Held::Head(_) => "Head",
+            Held::FreshHead(_) => "FreshHead",
+            Held::Below(_) => "Below",
+            Held::Purging(_) => "Purging",
+            Held::Claiming(_) => "Claiming",
+            Held::Clearing(_) => "Clearing",
+            Held::Returning(_) => "Returning",
+            Held::Rolling(_) => "Rolling",
+            Held::Telling(_) => "Telling",
+            Held::Fading(_) => "Fading",
         }
     }
 

@@ -5,7 +5,7 @@ use sci_core::Machine;
 use sci_home::HomeState;
 use sci_packets::NodeId;
 use sci_text::{push_field, push_text};
-use sci_traces::{home_name, push_node, state_name};
+use sci_traces::{held_at, home_at, push_node};
 use std::alloc::AllocError;
 
 /// What a chart says of a cache's state: its name and its neighbours.
@@ -20,7 +20,7 @@ impl CacheSight {
     /// What is said of a state.
     fn of(held: &Held) -> CacheSight {
         CacheSight {
-            name: state_name(held),
+            name: held.name(),
             forward: held.forward(),
             backward: held.backward(),
         }
@@ -60,27 +60,22 @@ pub struct Spot {
 impl Sight {
     /// What is seen at a spot. Nothing is seen if there is no such node, or no line.
     pub fn at(machine: &Machine, spot: Spot) -> Sight {
-        let nothing = Sight {
-            cache: None,
-            home: None,
-        };
-        if spot.node >= machine.extent().nodes {
-            return nothing;
-        }
-        let node = machine.node(spot.node);
         match spot.line {
-            Some(line) if line < node.extent().lines => Sight {
-                cache: Some(CacheSight::of(node.held(line))),
-                home: node.home(line).map(|home| home.state()),
+            None => Sight {
+                cache: None,
+                home: None,
             },
-            _ => nothing,
+            Some(line) => Sight {
+                cache: held_at(machine, spot.node, line).map(|held| CacheSight::of(held)),
+                home: home_at(machine, spot.node, line).map(|home| home.state()),
+            },
         }
     }
 }
 
 /// Appends what a home knows, as `GONE 2`.
 fn push_home(out: &mut Vec<u8>, state: &HomeState) -> Result<(), AllocError> {
-    push_text(out, home_name(*state))?;
+    push_text(out, state.name())?;
     match state.head() {
         Some(head) => push_field(out, u64::from(head.get())),
         None => Ok(()),

@@ -1,7 +1,7 @@
 -- The home of a line: what it does with each request that comes. From IEEE Std 1596-1992 are the three states of the
 -- memory (HOME, FRESH, GONE), that the home keeps the identifier of the list's head, and how a list grows. The rest is
 -- this project's profile, as each definition says.
-use Rattle.std.specs.Prelude.{ℕ, Bool, true, false, IsTrue, ◌==◌, if◌then◌else◌, Option, Some, None}
+use Rattle.std.specs.Prelude.{ℕ, Bool, true, false, IsTrue, ◌==◌, if◌then◌else◌, List, codes, Option, Some, None}
 use Rattle.sci_words.specs.declared.stamped.Stamped.{Stamped}
 use Rattle.sci_words.specs.Stamped.{zero_stamped}
 use Rattle.sci_packets.specs.declared.body.Body.{Body}
@@ -12,6 +12,12 @@ use Rattle.sci_home.specs.declared.state.HomeState.TheVariants.{Home, Fresh, Gon
 -- the home of a line that nobody has touched: HOME, with zero words at version 0 (the profile)
 abbrev pub opening_home : HomeState
 opening_home = Home zero_stamped
+
+-- the name of a state, as in the standard
+unfoldable pub home_name : HomeState → List ℕ
+home_name (Home c) = codes "HOME"
+home_name (Fresh p c) = codes "FRESH"
+home_name (Gone p) = codes "GONE"
 
 -- the requests that a home serves (the profile)
 abbrev pub is_for_home : Body → Bool

@@ -18,7 +18,19 @@ pub enum HomeState {
 
 impl HomeState {
     ghost use Rattle.std.specs.Prelude.{◌≡◌};
-    ghost use Rattle.sci_home.specs.Serving.{head_of, serving_mread, serving_fread, serving_claim, serving_clear, serving_wback};
+    ghost use Rattle.sci_home.specs.Serving.{head_of, home_name, serving_mread, serving_fread, serving_claim, serving_clear, serving_wback};
+
+    /// The name of the state, as in the standard.
+    #[tactic(auto, unfolding(crate::specs::Serving::home_name))]
+    pub fn name(&self) -> &'static str
+        ensures { result.now ≡ home_name self.now }
+    {
+        match self {
+            HomeState::Home(_) => "HOME",
+            HomeState::Fresh { .. } => "FRESH",
+            HomeState::Gone { .. } => "GONE",
+        }
+    }
 
     /// The head of the list that the home knows.
     pub fn head(&self) -> Option<NodeId>

@@ -5,25 +5,6 @@ use sci_cache::Held;
 use sci_home::HomeState;
 use std::alloc::{AllocError, Global};
 
-fn name(held: &Held) -> &'static str {
-    match held {
-        Held::Out(_) => "Out",
-        Held::Asking(_) => "Asking",
-        Held::Joining(_) => "Joining",
-        Held::FreshJoining(_) => "FreshJoining",
-        Held::Head(_) => "Head",
-        Held::FreshHead(_) => "FreshHead",
-        Held::Below(_) => "Below",
-        Held::Purging(_) => "Purging",
-        Held::Claiming(_) => "Claiming",
-        Held::Clearing(_) => "Clearing",
-        Held::Returning(_) => "Returning",
-        Held::Rolling(_) => "Rolling",
-        Held::Telling(_) => "Telling",
-        Held::Fading(_) => "Fading",
-    }
-}
-
 /// The node behind, or the one that is to become it.
 fn behind(held: &Held) -> Option<Link> {
     match held {
@@ -52,7 +33,7 @@ fn before(held: &Held) -> Option<Link> {
 
 /// The state of a line in a cache, as `Below forward none backward 1 @1 7` or `Joining old 0 sent`.
 pub fn state_text(alloc: Global, held: &Held) -> Result<String, AllocError> {
-    let mut text = String::from_str(alloc, name(held))?;
+    let mut text = String::from_str(alloc, held.name())?;
     if let Some((label, node)) = behind(held) {
         push_link(&mut text, label, node)?;
     }
@@ -71,11 +52,11 @@ pub fn state_text(alloc: Global, held: &Held) -> Result<String, AllocError> {
 
 /// The state of a line's home, as `GONE 1` or `FRESH 0 @0 0`.
 pub fn home_text(alloc: Global, state: &HomeState) -> Result<String, AllocError> {
-    let mut text = match *state {
-        HomeState::Home(_) => String::from_str(alloc, "HOME")?,
-        HomeState::Fresh { head, .. } => format!(in alloc; "FRESH {}", head.get())?,
-        HomeState::Gone { head } => format!(in alloc; "GONE {}", head.get())?,
-    };
+    let mut text = String::from_str(alloc, state.name())?;
+    if let Some(head) = state.head() {
+        let head = head.get();
+        write!(text, " {head}")?;
+    }
     match state {
         HomeState::Home(contents) | HomeState::Fresh { contents, .. } => {
             text.push(' ')?;

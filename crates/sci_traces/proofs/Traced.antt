@@ -41,14 +41,6 @@ next request whole outcome text core number events k d traced lt is was =
     let at : IsTracedTo request whole outcome text core number (e ∷ left) = rw (drop_more events k d lt) at was in
     subst (IsNext request whole outcome text core number e left) is (record { written = at.written; ends = at.ends })
 
--- one that isn't traced
-pub traces_past : (request : TraceRequest) (whole : List ℕ) (outcome : Outcome) (text : List ℕ) (core : Core) (number : ℕ) (events : List Event) (k : ℕ)
-    (d : Event) → k < length events → is_traced request core (get_or events k d) ≡ false
-    → IsTracedTo request whole outcome text core number (drop k events)
-    → IsTracedTo request whole outcome text (step core (get_or events k d)) (number + 1) (drop (k + 1) events)
-traces_past request whole outcome text core number events k d lt untraced was =
-    let at = next request whole outcome text core number events k d false lt untraced was in record { written = at.written; ends = at.ends }
-
 more : (request : TraceRequest) (whole : List ℕ) (outcome : Outcome) (text : List ℕ) (core : Core) (number : ℕ) (e : Event) (left : List Event)
     → is_end request.strict core e ≡ false → IsNext request whole outcome text core number e left true
     → IsTracedTo request whole outcome (text ++ shown_text request.json core number e) (step core e) (number + 1) left

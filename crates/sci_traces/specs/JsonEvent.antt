@@ -19,7 +19,7 @@ use Rattle.sci_traces.specs.declared.json_event.When.{When}
 use Rattle.sci_traces.specs.declared.json_event.When.TheVariants.{Before, After}
 use Rattle.sci_statistics.specs.About.{letter_sent, letter_taken, line_changed}
 use Rattle.sci_traces.specs.Logged.{entry_logged}
-use Rattle.sci_traces.specs.Standing.{of_cache, of_home}
+use Rattle.sci_traces.specs.Standing.{cache_at, home_at, said}
 
 -- the sender and the node of an event that takes a packet
 unfoldable pub taking_members : ℕ → ℕ → List Token
@@ -46,11 +46,11 @@ packet_member name (Some letter) = object_member name (packet_members letter)
 
 -- the state of a line in a node's cache, if there are both
 unfoldable pub cache_member : List ℕ → Core → ℕ → ℕ → List Token
-cache_member name core n line = of_cache (λ state. object_member name (state_members state)) core n line
+cache_member name core n line = said (λ state. object_member name (state_members state)) (cache_at core n line)
 
 -- the state of a line's home, if it is at this node
 unfoldable pub home_member : List ℕ → Core → ℕ → ℕ → List Token
-home_member name core n line = of_home (λ state. object_member name (home_members state)) core n line
+home_member name core n line = said (λ state. object_member name (home_members state)) (home_at core n line)
 
 -- the names of the states before an event, and after it
 unfoldable pub cache_name : When → List ℕ

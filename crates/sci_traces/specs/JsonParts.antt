@@ -14,12 +14,11 @@ use Rattle.sci_packets.specs.declared.body.Body.TheVariants.{Roll, Wback, Setbac
 use Rattle.sci_packets.specs.Table.{command_name, command_of}
 use Rattle.sci_history.specs.declared.entry.Entry.{Entry}
 use Rattle.sci_cache.specs.Cache.{Letter}
-use Rattle.sci_cache.specs.State.{CacheState, backward_of, contents_of, forward_of, is_sent}
+use Rattle.sci_cache.specs.State.{CacheState, backward_of, contents_of, forward_of, is_sent, state_name}
 use Rattle.sci_home.specs.declared.state.HomeState.{HomeState}
-use Rattle.sci_home.specs.Serving.{current_of, head_of}
+use Rattle.sci_home.specs.Serving.{current_of, head_of, home_name}
 use Rattle.sci_text.specs.Operation.{act_word}
 use Rattle.sci_traces.specs.JsonMembers.{flag_member, null_member, number_member, optional_member, text_member, word_member, words_member}
-use Rattle.sci_traces.specs.StateWords.{home_name, state_name}
 
 -- ---- packets
 

@@ -3,10 +3,12 @@ use Rattle.std.specs.Prelude.{◌≡◌, ℕ, ◌+◌, ◌%◌, ◌<◌, nat_lt,
 use Rattle.std.specs.List.{flat_map}
 use Rattle.sci_words.specs.declared.stamped.Stamped.{Stamped}
 use Rattle.sci_words.specs.declared.event.Event.{Event}
+use Rattle.sci_cache.specs.State.{state_name}
 use Rattle.sci_core.specs.Core.{Core, step, stepping}
 use Rattle.sci_core.specs.Shape.{IsAuthority}
 use Rattle.sci_core.specs.Sharing.{last_at}
 use Rattle.sci_core.specs.SharingList.{IsSharingList}
+use Rattle.sci_home.specs.Serving.{home_name}
 use Rattle.sci_statistics.specs.About.{line_changed}
 use Rattle.sci_text.specs.Number.{number, field}
 use Rattle.sci_text.specs.Schedule.{ScheduleValue, IsSchedule, schedule_text}
@@ -15,8 +17,7 @@ use Rattle.sci_command.specs.Answer.{IsDoneBy}
 use Rattle.sci_command.specs.PacketLine.{contents_text}
 use Rattle.sci_command.specs.AskedLine.{HasLine, IsAskedFault, is_asked}
 use Rattle.sci_statistics.specs.Beginning.{before}
-use Rattle.sci_traces.specs.Standing.{of_cache, of_home}
-use Rattle.sci_traces.specs.StateWords.{state_name, home_name}
+use Rattle.sci_traces.specs.Standing.{cache_at, home_at, said}
 
 -- the line that an event may change, if the machine has it
 abbrev pub line_within : Core → Option ℕ → Option ℕ
@@ -25,11 +26,11 @@ line_within core (Some line) = if nat_lt line core.size.lines then Some line els
 
 -- the name of a line's state in a node's cache; none if there is no such node or line
 unfoldable pub name_text : Core → ℕ → ℕ → List ℕ
-name_text core n line = of_cache state_name core n line
+name_text core n line = said state_name (cache_at core n line)
 
 -- the name of the state of a line's home; none if it isn't at this node
 unfoldable pub home_name_text : Core → ℕ → ℕ → List ℕ
-home_name_text core n line = of_home home_name core n line
+home_name_text core n line = said home_name (home_at core n line)
 
 -- ` -> N `
 unfoldable pub front_text : ℕ → List ℕ

@@ -1,18 +1,23 @@
--- What is said of the states of a line at a node.
-use Rattle.std.specs.Prelude.{◌==◌, ◌%◌, ◌&&◌, nat_lt, ℕ, List, [], if◌then◌else◌}
+-- The states of a line at a node.
+use Rattle.std.specs.Prelude.{◌==◌, ◌%◌, ◌&&◌, nat_lt, ℕ, List, [], Option, Some, None, if◌then◌else◌}
 use Rattle.sci_cache.specs.Cache.{line_of}
 use Rattle.sci_cache.specs.State.{CacheState}
 use Rattle.sci_core.specs.Core.{Core, node_at}
 use Rattle.sci_core.specs.Node.{home_of, lines_of}
 use Rattle.sci_home.specs.declared.state.HomeState.{HomeState}
 
--- of its state in the node's cache; nothing if there is no such node or line
-abbrev pub of_cache : {X : Type 0} → (CacheState → List X) → Core → ℕ → ℕ → List X
-of_cache say core n line = if nat_lt n core.size.nodes && nat_lt line (lines_of (node_at core n)) then say (line_of (node_at core n).cache line).state else []
+-- its state in the node's cache; none if there is no such node or line
+abbrev pub cache_at : Core → ℕ → ℕ → Option CacheState
+cache_at core n line = if nat_lt n core.size.nodes && nat_lt line (lines_of (node_at core n)) then Some (line_of (node_at core n).cache line).state else None
 
--- of its home's state; nothing if its home isn't at the node
-abbrev pub of_home : {X : Type 0} → (HomeState → List X) → Core → ℕ → ℕ → List X
-of_home say core n line =
+-- its home's state; none if its home isn't at the node
+abbrev pub home_at : Core → ℕ → ℕ → Option HomeState
+home_at core n line =
     if (nat_lt n core.size.nodes && nat_lt line (lines_of (node_at core n))) && (line % (node_at core n).cache.nodes == (node_at core n).cache.me)
-    then say (home_of (node_at core n) line)
-    else []
+    then Some (home_of (node_at core n) line)
+    else None
+
+-- what is said of a state that is there; nothing of none
+abbrev pub said : {S X : Type 0} → (S → List X) → Option S → List X
+said say None = []
+said say (Some state) = say state

@@ -20,7 +20,7 @@ use Rattle.sci_command.specs.AskedLine.{HasLine, IsAskedFault, is_asked}
 use Rattle.sci_traces.specs.JsonEvent.{json_line}
 use Rattle.sci_traces.specs.Logged.{entry_logged}
 use Rattle.sci_statistics.specs.Beginning.{before}
-use Rattle.sci_traces.specs.Standing.{of_cache, of_home}
+use Rattle.sci_traces.specs.Standing.{cache_at, home_at, said}
 use Rattle.sci_traces.specs.StateWords.{state_text, home_text}
 use Rattle.sci_traces.specs.ObstacleWords.{line_named, obstacle_words}
 
@@ -39,11 +39,11 @@ moved_text done (Some letter) = done ++ letter_line letter
 
 -- the words for the state of a line in a node's cache; none if there is no such node or line
 unfoldable pub cache_text : Core → ℕ → ℕ → List ℕ
-cache_text core n line = of_cache state_text core n line
+cache_text core n line = said state_text (cache_at core n line)
 
 -- the words for the state of a line's home; none if it isn't at this node
 unfoldable pub home_words : Core → ℕ → ℕ → List ℕ
-home_words core n line = of_home home_text core n line
+home_words core n line = said home_text (home_at core n line)
 
 -- the same of a line, if there is one
 abbrev pub cache_on : Core → ℕ → Option ℕ → List ℕ

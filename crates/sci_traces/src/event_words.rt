@@ -6,6 +6,7 @@ ghost use Rattle.sci_core.specs.Core.{step, stepping};
 ghost use Rattle.sci_traces.specs.Logged.{entry_logged, last_entry as last_entry_of};
 ghost use Rattle.sci_traces.specs.TraceAnswer.{arrow_text, cache_label, cache_on, cache_text, change_text, changes_text, entry_text, event_text, home_label, home_on, home_words as home_words_of, moved_text, outcome_of, reason_line, reason_text};
 
+use crate::node_states::{held_at, home_at};
 use crate::obstacle_words::{line_named, push_obstacle};
 use crate::state_words::{push_home, push_state};
 use sci_command::{push_labelled, push_packet};
@@ -23,11 +24,8 @@ fn cache_words(alloc: Global, machine: &Machine, n: u8, line: u8) -> Result<Vec<
     ensures { IfOk result (λ text. text.items ≡ cache_text machine.now n line) }
 {
     let mut text = Vec::new(alloc);
-    if n < machine.extent().nodes {
-        let node = machine.node(n);
-        if line < node.extent().lines {
-            push_state(&mut text, node.held(line))?;
-        }
+    if let Some(held) = held_at(machine, n, line) {
+        push_state(&mut text, held)?;
     }
     Ok(text)
 }
@@ -38,13 +36,8 @@ fn home_words(alloc: Global, machine: &Machine, n: u8, line: u8) -> Result<Vec<u
     ensures { IfOk result (λ text. text.items ≡ home_words_of machine.now n line) }
 {
     let mut text = Vec::new(alloc);
-    if n < machine.extent().nodes {
-        let node = machine.node(n);
-        if line < node.extent().lines {
-            if let Some(home) = node.home(line) {
-                push_home(&mut text, home)?;
-            }
-        }
+    if let Some(home) = home_at(machine, n, line) {
+        push_home(&mut text, home)?;
     }
     Ok(text)
 }

@@ -10,6 +10,7 @@ ghost use Rattle.sci_traces.specs.JsonEvent.{cache_member, cache_name, home_memb
 use crate::event_words::entry_of;
 use crate::json_members::{write_number, write_text, write_truth};
 use crate::json_parts::{write_entry, write_home, write_operation, write_packet, write_state};
+use crate::node_states::{held_at, home_at};
 use json::Writer;
 use sci_core::{Machine, Obstacle, node_of};
 use sci_history::Entry;
@@ -115,16 +116,13 @@ fn write_cache(out: &mut Writer, when: When, at: At<'_>, line: u8) -> Result<(),
     ensures { OnOk result
         (Adds out.old out.new (cache_member (cache_name when) at.entry.machine.now at.entry.node line)) }
 {
-    if at.node < at.machine.extent().nodes {
-        let node = at.machine.node(at.node);
-        if line < node.extent().lines {
-            out.key(cache_name(when))?;
-            out.begin_object()?;
-            write_state(out, node.held(line))?;
-            out.end_object()?;
-        }
-    }
-    Ok(())
+    let Some(held) = held_at(at.machine, at.node, line) else {
+        return Ok(());
+    };
+    out.key(cache_name(when))?;
+    out.begin_object()?;
+    write_state(out, held)?;
+    out.end_object()
 }
 
 /// Writes the state of a line's home, if it is at this node.
@@ -133,18 +131,13 @@ fn write_home_at(out: &mut Writer, when: When, at: At<'_>, line: u8) -> Result<(
     ensures { OnOk result
         (Adds out.old out.new (home_member (home_name when) at.entry.machine.now at.entry.node line)) }
 {
-    if at.node < at.machine.extent().nodes {
-        let node = at.machine.node(at.node);
-        if line < node.extent().lines {
-            if let Some(home) = node.home(line) {
-                out.key(home_name(when))?;
-                out.begin_object()?;
-                write_home(out, home)?;
-                out.end_object()?;
-            }
-        }
-    }
-    Ok(())
+    let Some(home) = home_at(at.machine, at.node, line) else {
+        return Ok(());
+    };
+    out.key(home_name(when))?;
+    out.begin_object()?;
+    write_home(out, home)?;
+    out.end_object()
 }
 
 /// Writes the states of a line at a node, if there is a line.

@@ -9,7 +9,6 @@ ghost use Rattle.sci_traces.specs.JsonParts.{both_members, contents_members, ent
 use crate::json_members::{
     write_flag, write_null, write_number, write_text, write_word, write_words,
 };
-use crate::state_words::{home_name, state_name};
 use json::Writer;
 use sci_cache::Held;
 use sci_history::Entry;
@@ -99,7 +98,7 @@ fn write_version(out: &mut Writer, contents: Option<Stamped>) -> Result<(), Allo
 pub fn write_state(out: &mut Writer, held: &Held) -> Result<(), AllocError>
     ensures { OnOk result (Adds out.old out.new (state_members (state_of held.now))) }
 {
-    write_text(out, "state", state_name(held))?;
+    write_text(out, "state", held.name())?;
     write_node(out, "forward", held.forward())?;
     write_node(out, "backward", held.backward())?;
     write_flag(out, "sent", held.is_sent())?;
@@ -111,7 +110,7 @@ pub fn write_state(out: &mut Writer, held: &Held) -> Result<(), AllocError>
 pub fn write_home(out: &mut Writer, home: &Home) -> Result<(), AllocError>
     ensures { OnOk result (Adds out.old out.new (home_members home.now)) }
 {
-    write_text(out, "state", home_name(home.state()))?;
+    write_text(out, "state", home.state().name())?;
     write_node(out, "head", home.state().head())?;
     write_version(out, home.current())
 }

@@ -6,6 +6,7 @@ mod json_event;
 mod json_members;
 mod json_parts;
 mod listing;
+mod node_states;
 mod obstacle_words;
 mod sending;
 mod state_words;
@@ -13,6 +14,7 @@ mod tracing;
 
 pub use event_words::{LineWords, push_changes, standing};
 pub use listing::lists;
+pub use node_states::{held_at, home_at};
 pub use sending::packets;
-pub use state_words::{home_name, push_node, state_name};
+pub use state_words::push_node;
 pub use tracing::{TraceRequest, trace};

@@ -5,14 +5,14 @@ ghost use Rattle.std.specs.List.{flat_map};
 ghost use Rattle.sci_words.specs.declared.limits.TheConstants.{MAX_TEXT_LINE_BYTES};
 ghost use Rattle.sci_core.specs.Core.{step, stepping};
 ghost use Rattle.sci_statistics.specs.About.{line_changed as line_changed_of};
-ghost use Rattle.sci_text.specs.Tap.{has_failed, is_called_again, tapped};
-ghost use Rattle.sci_command.specs.Answer.{IsAnswered};
+ghost use Rattle.sci_text.specs.Tap.{has_failed};
+ghost use Rattle.sci_command.specs.Answer.{HasAnswered};
 ghost use Rattle.sci_command.specs.declared.outcome.Outcome.{Outcome};
 ghost use Rattle.sci_command.specs.AskedLine.{IsAskedFault};
 ghost use Rattle.sci_statistics.specs.Beginning.{before};
 ghost use Rattle.sci_traces.specs.ListsAnswer.{AreListed, IsListLine, IsListed, IsListsAnswer, authority_text, front_text, home_name_text, last_text, line_within, listed_line as listed_line_of, member_text, name_text, place_text};
 
-use crate::state_words::{home_name, state_name};
+use crate::node_states::{held_at, home_at};
 use sci_command::{Answer, Outcome, is_asked, put_contents, read_asked};
 use sci_core::{ApplyFault, Machine};
 use sci_statistics::line_changed;
@@ -49,13 +49,10 @@ fn listed_line(machine: &Machine, asked: Option<u8>, event: &Event) -> Option<u8
 fn name_at(machine: &Machine, n: u8, line: u8) -> &'static str
     ensures { result.now ≡ name_text machine.now n line }
 {
-    if n < machine.extent().nodes {
-        let node = machine.node(n);
-        if line < node.extent().lines {
-            return state_name(node.held(line));
-        }
+    match held_at(machine, n, line) {
+        None => "",
+        Some(held) => held.name(),
     }
-    ""
 }
 
 /// The name of the state of a line's home: none if it isn't at this node.
@@ -63,15 +60,10 @@ fn name_at(machine: &Machine, n: u8, line: u8) -> &'static str
 fn home_name_at(machine: &Machine, n: u8, line: u8) -> &'static str
     ensures { result.now ≡ home_name_text machine.now n line }
 {
-    if n < machine.extent().nodes {
-        let node = machine.node(n);
-        if line < node.extent().lines {
-            if let Some(home) = node.home(line) {
-                return home_name(home.state());
-            }
-        }
+    match home_at(machine, n, line) {
+        None => "",
+        Some(home) => home.state().name(),
     }
-    ""
 }
 
 /// What stands before the state of a member of a list, if its number is below sixteen.
@@ -277,9 +269,7 @@ pub fn lists<R: Read>(
     reader: &mut Tap<R>,
 ) -> Result<Answer, TextFault>
     requires { has_failed reader.old ≡ false }
-    ensures answered { IsAnswered (IsListsAnswer asked) (IsAskedFault asked)
-        (R.remaining (tapped reader.old)) (has_failed reader.new) result }
-    ensures again { is_called_again reader.new ≡ is_called_again reader.old }
+    ensures { HasAnswered R.remaining reader.old reader.new (IsListsAnswer asked) (IsAskedFault asked) result }
 {
     let schedule = read_asked(alloc, asked, reader)?;
     let text = lists_of(alloc, asked, &schedule)?;

@@ -9,8 +9,8 @@ ghost use Rattle.sci_statistics.specs.About.{letter_sent};
 ghost use Rattle.sci_statistics.specs.Beginning.{before};
 ghost use Rattle.sci_text.specs.FirstFault.{IsTold};
 ghost use Rattle.sci_text.specs.ScheduleFault.{IsScheduleFault};
-ghost use Rattle.sci_text.specs.Tap.{has_failed, is_called_again, tapped};
-ghost use Rattle.sci_command.specs.Answer.{IsAnswered};
+ghost use Rattle.sci_text.specs.Tap.{has_failed};
+ghost use Rattle.sci_command.specs.Answer.{HasAnswered};
 ghost use Rattle.sci_command.specs.declared.outcome.Outcome.{Outcome};
 ghost use Rattle.sci_traces.specs.PacketsAnswer.{AreSpelled, IsPacketsAnswer, letters_sent};
 
@@ -72,9 +72,7 @@ fn packets_of(alloc: Global, schedule: &Schedule) -> Result<Vec<u8>, AllocError>
 /// fails, too long an input and running out of memory, at line 0. After a failed read nothing more is read.
 pub fn packets<R: Read>(alloc: Global, reader: &mut Tap<R>) -> Result<Answer, TextFault>
     requires { has_failed reader.old ≡ false }
-    ensures answered { IsAnswered IsPacketsAnswer (IsTold IsScheduleFault)
-        (R.remaining (tapped reader.old)) (has_failed reader.new) result }
-    ensures again { is_called_again reader.new ≡ is_called_again reader.old }
+    ensures { HasAnswered R.remaining reader.old reader.new IsPacketsAnswer (IsTold IsScheduleFault) result }
 {
     let schedule = read_schedule(alloc, reader)?;
     let text = packets_of(alloc, &schedule)?;

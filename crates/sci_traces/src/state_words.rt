@@ -2,38 +2,15 @@
 
 ghost use Rattle.std.specs.Prelude.{◌≡◌, ◌++◌, OnOk};
 ghost use Rattle.sci_cache.specs.Held.{state_of};
-ghost use Rattle.sci_traces.specs.StateWords.{home_name as home_name_of, home_text, node_text, sent_text, state_name as state_name_of, state_text, version_text};
+ghost use Rattle.sci_traces.specs.StateWords.{home_text, node_text, sent_text, state_text, version_text};
 
 use sci_cache::Held;
 use sci_command::push_labelled;
-use sci_home::{Home, HomeState};
+use sci_home::Home;
 use sci_packets::NodeId;
 use sci_text::{push_number, push_text};
 use sci_words::Stamped;
 use std::alloc::AllocError;
-
-/// The name of a cache's state.
-#[tactic(auto, unfolding(crate::specs::StateWords::state_name))]
-pub fn state_name(held: &Held) -> &'static str
-    ensures { result.now ≡ state_name_of (state_of held.now) }
-{
-    match held {
-        Held::Out(_) => "Out",
-        Held::Asking(_) => "Asking",
-        Held::Joining(_) => "Joining",
-        Held::FreshJoining(_) => "FreshJoining",
-        Held::Head(_) => "Head",
-        Held::FreshHead(_) => "FreshHead",
-        Held::Below(_) => "Below",
-        Held::Purging(_) => "Purging",
-        Held::Claiming(_) => "Claiming",
-        Held::Clearing(_) => "Clearing",
-        Held::Returning(_) => "Returning",
-        Held::Rolling(_) => "Rolling",
-        Held::Telling(_) => "Telling",
-        Held::Fading(_) => "Fading",
-    }
-}
 
 /// Appends a label and a node, if there is one.
 #[tactic(auto, unfolding(crate::specs::StateWords::node_text))]
@@ -78,23 +55,11 @@ fn push_version(out: &mut Vec<u8>, contents: Option<Stamped>) -> Result<(), Allo
 pub fn push_state(out: &mut Vec<u8>, held: &Held) -> Result<(), AllocError>
     ensures { OnOk result (out.new.items ≡ out.old.items ++ state_text (state_of held.now)) }
 {
-    push_text(out, state_name(held))?;
+    push_text(out, held.name())?;
     push_node(out, b" forward", held.forward())?;
     push_node(out, b" backward", held.backward())?;
     push_sent(out, held.is_sent())?;
     push_version(out, held.contents())
-}
-
-/// The name of a home's state.
-#[tactic(auto, unfolding(crate::specs::StateWords::home_name))]
-pub fn home_name(state: HomeState) -> &'static str
-    ensures { result.now ≡ home_name_of state }
-{
-    match state {
-        HomeState::Home(_) => "HOME",
-        HomeState::Fresh { .. } => "FRESH",
-        HomeState::Gone { .. } => "GONE",
-    }
 }
 
 /// Appends a home's state: its name, the head of the line's list, and the version of its contents, as `FRESH head 1 @3`.
@@ -103,7 +68,7 @@ pub fn home_name(state: HomeState) -> &'static str
 pub fn push_home(out: &mut Vec<u8>, home: &Home) -> Result<(), AllocError>
     ensures { OnOk result (out.new.items ≡ out.old.items ++ home_text home.now) }
 {
-    push_text(out, home_name(home.state()))?;
+    push_text(out, home.state().name())?;
     push_node(out, b" head", home.state().head())?;
     push_version(out, home.current())
 }

@@ -1,9 +1,9 @@
 //! The command `trace`: what each event of a schedule does.
 
 ghost use Rattle.std.specs.Prelude.{◌≡◌, ◌++◌, ◌&&◌, not, false, is_some, IfOk, OnOk};
-ghost use Rattle.sci_text.specs.Tap.{has_failed, is_called_again, tapped};
+ghost use Rattle.sci_text.specs.Tap.{has_failed};
 ghost use Rattle.sci_core.specs.Core.{step, stepping};
-ghost use Rattle.sci_command.specs.Answer.{IsAnswered};
+ghost use Rattle.sci_command.specs.Answer.{HasAnswered};
 ghost use Rattle.sci_command.specs.declared.outcome.Outcome.{Outcome};
 ghost use Rattle.sci_command.specs.AskedLine.{IsAskedFault};
 ghost use Rattle.sci_traces.specs.TraceAnswer.{is_traced as is_traced_of, IsTrace, IsTraceAnswer, shown_text};
@@ -115,9 +115,8 @@ pub fn trace<R: Read>(
     reader: &mut Tap<R>,
 ) -> Result<Answer, TextFault>
     requires { has_failed reader.old ≡ false }
-    ensures answered { IsAnswered (IsTraceAnswer request) (IsAskedFault request.line)
-        (R.remaining (tapped reader.old)) (has_failed reader.new) result }
-    ensures again { is_called_again reader.new ≡ is_called_again reader.old }
+    ensures { HasAnswered R.remaining reader.old reader.new
+        (IsTraceAnswer request) (IsAskedFault request.line) result }
 {
     let schedule = read_asked(alloc, request.line, reader)?;
     Ok(traced(alloc, request, &schedule)?)
