@@ -7,7 +7,7 @@ use Rattle.sci_text.specs.declared.fault.TextFaultKind.TheVariants.{Write}
 use Rattle.sci_text.specs.Writing.{IsWriteFault}
 use Rattle.sci_command.specs.Writing.{WritesFront}
 
-front_written : (old new : Option (List ℕ)) (failed : Bool) (text : List ℕ) → IsWriteFault Write old new failed text → WritesFront old new text
+pub front_written : (old new : Option (List ℕ)) (failed : Bool) (text : List ℕ) → IsWriteFault Write old new failed text → WritesFront old new text
 front_written old new failed text fault = record {
   written = take fault.1.0 text;
   rest = drop fault.1.0 text;

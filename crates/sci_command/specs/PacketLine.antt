@@ -29,11 +29,19 @@ said_text (Purged forward) = identifier_text forward
 said_text (Fdata old_head contents) = identifier_text old_head ++ contents_text contents
 said_text _ = []
 
--- `NAME to T from S control K line L`, what the command says, and the line feed
-unfoldable pub line_of_packet : ℕ → ℕ → ℕ → ℕ → Body → List ℕ
-line_of_packet target source control line body =
+-- `NAME to T from S control K line L`
+unfoldable pub head_text : ℕ → ℕ → ℕ → ℕ → Body → List ℕ
+head_text target source control line body =
     command_name (command_of body) ++ (codes " to" ++ (field target
-    ++ (codes " from" ++ (field source ++ (codes " control" ++ (field control ++ (codes " line" ++ (field line ++ (said_text body ++ 10 ∷ [])))))))))
+    ++ (codes " from" ++ (field source ++ (codes " control" ++ (field control ++ (codes " line" ++ field line)))))))
+
+-- what the command says, and the line feed
+unfoldable pub tail_text : Body → List ℕ
+tail_text body = said_text body ++ 10 ∷ []
+
+-- the line: its head, and its tail
+unfoldable pub line_of_packet : ℕ → ℕ → ℕ → ℕ → Body → List ℕ
+line_of_packet target source control line body = head_text target source control line body ++ tail_text body
 
 unfoldable pub packet_line : Packet → List ℕ
 packet_line p = line_of_packet p.target p.source p.control p.line p.body

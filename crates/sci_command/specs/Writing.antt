@@ -13,6 +13,11 @@ pub record WritesFront (old new : Option (List ℕ)) (text : List ℕ) : Type 0 
   pub parts : text ≡ written ++ rest
   pub appended : Appends old new written
 
+-- A front of a text is written, and nothing else. Unless a write has failed, the rest is what waits.
+pub record IsPrinted (old new : Option (List ℕ)) (failed : Bool) (waiting text : List ℕ) : Type 0 where
+  pub front : WritesFront old new text
+  pub waits : failed ≡ false → (written : List ℕ) × Appends old new written × (text ≡ written ++ waiting)
+
 -- An answer is written, and nothing else, and the command ends as it says; if a write fails, a front of it is written, and
 -- the command ends Refused.
 pub record HasWritten (old new : Option (List ℕ)) (failed : Bool) (outcome : Outcome) (is_answer : List ℕ → Outcome → Type 0) : Type 0 where

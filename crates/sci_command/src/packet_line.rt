@@ -4,22 +4,26 @@ ghost use Rattle.std.specs.Prelude.{◌≡◌, ◌≤◌, ◌+◌, ◌++◌, len
 ghost use Rattle.std.specs.List.{flat_map};
 ghost use Rattle.sci_words.specs.declared.limits.TheConstants.{MAX_TEXT_LINE_BYTES};
 ghost use Rattle.sci_text.specs.Number.{field};
-ghost use Rattle.sci_command.specs.PacketLine.{identifier_text, contents_text, said_text, packet_line};
+ghost use Rattle.sci_command.specs.PacketLine.{contents_text, head_text, identifier_text, packet_line, said_text, tail_text};
 
-use crate::printing::push_labelled;
 use sci_packets::{Body, NodeId, Packet};
-use sci_text::{LineEnd, push_text};
+use sci_text::LineEnd;
 use sci_words::{Line, Stamped, WORDS_PER_LINE};
 use std::alloc::AllocError;
 
-/// Appends an identifier, as ` id 3`, or that there is none, as ` id none`. Refused if memory is.
+/// Puts an identifier, as ` id 3`, or that there is none, as ` id none`. Requires that there is room for 24 bytes.
 #[tactic(auto, unfolding(crate::specs::PacketLine::identifier_text))]
-pub fn push_identifier(out: &mut Vec<u8>, identifier: Option<NodeId>) -> Result<(), AllocError>
-    ensures { OnOk result (out.new.items ≡ out.old.items ++ identifier_text identifier) }
+fn put_identifier(end: &mut LineEnd, identifier: Option<NodeId>)
+    requires { 24 + length end.old ≤ MAX_TEXT_LINE_BYTES }
+    ensures text { end.new ≡ identifier_text identifier ++ end.old }
+    ensures short { length end.new ≤ 24 + length end.old }
 {
     match identifier {
-        None => out.extend_from_slice(b" id none"),
-        Some(id) => push_labelled(out, b" id", u64::from(id.get())),
+        None => end.put_text(" id none"),
+        Some(id) => {
+            end.put_field(u64::from(id.get()));
+            end.put_text(" id");
+        }
     }
 }
 
@@ -57,39 +61,63 @@ pub fn push_contents(out: &mut Vec<u8>, contents: &Stamped) -> Result<(), AllocE
     out.extend_from_slice(end.as_slice())
 }
 
-/// Appends what a command says behind its header.
+/// Puts what a command says behind its header. Requires that there is room for 214 bytes.
 #[tactic(auto, unfolding(crate::specs::PacketLine::said_text))]
-fn push_said(out: &mut Vec<u8>, body: &Body) -> Result<(), AllocError>
-    ensures { OnOk result (out.new.items ≡ out.old.items ++ said_text body.now) }
+fn put_said(end: &mut LineEnd, body: &Body)
+    requires { 214 + length end.old ≤ MAX_TEXT_LINE_BYTES }
+    ensures { end.new ≡ said_text body.now ++ end.old }
 {
     match body {
-        Body::Roll { forward } | Body::Purged { forward } => push_identifier(out, *forward),
-        Body::Setback { backward } => push_identifier(out, Some(*backward)),
-        Body::Mgone { old_head } => push_identifier(out, Some(*old_head)),
+        Body::Roll { forward } | Body::Purged { forward } => put_identifier(end, *forward),
+        Body::Setback { backward } => put_identifier(end, Some(*backward)),
+        Body::Mgone { old_head } => put_identifier(end, Some(*old_head)),
         Body::Wback(contents) | Body::Mdata(contents) | Body::Cdata(contents) => {
-            push_contents(out, contents)
+            put_contents(end, contents);
         }
         Body::Fdata { old_head, contents } => {
-            push_identifier(out, *old_head)?;
-            push_contents(out, contents)
+            put_contents(end, contents);
+            put_identifier(end, *old_head);
         }
-        _ => Ok(()),
+        _ => {}
     }
 }
 
-/// Appends the line of a packet: `NAME to T from S control K line L`, then ` id I` or ` id none` if the command uses its
-/// identifier, ` @V w0 w1 w2 w3 w4 w5 w6 w7` if it carries contents, and the line feed, all in decimal. Refused if memory
-/// is.
+/// What the line of a packet begins with: `NAME to T from S control K line L`, all in decimal.
+#[tactic(auto, unfolding(crate::specs::PacketLine::head_text), using(crate::proofs::Names::name_short))]
+pub fn packet_head(packet: &Packet) -> LineEnd
+    ensures { result ≡ head_text packet.now.target packet.now.source packet.now.control
+        packet.now.line packet.now.body }
+{
+    let mut head = LineEnd::new();
+    head.put_field(packet.line);
+    head.put_text(" line");
+    head.put_field(u64::from(packet.control));
+    head.put_text(" control");
+    head.put_field(u64::from(packet.source.get()));
+    head.put_text(" from");
+    head.put_field(u64::from(packet.target.get()));
+    head.put_text(" to");
+    head.put_text(packet.body.command().name());
+    head
+}
+
+/// What the line of a packet ends with: ` id I` or ` id none` if the command uses its identifier, ` @V w0 w1 w2 w3 w4 w5 w6
+/// w7` if it carries contents, and the line feed, all in decimal.
+#[tactic(auto, unfolding(crate::specs::PacketLine::tail_text))]
+pub fn packet_tail(packet: &Packet) -> LineEnd
+    ensures { result ≡ tail_text packet.now.body }
+{
+    let mut tail = LineEnd::new();
+    tail.put_text("\n");
+    put_said(&mut tail, &packet.body);
+    tail
+}
+
+/// Appends the line of a packet: its head, and its tail. Refused if memory is.
 #[tactic(auto, unfolding(crate::specs::PacketLine::packet_line, crate::specs::PacketLine::line_of_packet))]
 pub fn push_packet(out: &mut Vec<u8>, packet: &Packet) -> Result<(), AllocError>
     ensures { OnOk result (out.new.items ≡ out.old.items ++ packet_line packet.now) }
 {
-    push_text(out, packet.body.command().name())?;
-    push_labelled(out, b" to", u64::from(packet.target.get()))?;
-    push_labelled(out, b" from", u64::from(packet.source.get()))?;
-    push_labelled(out, b" control", u64::from(packet.control))?;
-    push_labelled(out, b" line", packet.line)?;
-    push_said(out, &packet.body)?;
-    out.push(b'\n')?;
-    Ok(())
+    out.extend_from_slice(packet_head(packet).as_slice())?;
+    out.extend_from_slice(packet_tail(packet).as_slice())
 }

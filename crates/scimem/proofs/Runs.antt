@@ -9,7 +9,7 @@ use Rattle.std.proofs.lemmas.List.Elements.{All-append, All-cons, All-nil}
 use Rattle.sci_packets.specs.declared.packet.Packet.{Packet}
 use Rattle.sci_packets.specs.Fields.{field, spelled}
 use Rattle.sci_packets.specs.Spelling.{IsPacket, Spells, spelling}
-use Rattle.sci_command.specs.PacketLine.{packet_line}
+use Rattle.sci_command.specs.PacketLine.{head_text, line_of_packet, packet_line, tail_text}
 use Rattle.scimem.specs.Decoding.{PacketsThen, spellings, packet_lines}
 
 -- the text has the lines of the packets that the input begins with, and the rest follows them
@@ -54,3 +54,9 @@ within input rest text r = omega (arith, length-append (spellings r.packets) res
 -- what is left from a place is all that follows it
 pub whole_rest : {A : Type 0} (n : ℕ) (l : List A) → take (length l - n) (drop n l) ≡ drop n l
 whole_rest n l = ap (λ (k : ℕ). take k (drop n l)) (sym (length-drop n l)) ∙ take-length (drop n l)
+
+-- the line of a packet, in two pieces
+pub line_parts : (text head tail : List ℕ) (p : Packet) → head ≡ head_text p.target p.source p.control p.line p.body → tail ≡ tail_text p.body
+    → (text ++ head) ++ tail ≡ text ++ packet_line p
+unfolding packet_line line_of_packet
+line_parts text head tail p h t = rw (h, t) (append_assoc text (head_text p.target p.source p.control p.line p.body) (tail_text p.body))

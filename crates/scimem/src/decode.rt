@@ -1,43 +1,44 @@
 //! The command `decode`: a line for each packet.
 
-ghost use Rattle.std.specs.Prelude.{◌≡◌, ◌++◌, false, OnOk, IfOk, IfErr};
+ghost use Rattle.std.specs.Prelude.{◌≡◌, ◌≤◌, ℕ, List, [], false, length};
 ghost use Rattle.sci_text.specs.Tap.{has_failed, is_called_again, tapped};
 ghost use Rattle.sci_command.specs.declared.outcome.Outcome.{Outcome};
-ghost use Rattle.sci_command.specs.Input.{IsReadAs};
-ghost use Rattle.sci_command.specs.Writing.{HasCarriedOut};
-ghost use Rattle.sci_text.specs.FirstFault.{IsInputFault};
+ghost use Rattle.sci_command.specs.Writing.{HasCarriedOut, IsPrinted};
 ghost use Rattle.scimem.specs.Decoding.{IsDecoded, IsAnswer, refusal, fault_word};
 ghost use Rattle.sci_command.specs.Refusal.{kind_word};
 
-use sci_command::{Answer, Outcome, push_labelled, push_packet, write_answer};
+use sci_command::{Outcome, packet_head, packet_tail, print_end, print_piece, write_answer};
 use sci_packets::{PacketFault, decode};
-use sci_text::{Tap, TextFault, TextFaultKind, read_input};
-use std::alloc::{AllocError, Global};
+use sci_text::{LineEnd, Tap, TextFaultKind, read_input};
+use std::alloc::Global;
 use std::io::{Read, Write};
 
 /// The word for what is wrong with a packet.
 #[tactic(auto, unfolding(crate::specs::Decoding::fault_word))]
-fn word_of(fault: PacketFault) -> &'static [u8]
-    ensures { result.now ≡ fault_word fault }
+fn word_of(fault: PacketFault) -> &'static str
+    ensures word { result.now ≡ fault_word fault }
+    ensures short { length result.now ≤ 16 }
 {
     match fault {
-        PacketFault::Short => b"short",
-        PacketFault::UnknownCommand => b"unknown-command",
-        PacketFault::BadOffset => b"bad-offset",
-        PacketFault::BadIdentifier => b"bad-identifier",
+        PacketFault::Short => "short",
+        PacketFault::UnknownCommand => "unknown-command",
+        PacketFault::BadOffset => "bad-offset",
+        PacketFault::BadIdentifier => "bad-identifier",
     }
 }
 
-/// Writes the refusal of a packet that begins at `place`.
+/// The refusal of a packet that begins at `place`.
 #[tactic(auto, unfolding(crate::specs::Decoding::refusal))]
-fn push_refusal(out: &mut Vec<u8>, place: u64, fault: PacketFault) -> Result<(), AllocError>
-    ensures { OnOk result (out.new.items ≡ out.old.items ++ refusal place (fault_word fault)) }
+fn refusal_of(place: u64, fault: PacketFault) -> LineEnd
+    ensures { result ≡ refusal place (fault_word fault) }
 {
-    push_labelled(out, b"refused at byte", place)?;
-    out.extend_from_slice(b": ")?;
-    out.extend_from_slice(word_of(fault))?;
-    out.push(b'\n')?;
-    Ok(())
+    let mut line = LineEnd::new();
+    line.put_text("\n");
+    line.put_text(word_of(fault));
+    line.put_text(": ");
+    line.put_field(place);
+    line.put_text("refused at byte");
+    line
 }
 
 /// The refusal of an input that couldn't be read.
@@ -55,45 +56,31 @@ fn input_refusal(kind: TextFaultKind) -> &'static [u8]
     }
 }
 
-/// The answer to bytes.
-fn answer_to(alloc: Global, input: &[u8]) -> Result<Answer, AllocError>
-    ensures { IfOk result (λ answer. IsDecoded input.now answer.text.items answer.outcome) }
+/// Prints the lines of the packets that the bytes are, and then the refusal of what is no packet; and tells how the command
+/// ends, if no write fails. A part of the text may wait then. Requires that nothing waits before.
+fn print_packets<W: Write>(writer: &mut Tap<W>, waiting: &mut Vec<u8>, input: &[u8]) -> Outcome
+    requires { waiting.old.items ≡ [] }
+    ensures printed { (text : List ℕ) × IsDecoded input.now text result
+        × IsPrinted (W.contents (tapped writer.old)) (W.contents (tapped writer.new))
+        (has_failed writer.new) waiting.new.items text }
+    ensures again { is_called_again writer.new ≡ is_called_again writer.old }
 {
-    let mut text = Vec::new(alloc);
     let mut rest = input;
     while !rest.is_empty() {
         match decode(rest) {
             Ok((packet, len)) => {
-                push_packet(&mut text, &packet)?;
+                print_piece(writer, waiting, packet_head(&packet).as_slice());
+                print_piece(writer, waiting, packet_tail(&packet).as_slice());
                 rest = &rest[len..];
             }
             Err(fault) => {
-                push_refusal(&mut text, (input.len() - rest.len()) as u64, fault)?;
-                return Ok(Answer {
-                    text,
-                    outcome: Outcome::Refused,
-                });
+                let place = (input.len() - rest.len()) as u64;
+                print_piece(writer, waiting, refusal_of(place, fault).as_slice());
+                return Outcome::Refused;
             }
         }
     }
-    Ok(Answer {
-        text,
-        outcome: Outcome::Done,
-    })
-}
-
-/// The answer to the input that the reader gives, read to its end.
-fn answer<R: Read>(alloc: Global, reader: &mut Tap<R>) -> Result<Answer, TextFault>
-    requires { has_failed reader.old ≡ false }
-    ensures answer { IfOk result (λ answer.
-        IsReadAs (R.remaining (tapped reader.old)) (has_failed reader.new)
-        (λ bytes. IsDecoded bytes answer.text.items answer.outcome)) }
-    ensures fault { IfErr result (λ fault.
-        IsInputFault fault.kind (R.remaining (tapped reader.old)) (has_failed reader.new)) }
-    ensures again { is_called_again reader.new ≡ is_called_again reader.old }
-{
-    let input = read_input(alloc, reader)?;
-    Ok(answer_to(alloc, &input)?)
+    Outcome::Done
 }
 
 /// Reads the input to its end, and writes a line for each packet: `NAME to T from S control K line L`, then
@@ -102,9 +89,9 @@ fn answer<R: Read>(alloc: Global, reader: &mut Tap<R>) -> Result<Answer, TextFau
 ///
 /// Refused, with one more line: `refused at byte K: KIND` at the first byte of what is no packet, and KIND is
 /// `short`, `unknown-command`, `bad-offset` or `bad-identifier`; and, with no line before it, `refused at byte 0:
-/// KIND` if a read fails (`read`), for an input of more than 134,217,728 bytes (`too-many`), and if an allocation
-/// fails (`memory`). After a failed read or write nothing more is read or written; after a failed write it is
-/// Refused.
+/// KIND` if a read fails (`read`), for an input of more than 134,217,728 bytes (`too-many`), and if there is no memory for
+/// the input (`memory`). The lines take no memory that could be refused, so they are written as they are made. After a failed
+/// read or write nothing more is read or written; after a failed write it is Refused.
 pub fn decode_bytes<R: Read, W: Write>(
     alloc: Global,
     reader: &mut Tap<R>,
@@ -115,8 +102,12 @@ pub fn decode_bytes<R: Read, W: Write>(
     ensures { HasCarriedOut R.remaining W.contents reader.old reader.new writer.old writer.new
         result IsAnswer }
 {
-    match answer(alloc, reader) {
-        Ok(answer) => write_answer(writer, &answer.text, answer.outcome),
+    match read_input(alloc, reader) {
+        Ok(input) => {
+            let mut waiting = Vec::new(alloc);
+            let outcome = print_packets(writer, &mut waiting, &input);
+            print_end(writer, &waiting, outcome)
+        }
         Err(fault) => write_answer(writer, input_refusal(fault.kind), Outcome::Refused),
     }
 }

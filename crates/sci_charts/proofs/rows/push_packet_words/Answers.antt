@@ -1,20 +1,16 @@
-use Rattle.std.proofs.Common.{◌≡◌, ◌-◌, ℕ, List, [], ◌∷◌, ◌++◌, take, codes, append_assoc, sym, ap, ◌∙◌}
+use Rattle.std.proofs.Common.{◌≡◌, ◌-◌, ℕ, List, [], ◌∷◌, ◌++◌, take, append_assoc, sym, ap, ◌∙◌}
 use Rattle.sci_packets.specs.declared.packet.Packet.{Packet}
-use Rattle.sci_packets.specs.Table.{command_name, command_of}
-use Rattle.sci_text.specs.Number.{field}
-use Rattle.sci_command.specs.PacketLine.{line_of_packet, packet_line, said_text}
+use Rattle.sci_command.specs.PacketLine.{head_text, line_of_packet, packet_line, said_text, tail_text}
 use Rattle.sci_charts.proofs.Ended.{without_last}
 use Rattle.sci_charts.proofs.rows.push_packet_words.Goals as goal
 
 -- what stands in front of the line feed
 words_of : Packet → List ℕ
-words_of p =
-    command_name (command_of p.body) ++ (codes " to" ++ (field p.target
-    ++ (codes " from" ++ (field p.source ++ (codes " control" ++ (field p.control ++ (codes " line" ++ (field p.line ++ said_text p.body))))))))
+words_of p = head_text p.target p.source p.control p.line p.body ++ said_text p.body
 
 line_of : (p : Packet) → packet_line p ≡ words_of p ++ 10 ∷ []
-unfolding packet_line line_of_packet words_of
-line_of p = sym (simp append_assoc)
+unfolding packet_line line_of_packet tail_text words_of
+line_of p = sym (append_assoc (head_text p.target p.source p.control p.line p.body) (said_text p.body) (10 ∷ []))
 
 pub returns : goal.returns
 returns c =

@@ -1,6 +1,7 @@
+use Rattle.std.proofs.Common.{inl, ◌∙◌}
 use Rattle.sci_text.specs.Tap.{tapped, has_failed}
-use Rattle.std.proofs.Common.{inl}
 use Rattle.sci_command.specs.declared.outcome.Outcome.TheVariants.{Refused}
+use Rattle.sci_command.specs.Writing.{IsPrinted}
 use Rattle.sci_command.proofs.Finished.{written_text}
 use Rattle.scimem.specs.Decoding.{IsAnswer}
 use Rattle.scimem.proofs.Answered.{refused}
@@ -9,22 +10,30 @@ use Rattle.scimem.proofs.decode.decode_bytes.Goals as goal
 pub returns-in-Ok : goal.returns-in-Ok
 returns-in-Ok g c =
     let known = g.R.Read.remaining (tapped c.args.reader.now) in
-    let unread = has_failed c.answer.new.reader in
-    let written = c.write_answer.ensures in record {
-      answers = written_text (IsAnswer known unread) c.deref.result.now c.in-Ok.answer.outcome (rw c.deref.ensures.value (inl c.in-Ok.ensures.answer)) _ _ _ _
-          written.front written.whole written.unfailed written.failed;
-      read_no_more = c.answer.ensures.again;
-      wrote_no_more = written.again;
+    let unread = has_failed c.read_input.new.reader in
+    let start = g.W.Write.contents (tapped c.args.writer.now) in
+    let printed = c.print_packets-outcome.ensures.printed in
+    let text = printed.0 in
+    let ended = c.print_end.ensures in
+    let decoded = rw c.deref.ensures.value at printed.1 in
+    let mid = c.print_packets-outcome.new.writer in
+    let waits : IsPrinted start (g.W.Write.contents (tapped mid)) (has_failed mid) c.deref-in-Ok.result.now text = rw c.deref-in-Ok.ensures.value printed.2 in
+    record {
+      answers = written_text (IsAnswer known unread) text c.print_packets-outcome.result
+          (inl (c.in-Ok.ensures.unfailed, (c.in-Ok.input.items, c.in-Ok.ensures.read, decoded))) _ _ _ _ (ended.front start text waits)
+          (ended.whole start text waits) ended.unfailed ended.failed;
+      read_no_more = c.read_input.ensures.again;
+      wrote_no_more = ended.again ∙ c.print_packets-outcome.ensures.again;
     }
 
 pub returns-in-Err : goal.returns-in-Err
 returns-in-Err g c =
     let known = g.R.Read.remaining (tapped c.args.reader.now) in
-    let unread = has_failed c.answer.new.reader in
-    let written = c.write_answer-in-Err.ensures in record {
+    let unread = has_failed c.read_input.new.reader in
+    let written = c.write_answer.ensures in record {
       answers = written_text (IsAnswer known unread) c.input_refusal.result.now Refused
           (rw c.input_refusal.ensures (refused known unread c.in-Err.fault.kind c.in-Err.ensures.fault)) _ _ _ _ written.front written.whole
           written.unfailed written.failed;
-      read_no_more = c.answer.ensures.again;
+      read_no_more = c.read_input.ensures.again;
       wrote_no_more = written.again;
     }
