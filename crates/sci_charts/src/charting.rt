@@ -1,8 +1,8 @@
 //! The command `chart`: a message sequence chart of a schedule.
 
 ghost use Rattle.std.specs.Prelude.{◌≡◌, ◌&&◌, false, IfOk};
-ghost use Rattle.sci_text.specs.Tap.{has_failed, is_called_again, tapped};
-ghost use Rattle.sci_command.specs.Answer.{IsAnswered};
+ghost use Rattle.sci_text.specs.Tap.{has_failed};
+ghost use Rattle.sci_command.specs.Answer.{HasAnswered};
 ghost use Rattle.sci_command.specs.declared.outcome.Outcome.{Outcome};
 ghost use Rattle.sci_charts.specs.ChartAnswer.{IsChart, IsChartAnswer};
 ghost use Rattle.sci_command.specs.AskedLine.{IsAskedFault, is_asked};
@@ -98,9 +98,8 @@ pub fn chart<R: Read>(
     reader: &mut Tap<R>,
 ) -> Result<Answer, TextFault>
     requires { has_failed reader.old ≡ false }
-    ensures answered { IsAnswered (IsChartAnswer request) (IsAskedFault request.line)
-        (R.remaining (tapped reader.old)) (has_failed reader.new) result }
-    ensures again { is_called_again reader.new ≡ is_called_again reader.old }
+    ensures { HasAnswered R.remaining reader.old reader.new
+        (IsChartAnswer request) (IsAskedFault request.line) result }
 {
     let schedule = read_asked(alloc, request.line, reader)?;
     let text = chart_of(alloc, &schedule, request)?;

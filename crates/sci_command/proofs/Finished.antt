@@ -1,16 +1,18 @@
 -- What is written of a command's answer is an answer to its input.
-use Rattle.std.proofs.Common.{◌≡◌, ℕ, List, Bool, false, true, Option, None, Result, Ok, Err}
+use Rattle.std.proofs.Common.{◌≡◌, ℕ, List, Bool, false, true, Option, Result, Ok, Err}
 use Rattle.std.specs.Prelude.{IfOk, IfErr}
 use Rattle.std.specs.Io.KnownBytes.{Appends}
 use Rattle.sci_text.specs.declared.fault.TextFault.{TextFault}
+use Rattle.sci_text.specs.declared.tap.Tap.{Tap}
+use Rattle.sci_text.specs.Tap.{has_failed, is_called_again, tapped}
 use Rattle.sci_command.specs.declared.answer.Answer.{Answer}
 use Rattle.sci_command.specs.declared.outcome.Outcome.{Outcome}
 use Rattle.sci_command.specs.declared.outcome.Outcome.TheVariants.{Refused}
-use Rattle.sci_command.specs.Answer.{IsAnswered, IsWrittenOf}
+use Rattle.sci_command.specs.Answer.{HasAnswered, IsAnswered, IsWrittenOf}
 use Rattle.sci_text.specs.declared.fault.TextFaultKind.{TextFaultKind}
 use Rattle.sci_command.proofs.Refusals.{AllowsMemory, refused_by}
 use Rattle.sci_command.specs.Refusal.{Refuses, IsRefusalBy}
-use Rattle.sci_command.specs.Writing.{HasWritten, WritesFront}
+use Rattle.sci_command.specs.Writing.{HasCarriedOut, HasWritten, WritesFront}
 
 -- a text that was written, or a front of it, is an answer if the text is
 pub written_text : (is_answer : List ℕ → Outcome → Type 0) (text : List ℕ) (outcome : Outcome) → is_answer text outcome
@@ -45,21 +47,31 @@ finished is_answer is_told {known} {unread} result refused answered {outcome = o
       refused = written.refused;
     }
 
--- the same where an answer is Refused if it is the refusal of a fault that is told
-pub finished_by : (is_answer : Option (List ℕ) → Bool → List ℕ → Outcome → Type 0) (is_told : TextFaultKind → Option (List ℕ) → Bool → ℕ → Type 0)
-    {known : Option (List ℕ)} {unread : Bool} (result : Result Answer TextFault)
+-- the same of a command whose answer is Refused if it is the refusal of a fault that is told
+pub carried_out : {R W : Type 0} {remaining : R → Option (List ℕ)} {contents : W → Option (List ℕ)} {reader read : Tap R} {writer written : Tap W}
+    {outcome : Outcome} (is_answer : Option (List ℕ) → Bool → List ℕ → Outcome → Type 0) (is_told : TextFaultKind → Option (List ℕ) → Bool → ℕ → Type 0)
+    (result : Result Answer TextFault)
     → ((input : Option (List ℕ)) (failed : Bool) → AllowsMemory (λ kind line. is_told kind input failed line))
-    → ((text : List ℕ) → IsRefusalBy (λ kind line. is_told kind known unread line) text → is_answer known unread text Refused)
-    → IsAnswered is_answer is_told known unread result
-    → {old new : Option (List ℕ)} {failed : Bool} {outcome : Outcome} → HasWritten old new failed outcome (IsWrittenOf result)
-    → HasWritten old new failed outcome (is_answer known unread)
-finished_by is_answer is_told {known} {unread} result memory refused =
-    finished is_answer is_told result
-    (λ fault text told refuses. refused text (refused_by (λ kind line. is_told kind known unread line) (memory known unread) fault text told refuses))
+    → ((text : List ℕ) → IsRefusalBy (λ kind line. is_told kind (remaining (tapped reader)) (has_failed read) line) text
+    → is_answer (remaining (tapped reader)) (has_failed read) text Refused)
+    → HasAnswered remaining reader read is_answer is_told result
+    → HasWritten (contents (tapped writer)) (contents (tapped written)) (has_failed written) outcome (IsWrittenOf result)
+    → is_called_again written ≡ is_called_again writer
+    → HasCarriedOut remaining contents reader read writer written outcome is_answer
+carried_out {remaining = remaining} {reader = reader} {read} is_answer is_told result memory refused answered whole wrote_no_more =
+    let known = remaining (tapped reader) in
+    let unread = has_failed read in record {
+      answers = finished is_answer is_told result
+          (λ fault text told refuses. refused text (refused_by (λ kind line. is_told kind known unread line) (memory known unread) fault text told refuses))
+          answered.0 whole;
+      read_no_more = answered.1;
+      wrote_no_more = wrote_no_more;
+    }
 
 -- an answer that is right, or a fault that is told, of a command that reads nothing
-pub answered_by : (is_answer : List ℕ → Outcome → Type 0) (is_told : TextFaultKind → ℕ → Type 0) (result : Result Answer TextFault)
-    → IfOk result (λ answer. is_answer answer.text.items answer.outcome) → IfErr result (λ fault. is_told fault.kind fault.line)
-    → IsAnswered (λ known unread. is_answer) (λ kind known unread. is_told kind) None false result
-answered_by is_answer is_told (Ok answer) ok err = ok
-answered_by is_answer is_told (Err fault) ok err = err
+pub answered_by : (is_answer : List ℕ → Outcome → Type 0) (is_told : TextFaultKind → ℕ → Type 0) (known : Option (List ℕ)) (unread : Bool)
+    (result : Result Answer TextFault) → IfOk result (λ answer. is_answer answer.text.items answer.outcome)
+    → IfErr result (λ fault. is_told fault.kind fault.line)
+    → IsAnswered (λ input failed. is_answer) (λ kind input failed. is_told kind) known unread result
+answered_by is_answer is_told known unread (Ok answer) ok err = ok
+answered_by is_answer is_told known unread (Err fault) ok err = err

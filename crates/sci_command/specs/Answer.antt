@@ -2,6 +2,8 @@
 use Rattle.std.specs.Prelude.{◌≡◌, ℕ, Bool, List, Option, Result, Ok, Err}
 use Rattle.sci_text.specs.declared.fault.TextFault.{TextFault}
 use Rattle.sci_text.specs.declared.fault.TextFaultKind.{TextFaultKind}
+use Rattle.sci_text.specs.declared.tap.Tap.{Tap}
+use Rattle.sci_text.specs.Tap.{has_failed, is_called_again, tapped}
 use Rattle.sci_command.specs.declared.answer.Answer.{Answer}
 use Rattle.sci_command.specs.declared.outcome.Outcome.{Outcome}
 use Rattle.sci_command.specs.declared.outcome.Outcome.TheVariants.{Done, Unlawful, Refused}
@@ -33,3 +35,9 @@ abbrev pub IsAnswered : (Option (List ℕ) → Bool → List ℕ → Outcome →
     → Result Answer TextFault → Type 0
 IsAnswered is_answer is_told known failed (Ok answer) = is_answer known failed answer.text.items answer.outcome
 IsAnswered is_answer is_told known failed (Err fault) = is_told fault.kind known failed fault.line
+
+-- a command has answered what its reader had, and has read nothing more after a read that failed; `read` is the reader after it
+abbrev pub HasAnswered : {R : Type 0} → (R → Option (List ℕ)) → Tap R → Tap R → (Option (List ℕ) → Bool → List ℕ → Outcome → Type 0)
+    → (TextFaultKind → Option (List ℕ) → Bool → ℕ → Type 0) → Result Answer TextFault → Type 0
+HasAnswered remaining reader read is_answer is_told result =
+    IsAnswered is_answer is_told (remaining (tapped reader)) (has_failed read) result × (is_called_again read ≡ is_called_again reader)

@@ -204,14 +204,6 @@ refused_whole known failed fault text why (inr m) = absurd (omega (arith, why.0,
 
 -- ---- counting entries
 
--- the entries of one node more
-pub count_next : (logs : List (List Entry)) (node : ℕ) → node < length logs
-    → entry_count (take (node + 1) logs) ≡ entry_count (take node logs) + length (log_of logs node)
-count_next logs node lt =
-    let next : node + 1 ≡ suc node = omega arith in
-    rw (next, take-suc logs node [] lt, flat_map-append (λ (log : List Entry). log) (take node logs) (log_of logs node ∷ []), append-nil (log_of logs node))
-    (length-append (flat_map (λ (log : List Entry). log) (take node logs)) (log_of logs node))
-
 pub count_all : (logs : List (List Entry)) (nodes : ℕ) → nodes ≡ length logs → entry_count (take nodes logs) ≡ entry_count logs
 count_all logs nodes is = ap entry_count (take_all nodes logs (omega (arith, is)))
 

@@ -78,7 +78,3 @@ log_more line before first logs n old new lt counted was is =
     ∙ (ap (λ (l : List (ℕ × Entry)). l ++ on_line_from line first (log_of logs n)) was
     ∙ (ap (λ (k : ℕ). on_line_from line (before + 1) so_far ++ on_line_from line k (log_of logs n)) place
     ∙ (sym (on_line_append line (before + 1) so_far (log_of logs n)) ∙ ap (on_line_from line (before + 1)) (sym all))))
-
-pub logs_all : (line before : ℕ) (logs : List (List Entry)) (n : ℕ) (list : List (ℕ × Entry)) → length logs ≤ n
-    → list ≡ numbered_on line before (take n logs) → list ≡ numbered_on line before logs
-logs_all line before logs n list past was = was ∙ ap (numbered_on line before) (take_all n logs past)

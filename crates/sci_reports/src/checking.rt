@@ -5,8 +5,8 @@ ghost use Rattle.sci_text.specs.declared.fault.TextFaultKind.TheVariants.{Memory
 ghost use Rattle.sci_text.specs.LogFault.{IsLogFault};
 ghost use Rattle.sci_text.specs.ScheduleFault.{IsScheduleFault};
 ghost use Rattle.sci_text.specs.ScriptFault.{IsScriptFault};
-ghost use Rattle.sci_text.specs.Tap.{has_failed, is_called_again, tapped};
-ghost use Rattle.sci_command.specs.Answer.{IsAnswered};
+ghost use Rattle.sci_text.specs.Tap.{has_failed};
+ghost use Rattle.sci_command.specs.Answer.{HasAnswered};
 ghost use Rattle.sci_command.specs.declared.outcome.Outcome.{Outcome};
 ghost use Rattle.sci_command.specs.Refusal.{line_refusal};
 ghost use Rattle.sci_reports.specs.CheckAnswer.{IsCheckAnswer, IsCheckFault, IsLastFault, IsLogText, IsNoLater, IsScheduleText, IsScriptText, counted, depth as depth_of, log_size, schedule_size, script_size, size_text};
@@ -306,9 +306,7 @@ fn checked(alloc: Global, text: &[u8]) -> Result<Answer, TextFault>
 /// more is read.
 pub fn check<R: Read>(alloc: Global, reader: &mut Tap<R>) -> Result<Answer, TextFault>
     requires { has_failed reader.old ≡ false }
-    ensures answered { IsAnswered IsCheckAnswer IsCheckFault
-        (R.remaining (tapped reader.old)) (has_failed reader.new) result }
-    ensures again { is_called_again reader.new ≡ is_called_again reader.old }
+    ensures { HasAnswered R.remaining reader.old reader.new IsCheckAnswer IsCheckFault result }
 {
     let bytes = read_input(alloc, reader)?;
     checked(alloc, &bytes)

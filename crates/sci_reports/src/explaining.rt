@@ -7,8 +7,8 @@ ghost use Rattle.sci_history.specs.Audit.{AreFound, AreWithin};
 ghost use Rattle.sci_history.specs.Placed.{log_of};
 ghost use Rattle.sci_text.specs.FirstFault.{IsTold};
 ghost use Rattle.sci_text.specs.LogFault.{IsLogFault};
-ghost use Rattle.sci_text.specs.Tap.{has_failed, is_called_again, tapped};
-ghost use Rattle.sci_command.specs.Answer.{IsAnswered};
+ghost use Rattle.sci_text.specs.Tap.{has_failed};
+ghost use Rattle.sci_command.specs.Answer.{HasAnswered};
 ghost use Rattle.sci_command.specs.declared.outcome.Outcome.{Outcome};
 ghost use Rattle.sci_reports.specs.ExplainAnswer.{AreNotes, IsExplainAnswer, IsExplained, IsNote};
 ghost use Rattle.sci_reports.specs.Subject.{IsSubject};
@@ -113,9 +113,7 @@ fn explained(alloc: Global, before: usize, logs: &Logs, last: &Last) -> Result<A
 /// After a failed read nothing more is read.
 pub fn explain<R: Read>(alloc: Global, reader: &mut Tap<R>) -> Result<Answer, TextFault>
     requires { has_failed reader.old ≡ false }
-    ensures answered { IsAnswered IsExplainAnswer (IsTold IsLogFault)
-        (R.remaining (tapped reader.old)) (has_failed reader.new) result }
-    ensures again { is_called_again reader.new ≡ is_called_again reader.old }
+    ensures { HasAnswered R.remaining reader.old reader.new IsExplainAnswer (IsTold IsLogFault) result }
 {
     let bytes = read_input(alloc, reader)?;
     let (_, logs, last) = logs_of(alloc, &bytes)?;

@@ -10,8 +10,8 @@ ghost use Rattle.sci_history.specs.Placed.{log_of};
 ghost use Rattle.sci_text.specs.FirstFault.{IsTold};
 ghost use Rattle.sci_text.specs.Log.{entry_line};
 ghost use Rattle.sci_text.specs.LogFault.{IsLogFault};
-ghost use Rattle.sci_text.specs.Tap.{has_failed, is_called_again, tapped};
-ghost use Rattle.sci_command.specs.Answer.{IsAnswered};
+ghost use Rattle.sci_text.specs.Tap.{has_failed};
+ghost use Rattle.sci_command.specs.Answer.{HasAnswered};
 ghost use Rattle.sci_command.specs.declared.outcome.Outcome.{Outcome};
 ghost use Rattle.sci_reports.specs.OrderAnswer.{IsFound, AreNumbered, IsOrderAnswer, IsOrderText, cycle_text as cycle_text_of, found_text as found_text_of, order_name as order_name_of, place_text, reason_text, sense_text, shown_text, step_text, why_text};
 
@@ -333,9 +333,7 @@ pub fn order<R: Read>(
     reader: &mut Tap<R>,
 ) -> Result<Answer, TextFault>
     requires { has_failed reader.old ≡ false }
-    ensures answered { IsAnswered (IsOrderAnswer request) (IsTold IsLogFault)
-        (R.remaining (tapped reader.old)) (has_failed reader.new) result }
-    ensures again { is_called_again reader.new ≡ is_called_again reader.old }
+    ensures { HasAnswered R.remaining reader.old reader.new (IsOrderAnswer request) (IsTold IsLogFault) result }
 {
     let bytes = read_input(alloc, reader)?;
     let (_, logs, last) = logs_of(alloc, &bytes)?;

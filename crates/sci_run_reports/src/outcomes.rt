@@ -2,8 +2,8 @@
 
 ghost use Rattle.std.specs.Prelude.{◌≡◌, ◌++◌, false, IfOk, OnOk};
 ghost use Rattle.std.specs.List.{flat_map};
-ghost use Rattle.sci_text.specs.Tap.{has_failed, is_called_again, tapped};
-ghost use Rattle.sci_command.specs.Answer.{IsAnswered};
+ghost use Rattle.sci_text.specs.Tap.{has_failed};
+ghost use Rattle.sci_command.specs.Answer.{HasAnswered};
 ghost use Rattle.sci_command.specs.declared.outcome.Outcome.{Outcome};
 ghost use Rattle.sci_run_reports.specs.RunAnswer.{IsRunRefusal};
 ghost use Rattle.sci_run_reports.specs.OutcomesAnswer.{IsOutcomesAnswer, count_text, held_text, outcome_text, outcomes_text as outcomes_text_of, replied_text, row_text, seed_text, sense_text, total_text};
@@ -173,9 +173,7 @@ pub fn outcomes_of<T: Threads + Sync, R: Read>(
     reader: &mut Tap<R>,
 ) -> Result<Answer, TextFault>
     requires { has_failed reader.old ≡ false }
-    ensures answered { IsAnswered (IsOutcomesAnswer request) IsRunRefusal
-        (R.remaining (tapped reader.old)) (has_failed reader.new) result }
-    ensures again { is_called_again reader.new ≡ is_called_again reader.old }
+    ensures { HasAnswered R.remaining reader.old reader.new (IsOutcomesAnswer request) IsRunRefusal result }
 {
     let script = read_script(alloc, reader)?;
     let trials = Trials {

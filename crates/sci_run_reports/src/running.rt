@@ -2,8 +2,8 @@
 
 ghost use Rattle.std.specs.Prelude.{◌≡◌, ◌⊎◌, false, true};
 ghost use Rattle.sci_text.specs.declared.fault.TextFaultKind.TheVariants.{Memory, TooMany};
-ghost use Rattle.sci_text.specs.Tap.{has_failed, is_called_again, tapped};
-ghost use Rattle.sci_command.specs.Answer.{IsAnswered};
+ghost use Rattle.sci_text.specs.Tap.{has_failed};
+ghost use Rattle.sci_command.specs.Answer.{HasAnswered};
 ghost use Rattle.sci_command.specs.declared.outcome.Outcome.{Outcome};
 ghost use Rattle.sci_run_reports.specs.RunAnswer.{IsRunAnswer, IsRunRefusal};
 
@@ -61,9 +61,7 @@ pub fn run<R: Read>(
     reader: &mut Tap<R>,
 ) -> Result<Answer, TextFault>
     requires { has_failed reader.old ≡ false }
-    ensures answered { IsAnswered (IsRunAnswer request) IsRunRefusal
-        (R.remaining (tapped reader.old)) (has_failed reader.new) result }
-    ensures again { is_called_again reader.new ≡ is_called_again reader.old }
+    ensures { HasAnswered R.remaining reader.old reader.new (IsRunAnswer request) IsRunRefusal result }
 {
     let script = read_script(alloc, reader)?;
     let plan = Plan {

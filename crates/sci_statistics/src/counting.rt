@@ -3,8 +3,8 @@
 ghost use Rattle.std.specs.Prelude.{◌≡◌, ◌≤◌, ◌++◌, true, false, length, IfOk, OnOk};
 ghost use Rattle.std.specs.List.{flat_map};
 ghost use Rattle.sci_words.specs.declared.limits.TheConstants.{MAX_EVENTS};
-ghost use Rattle.sci_command.specs.Answer.{IsAnswered};
-ghost use Rattle.sci_text.specs.Tap.{has_failed, is_called_again, tapped};
+ghost use Rattle.sci_command.specs.Answer.{HasAnswered};
+ghost use Rattle.sci_text.specs.Tap.{has_failed};
 ghost use Rattle.sci_statistics.specs.StatsAnswer.{HasNode, IsStatsAnswer, IsStatsFault, line_part, node_part, shown, stats_text};
 
 use crate::event_figures::EventFigures;
@@ -157,9 +157,7 @@ pub fn stats<R: Read>(
     reader: &mut Tap<R>,
 ) -> Result<Answer, TextFault>
     requires { has_failed reader.old ≡ false }
-    ensures answered { IsAnswered (IsStatsAnswer request) (IsStatsFault request)
-        (R.remaining (tapped reader.old)) (has_failed reader.new) result }
-    ensures again { is_called_again reader.new ≡ is_called_again reader.old }
+    ensures { HasAnswered R.remaining reader.old reader.new (IsStatsAnswer request) (IsStatsFault request) result }
 {
     let schedule = read_asked(alloc, request.line, reader)?;
     if !has_node(&schedule, request.node) {

@@ -12,7 +12,7 @@ use crate::oracle::oracle;
 use crate::replay::replay;
 use crate::threads::threads;
 use crate::upgrade::upgrade;
-use sci_command::Outcome;
+use sci_command::{Outcome, finish};
 use sci_text::Tap;
 use std::alloc::Global;
 use std::io::{Read, Write};
@@ -33,11 +33,11 @@ pub fn carried_out<T: Threads + Sync, R: Read, W: Write>(
         result (IsAnswerTo command) }
 {
     match command {
-        Command::Oracle => oracle(alloc, reader, writer),
-        Command::Replay => replay(alloc, reader, writer),
-        Command::Threads { turns } => threads(rt, alloc, reader, writer, turns),
+        Command::Oracle => finish(alloc, writer, oracle(alloc, reader)),
+        Command::Replay => finish(alloc, writer, replay(alloc, reader)),
+        Command::Threads { turns } => finish(alloc, writer, threads(rt, alloc, reader, turns)),
         Command::Decode => decode_bytes(alloc, reader, writer),
-        Command::Audit => audit_text(alloc, reader, writer),
-        Command::Upgrade => upgrade(alloc, reader, writer),
+        Command::Audit => finish(alloc, writer, audit_text(alloc, reader)),
+        Command::Upgrade => finish(alloc, writer, upgrade(alloc, reader)),
     }
 }

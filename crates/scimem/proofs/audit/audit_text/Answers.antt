@@ -1,14 +1,45 @@
+-- What is written is the line of the verdict of the log that was read.
+use Rattle.std.proofs.Common.{◌≡◌, sym, ◌∙◌}
+use Rattle.sci_history.specs.declared.verdict.Verdict.{Verdict}
+use Rattle.sci_history.specs.declared.verdict.Verdict.TheVariants as verdicts
 use Rattle.sci_text.specs.FirstFault.{IsTold}
 use Rattle.sci_text.specs.LogFault.{IsLogFault}
-use Rattle.sci_command.proofs.Finished.{finished_by}
-use Rattle.sci_command.proofs.Refusals.{told_memory}
-use Rattle.scimem.specs.LogAnswer.{IsAuditAnswer}
+use Rattle.sci_text.specs.Tap.{has_failed, tapped}
+use Rattle.sci_command.specs.declared.outcome.Outcome.TheVariants.{Refused}
+use Rattle.sci_command.proofs.Answers.{answer_made}
+use Rattle.scimem.specs.LogAnswer.{IsAuditOf, outcome_of}
 use Rattle.scimem.proofs.audit.audit_text.Goals as goal
 
+judged : (verdict : Verdict) → outcome_of verdict ≡ Refused → ⊥
+judged verdicts.Lawful is = cc
+judged (verdicts.Fault line kind at) is = cc
+
 pub returns : goal.returns
-returns g c = record {
-  answers = finished_by IsAuditAnswer (IsTold IsLogFault) c.answer.result (told_memory IsLogFault) (λ text is. is)
-      c.answer.ensures.answered c.finish.ensures.written;
-  read_no_more = c.answer.ensures.again;
-  wrote_no_more = c.finish.ensures.again;
-}
+returns g c =
+    let known = g.R.Read.remaining (tapped c.args.reader.now) in
+    let unread = has_failed c.read_logs.new.reader in
+    let logs = c.in_ok-logs in
+    let text = logs.ensures.text in
+    let verdict = c.in_ok-verdict in
+    let ends = c.end_of.ensures in (
+      answer_made IsAuditOf (IsTold IsLogFault) known unread c.in_ok-text.text.items c.end_of.result
+          (λ refused. judged verdict.verdict (sym ends ∙ refused)) (
+            logs.ensures.unfailed,
+            (
+              text.0,
+              text.1,
+              record {
+                nodes = logs.field-0-0;
+                logs = logs.logs;
+                last = logs.last;
+                verdict = verdict.verdict;
+                read = text.2;
+                judged = verdict.ensures.verdict;
+                lawful = verdict.ensures.lawful;
+                written = c.in_ok-text.ensures;
+                ends = ends;
+              },
+            ),
+          ),
+      c.read_logs.ensures.again,
+    )

@@ -1,14 +1,25 @@
-use Rattle.sci_text.specs.FirstFault.{IsTold}
-use Rattle.sci_text.specs.ScriptFault.{IsScriptFault}
-use Rattle.sci_command.proofs.Finished.{finished_by}
-use Rattle.sci_command.proofs.Refusals.{told_memory}
-use Rattle.scimem.specs.OracleAnswer.{IsOracleAnswer}
+-- What is written is the oracle's text of the script that was read.
+use Rattle.std.proofs.Common.{List, ℕ, sym, subst, rules}
+use Rattle.std.specs.Prelude.{count_by, ◌≤◌, ◌==◌}
+use Rattle.sci_words.specs.declared.limits.TheConstants.{MAX_OPERATIONS}
+use Rattle.sci_words.specs.declared.operation.Op.{Op}
+use Rattle.sci_text.specs.Script.{script_text}
+use Rattle.scimem.proofs.Counts.{few_of_each}
+use Rattle.scimem.proofs.OracleLogs.{oracle_is}
 use Rattle.scimem.proofs.oracle.oracle.Goals as goal
 
+pub run_oracle-requires-clause-room : goal.run_oracle-requires-clause-room
+run_oracle-requires-clause-room g c = λ node.
+    subst (λ (ops : List (ℕ × Op)). count_by (λ p. p.0 == node) ops ≤ MAX_OPERATIONS) (sym c.operations.ensures.value)
+    (few_of_each c.in_ok-script.script c.in_ok-script.ensures.good node)
+
 pub returns : goal.returns
-returns g c = record {
-  answers = finished_by IsOracleAnswer (IsTold IsScriptFault) c.answer.result (told_memory IsScriptFault) (λ text is. is) c.answer.ensures.answered
-      c.finish.ensures.written;
-  read_no_more = c.answer.ensures.again;
-  wrote_no_more = c.finish.ensures.again;
-}
+returns g c =
+    let script = c.in_ok-script.script in
+    let read = c.in_ok-script.ensures.text in (
+      (
+        c.in_ok-script.ensures.unfailed,
+        (script_text script, read, oracle_is c.in_ok-text.text.items script c.in_ok-script.ensures.good read.few (search rules)),
+      ),
+      c.read_script.ensures.again,
+    )
