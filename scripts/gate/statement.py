@@ -77,13 +77,17 @@ def crates():
 def uses(path):
     """What the names mean that a file takes from others: of each a list of parts."""
     found = {}
-    for it in re.findall(r"^\s*(?:ghost )?use Rattle\.([^;{\n]*?)(?:\.\{([^}]*)\}| as (\w+))?;?$", "\n".join(lines_of(path)), re.MULTILINE):
-        parts = it[0].split(".")
-        for name in filter(None, (one.strip() for one in it[1].split(","))):
-            inner, _, outer = name.partition(" as ")
-            found[outer or inner] = [*parts, inner]
-        if it[2]:
-            found[it[2]] = parts
+    for tree in re.findall(r"^\s*(?:ghost )?use Rattle\.(.*?);?$", "\n".join(lines_of(path)), re.MULTILINE):
+        fronts = [[]]
+        for word in re.findall(r"[^\s{},][^{},]*|}", tree):
+            if word == "}":
+                fronts.pop()
+            elif word.endswith("."):
+                fronts.append([*fronts[-1], *word[:-1].split(".")])
+            else:
+                inner, _, outer = word.partition(" as ")
+                parts = [*fronts[-1], *inner.split(".")]
+                found[outer or parts[-1]] = parts
     return found
 
 

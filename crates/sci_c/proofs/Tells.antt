@@ -7,8 +7,7 @@ use types.Logic.{Logic, sem}
 use types.Kit.{‵, raw, ◌$◌, ◌∵◌, !, qed, use0, move, fsplit, fjoin, feq_l, feq_i, join, done}
 use denote.RawPtr.{Ptr}
 use Rattle.std.specs.Prelude.{Option, Some, None, IsSome}
-use Rattle.sci_c.specs.Object.{live_of, object_owns}
-use Rattle.sci_c.specs.declared.thing.Thing.{Thing}
+use Rattle.sci_c.specs.{Object.{live_of, object_owns}, declared.thing.Thing.{Thing}}
 use base.Logic.{emp}
 
 none_is_not : IsSome {T = Thing} None → ⊥

@@ -1,9 +1,7 @@
 -- What the calls that open and close objects answer.
 use Rattle.std.specs.Prelude.{◌≡◌, ◌≢◌, ◌≤◌, ◌⊎◌, ℕ, Option, None, IsSome}
 use Rattle.sci_c_values.specs.declared.status.TheConstants.{SCI_MISUSE, SCI_NOT_ENABLED, SCI_NO_MEMORY, SCI_OK, SCI_RANGE}
-use Rattle.sci_c.specs.declared.thing.Kind.{Kind}
-use Rattle.sci_c.specs.declared.thing.Thing.{Thing}
-use Rattle.sci_c.specs.Kinds.{IsOf}
+use Rattle.sci_c.specs.{declared.thing.{Kind.{Kind}, Thing.{Thing}}, Kinds.{IsOf}}
 
 -- what each status of a call says that puts a thing of some size into an empty object: whether there may be such a size, and
 -- what the object keeps before and after it

@@ -1,11 +1,8 @@
 -- Logs with last contents.
 use Rattle.std.specs.Prelude.{ℕ, ◌<◌, ◌≤◌, ◌++◌, ◌∷◌, [], List, length, replicate, slice_set}
-use Rattle.sci_words.specs.declared.limits.TheConstants.{MAX_NODES, WORDS_PER_LINE}
-use Rattle.sci_words.specs.declared.stamped.Stamped.{Stamped}
+use Rattle.sci_words.specs.declared.{limits.TheConstants.{MAX_NODES, WORDS_PER_LINE}, stamped.Stamped.{Stamped}}
 use Rattle.sci_words.specs.Stamped.{zero_stamped}
-use Rattle.sci_history.specs.declared.entry.Entry.{Entry}
-use Rattle.sci_history.specs.Audit.{AreWithin}
-use Rattle.sci_history.specs.Placed.{log_of}
+use Rattle.sci_history.specs.{declared.entry.Entry.{Entry}, Audit.{AreWithin}, Placed.{log_of}}
 use Rattle.sci_c_values.specs.declared.entry.SciEntry.{SciEntry}
 
 -- the logs of a machine of so many nodes, and its last contents

@@ -1,12 +1,9 @@
 -- What an object keeps.
 use Rattle.std.specs.Prelude.{◌≡◌, Option, Some, None}
-use Rattle.sci_core.specs.Core.{Core}
-use Rattle.sci_core.specs.Node.{NodeOf}
-use Rattle.sci_c.specs.Journal.{JournalOf}
-use Rattle.sci_c.specs.declared.thing.Kind.{Kind}
-use Rattle.sci_c.specs.declared.thing.Kind.TheVariants as kind
-use Rattle.sci_c.specs.declared.thing.Thing.{Thing}
+use Rattle.sci_core.specs.{Core.{Core}, Node.{NodeOf}}
+use Rattle.sci_c.specs.{Journal.{JournalOf}, declared.thing.{Kind.{Kind}, Thing.{Thing}}}
 use Rattle.sci_c.specs.declared.thing.Thing.TheVariants.{Machine, Node, Logs}
+use Rattle.sci_c.specs.declared.thing.Kind.TheVariants as kind
 
 -- the machine, the node or the logs, if that is what it keeps
 abbrev pub machine_in : Option Thing → Option Core

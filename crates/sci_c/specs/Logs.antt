@@ -1,26 +1,15 @@
 -- What the calls for logs answer.
 use Rattle.std.specs.Prelude.{◌≡◌, ℕ, ◌<◌, ◌≤◌, ◌++◌, List, length, slice_get, drop, Option, Some}
 use Rattle.sci_words.specs.declared.limits.TheConstants.{MAX_OPERATIONS}
-use Rattle.sci_history.specs.declared.entry.Entry.{Entry}
-use Rattle.sci_history.specs.declared.verdict.Verdict.{Verdict}
-use Rattle.sci_history.specs.Audit.{IsVerdict}
-use Rattle.sci_history.specs.Memory.{stamped_at}
-use Rattle.sci_history.specs.Placed.{log_of}
-use Rattle.sci_text.specs.declared.fault.TextFault.{TextFault}
-use Rattle.sci_text.specs.declared.fault.TextFaultKind.TheVariants.{Memory}
-use Rattle.sci_text.specs.FirstFault.{IsRefusal}
-use Rattle.sci_text.specs.Log.{log_text}
-use Rattle.sci_text.specs.LogFault.{IsLogFault}
-use Rattle.sci_text.specs.LogValue.{AreLogs, IsLogs}
-use Rattle.sci_c_values.specs.declared.entry.SciEntry.{SciEntry}
-use Rattle.sci_c_values.specs.declared.stamped.SciStamped.{SciStamped}
-use Rattle.sci_c_values.specs.declared.verdict.SciTextFault.{SciTextFault}
-use Rattle.sci_c_values.specs.declared.verdict.SciVerdict.{SciVerdict}
-use Rattle.sci_c_values.specs.Entry.{SaysEntry, entry_struct}
-use Rattle.sci_c_values.specs.Stamped.{stamped_of, stamped_struct}
+use Rattle.sci_history.specs.{declared.{entry.Entry.{Entry}, verdict.Verdict.{Verdict}}, Audit.{IsVerdict}}
+use Rattle.sci_history.specs.{Memory.{stamped_at}, Placed.{log_of}}
+use Rattle.sci_text.specs.declared.fault.{TextFault.{TextFault}, TextFaultKind.TheVariants.{Memory}}
+use Rattle.sci_text.specs.{FirstFault.{IsRefusal}, Log.{log_text}, LogFault.{IsLogFault}, LogValue.{AreLogs, IsLogs}}
+use Rattle.sci_c_values.specs.declared.{entry.SciEntry.{SciEntry}, stamped.SciStamped.{SciStamped}}
+use Rattle.sci_c_values.specs.declared.verdict.{SciTextFault.{SciTextFault}, SciVerdict.{SciVerdict}}
+use Rattle.sci_c_values.specs.{Entry.{SaysEntry, entry_struct}, Stamped.{stamped_of, stamped_struct}}
 use Rattle.sci_c_values.specs.Verdict.{text_fault_struct, verdict_struct}
-use Rattle.sci_c.specs.declared.thing.Thing.{Thing}
-use Rattle.sci_c.specs.Journal.{JournalOf, FitsJournal, with_entry, with_last}
+use Rattle.sci_c.specs.{declared.thing.Thing.{Thing}, Journal.{JournalOf, FitsJournal, with_entry, with_last}}
 use Rattle.sci_c.specs.Kinds.{logs_in}
 
 -- the entry that the struct says ends its node's log

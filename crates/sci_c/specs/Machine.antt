@@ -1,23 +1,13 @@
 -- What the calls for machines answer.
 use Rattle.std.specs.Prelude.{◌≡◌, ℕ, ◌<◌, Option, Some, None, IsSome, IsTrue}
 use Rattle.sci_words.specs.declared.event.Event.{Event}
-use Rattle.sci_history.specs.Lawful.{Lawful}
-use Rattle.sci_history.specs.Sequential.{IsSequentiallyConsistent}
-use Rattle.sci_core.specs.Core.{Core, opening, stepping}
-use Rattle.sci_core.specs.Coherent.{IsCoherent}
-use Rattle.sci_core.specs.Fault.{is_sending}
-use Rattle.sci_core.specs.Outcome.{logs_of}
-use Rattle.sci_core.specs.Settling.{IsSettled, IsWithin, Leads, LeadsOn, settles}
-use Rattle.sci_core.specs.Shape.{IsAuthority}
-use Rattle.sci_core.specs.Sharing.{last_at, last_of}
-use Rattle.sci_core.specs.Size.{Size}
-use Rattle.sci_c_values.specs.declared.operation.SciEvent.{SciEvent}
-use Rattle.sci_c_values.specs.declared.stamped.SciStamped.{SciStamped}
-use Rattle.sci_c_values.specs.Operation.{SaysEvent}
-use Rattle.sci_c_values.specs.Stamped.{stamped_struct}
-use Rattle.sci_c.specs.declared.thing.Thing.{Thing}
-use Rattle.sci_c.specs.Journal.{journal_of}
-use Rattle.sci_c.specs.Kinds.{machine_in, logs_in}
+use Rattle.sci_history.specs.{Lawful.{Lawful}, Sequential.{IsSequentiallyConsistent}}
+use Rattle.sci_core.specs.{Core.{Core, opening, stepping}, Coherent.{IsCoherent}, Fault.{is_sending}, Outcome.{logs_of}}
+use Rattle.sci_core.specs.{Settling.{IsSettled, IsWithin, Leads, LeadsOn, settles}, Shape.{IsAuthority}}
+use Rattle.sci_core.specs.{Sharing.{last_at, last_of}, Size.{Size}}
+use Rattle.sci_c_values.specs.declared.{operation.SciEvent.{SciEvent}, stamped.SciStamped.{SciStamped}}
+use Rattle.sci_c_values.specs.{Operation.{SaysEvent}, Stamped.{stamped_struct}}
+use Rattle.sci_c.specs.{declared.thing.Thing.{Thing}, Journal.{journal_of}, Kinds.{machine_in, logs_in}}
 
 abbrev pub size : ℕ → ℕ → ℕ → ℕ → Size
 size nodes lines slots limit = record { nodes = nodes; lines = lines; slots = slots; limit = limit }

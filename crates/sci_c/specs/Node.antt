@@ -1,24 +1,17 @@
 -- What the calls for nodes answer.
 use Rattle.std.specs.Prelude.{◌≡◌, ℕ, ◌++◌, List, drop, length, Option, Some, None, ◌<◌, ◌%◌, slice_get}
-use Rattle.sci_words.specs.declared.event.AskKind.{AskKind}
-use Rattle.sci_words.specs.declared.event.TheConstants.AskKind.{ALL}
-use Rattle.sci_words.specs.declared.operation.Op.{Op}
+use Rattle.sci_words.specs.declared.{event.{AskKind.{AskKind}, TheConstants.AskKind.{ALL}}, operation.Op.{Op}}
 use Rattle.sci_words.specs.declared.stamped.Stamped.{Stamped}
-use Rattle.sci_packets.specs.declared.packet.Packet.{Packet}
-use Rattle.sci_packets.specs.Spelling.{spelling}
+use Rattle.sci_packets.specs.{declared.packet.Packet.{Packet}, Spelling.{spelling}}
 use Rattle.sci_history.specs.declared.entry.Entry.{Entry}
 use Rattle.sci_cache.specs.Cache.{Letter, letter_of}
 use Rattle.sci_core.specs.declared.pending.Pending.{Pending}
-use Rattle.sci_home.specs.Serving.{current_of}
 use Rattle.sci_core.specs.Node.{NodeOf, node_issuing, node_performing, node_asking, node_replying, pending_on, home_of, lines_of}
-use Rattle.sci_c_values.specs.declared.entry.SciEntry.{SciEntry}
-use Rattle.sci_c_values.specs.declared.operation.SciOp.{SciOp}
-use Rattle.sci_c_values.specs.Entry.{entry_struct}
-use Rattle.sci_c_values.specs.Operation.{SaysOp, op_struct}
-use Rattle.sci_c_values.specs.declared.stamped.SciStamped.{SciStamped}
-use Rattle.sci_c_values.specs.Stamped.{stamped_struct}
-use Rattle.sci_c.specs.declared.thing.Thing.{Thing}
-use Rattle.sci_c.specs.Kinds.{node_in}
+use Rattle.sci_home.specs.Serving.{current_of}
+use Rattle.sci_c_values.specs.declared.{entry.SciEntry.{SciEntry}, operation.SciOp.{SciOp}}
+use Rattle.sci_c_values.specs.{declared.stamped.SciStamped.{SciStamped}, Entry.{entry_struct}}
+use Rattle.sci_c_values.specs.{Operation.{SaysOp, op_struct}, Stamped.{stamped_struct}}
+use Rattle.sci_c.specs.{declared.thing.Thing.{Thing}, Kinds.{node_in}}
 
 -- the operation that the struct says is pending, with this serial
 pub record IsIssue (old : Option Thing) (c : SciOp) (serial : ℕ) (new : Option Thing) : Type 0 where

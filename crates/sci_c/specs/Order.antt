@@ -1,16 +1,11 @@
 -- What a look for one order of all entries answers.
 use Rattle.std.specs.Prelude.{◌≡◌, ℕ, ◌<◌, ◌≤◌, ◌⊎◌, ◌↔◌, List, ◌++◌, drop, length, map}
 use denote.Ref.{Bor}
-use Rattle.sci_history.specs.declared.entry.Entry.{Entry}
-use Rattle.sci_history.specs.declared.order_verdict.Step.{Step}
-use Rattle.sci_history.specs.Cycle.{HasNoShortcut, IsCycle}
-use Rattle.sci_history.specs.Lawful.{Lawful}
-use Rattle.sci_history.specs.Sequential.{IsSequentialOrder, IsSequentiallyConsistent}
-use Rattle.sci_c_values.specs.declared.entry.SciEntry.{SciEntry}
-use Rattle.sci_c_values.specs.declared.status.TheConstants.{SCI_FULL, SCI_OK}
+use Rattle.sci_history.specs.{declared.{entry.Entry.{Entry}, order_verdict.Step.{Step}}, Cycle.{HasNoShortcut, IsCycle}}
+use Rattle.sci_history.specs.{Lawful.{Lawful}, Sequential.{IsSequentialOrder, IsSequentiallyConsistent}}
+use Rattle.sci_c_values.specs.declared.{entry.SciEntry.{SciEntry}, status.TheConstants.{SCI_FULL, SCI_OK}}
 use Rattle.sci_c_values.specs.Entry.{entry_struct}
-use Rattle.sci_c.specs.declared.ordering.TheConstants.{CYCLE, ORDER, UNLAWFUL}
-use Rattle.sci_c.specs.Journal.{JournalOf}
+use Rattle.sci_c.specs.{declared.ordering.TheConstants.{CYCLE, ORDER, UNLAWFUL}, Journal.{JournalOf}}
 
 -- the struct of an entry behind a reference, and of that of a step
 abbrev pub ref_struct : Bor Entry → SciEntry

@@ -1,10 +1,8 @@
 -- What the calls for packets answer.
 use Rattle.std.specs.Prelude.{◌≡◌, ℕ, List, ◌++◌, drop, length, Option, Some, None}
-use Rattle.sci_packets.specs.declared.fault.PacketFault.{PacketFault}
-use Rattle.sci_packets.specs.declared.packet.Packet.{Packet}
+use Rattle.sci_packets.specs.declared.{fault.PacketFault.{PacketFault}, packet.Packet.{Packet}}
 use Rattle.sci_packets.specs.Spelling.{Spells, SpellsInWords, spelling, words_of}
-use Rattle.sci_c_values.specs.declared.packet.SciPacket.{SciPacket}
-use Rattle.sci_c_values.specs.declared.packet.PacketRefusal.{PacketRefusal}
+use Rattle.sci_c_values.specs.declared.packet.{SciPacket.{SciPacket}, PacketRefusal.{PacketRefusal}}
 use Rattle.sci_c_values.specs.declared.packet.PacketRefusal.TheVariants.{Range, Fault}
 use Rattle.sci_c_values.specs.declared.status.TheConstants.{SCI_OK, SCI_RANGE}
 use Rattle.sci_c_values.specs.Packet.{SaysPacket, IsRefusalOf, fault_number}

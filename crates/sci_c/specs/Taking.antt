@@ -1,16 +1,11 @@
 -- What the calls that give a packet to a node answer.
 use Rattle.std.specs.Prelude.{◌≡◌, ◌≢◌, ◌<◌, ◌≤◌, ℕ, List, take, Option, Some, None, IsSome}
-use Rattle.sci_packets.specs.declared.packet.Packet.{Packet}
-use Rattle.sci_packets.specs.Fault.{fault_of}
-use Rattle.sci_packets.specs.Spelling.{Spells}
+use Rattle.sci_packets.specs.{declared.packet.Packet.{Packet}, Fault.{fault_of}, Spelling.{Spells}}
 use Rattle.sci_cache.specs.Cache.{Letter, letter_of}
 use Rattle.sci_core.specs.Node.{NodeOf, IsForNode, IsServable, node_accepting, node_refusing, node_serving}
 use Rattle.sci_c_values.specs.declared.status.TheConstants.{SCI_BAD_IDENTIFIER, SCI_FULL, SCI_MISUSE, SCI_NOT_ENABLED, SCI_NO_MEMORY, SCI_OK, SCI_RANGE}
-use Rattle.sci_c.specs.declared.taking.Taking.{Taking}
-use Rattle.sci_c.specs.declared.taking.Taking.TheVariants.{Serve, Refuse, Accept}
-use Rattle.sci_c.specs.declared.thing.Thing.{Thing}
-use Rattle.sci_c.specs.Kinds.{node_in}
-use Rattle.sci_c.specs.Packet.{fault_status}
+use Rattle.sci_c.specs.declared.{taking.Taking.{Taking, TheVariants.{Serve, Refuse, Accept}}, thing.Thing.{Thing}}
+use Rattle.sci_c.specs.{Kinds.{node_in}, Packet.{fault_status}}
 
 -- the packets that may be given to a node for it
 abbrev pub IsTakable : Taking → NodeOf → Letter → Type 0

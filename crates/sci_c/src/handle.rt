@@ -30,12 +30,9 @@ impl Model for SciObject {
 }
 
 impl SciObject {
-    ghost use Rattle.std.specs.Borrow.{Lends};
-    ghost use Rattle.std.specs.Prelude.{IsSome};
-    ghost use Rattle.sci_c.specs.contracts.handle.SciObject.{the_row};
-    ghost use Rattle.sci_c.specs.contracts.thing.Thing.{the_row as thing_row};
-    ghost use Rattle.sci_c.specs.Lending.{with_thing};
-    ghost use Rattle.sci_c.specs.Object.{live_of};
+    ghost use Rattle.std.specs.{Borrow.{Lends}, Prelude.{IsSome}};
+    ghost use Rattle.sci_c.specs.contracts.{handle.SciObject.{the_row}, thing.Thing.{the_row as thing_row}};
+    ghost use Rattle.sci_c.specs.{Lending.{with_thing}, Object.{live_of}};
 
     /// 1 if there is a thing, and else 0.
     pub(crate) fn live(&mut self) -> u32

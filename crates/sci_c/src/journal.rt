@@ -27,8 +27,7 @@ impl Model for Journal {
 impl Journal {
     ghost use Rattle.std.specs.Prelude.{◌≡◌, ◌≢◌, ◌<◌, ◌≤◌, ◌↔◌, ◌⊎◌, IsTrue, length};
     ghost use Rattle.sci_words.specs.declared.limits.TheConstants.{MAX_NODES, MAX_OPERATIONS};
-    ghost use Rattle.sci_history.specs.Audit.{AreWithin, IsWithin};
-    ghost use Rattle.sci_history.specs.Placed.{log_of};
+    ghost use Rattle.sci_history.specs.{Audit.{AreWithin, IsWithin}, Placed.{log_of}};
     ghost use Rattle.sci_text.specs.LogValue.{IsSize};
     ghost use Rattle.sci_c_values.specs.declared.status.TheConstants.{SCI_FULL, SCI_NO_MEMORY, SCI_OK};
     ghost use Rattle.sci_c.specs.Journal.{FitsJournal, empty_journal, journal_of, with_entry, with_last};

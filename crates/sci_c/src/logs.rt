@@ -6,11 +6,9 @@ ghost use Rattle.sci_history.specs.Placed.{log_of};
 ghost use Rattle.sci_text.specs.LogValue.{IsSize};
 ghost use Rattle.sci_c_values.specs.declared.status.TheConstants.{SCI_FULL, SCI_MISUSE, SCI_NOT_ENABLED, SCI_NO_MEMORY, SCI_OK, SCI_RANGE};
 ghost use Rattle.sci_c_values.specs.Entry.{SaysNoEntry};
+ghost use Rattle.sci_c.specs.{Closing.{IsClosed, IsOpened}, Journal.{FitsJournal, empty_journal}};
+ghost use Rattle.sci_c.specs.{Kinds.{OnLogs, logs_in}, Logs.{IsEntryAt, IsFull, IsLastOf, IsLastSet, IsPushed}};
 ghost use Rattle.sci_c.specs.declared.thing.Kind.TheVariants as kind;
-ghost use Rattle.sci_c.specs.Closing.{IsClosed, IsOpened};
-ghost use Rattle.sci_c.specs.Journal.{FitsJournal, empty_journal};
-ghost use Rattle.sci_c.specs.Kinds.{OnLogs, logs_in};
-ghost use Rattle.sci_c.specs.Logs.{IsEntryAt, IsFull, IsLastOf, IsLastSet, IsPushed};
 
 use crate::closing::{closed, opened};
 use crate::handle::SciObject;

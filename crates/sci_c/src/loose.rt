@@ -1,7 +1,6 @@
 //! What a box keeps, by its pointer alone.
 
-ghost use Rattle.std.specs.Prelude.{◌≡◌};
-ghost use Rattle.std.specs.Box.Ownership.{box_owns};
+ghost use Rattle.std.specs.{Prelude.{◌≡◌}, Box.Ownership.{box_owns}};
 ghost use Rattle.sci_c.specs.Object.{chunk};
 
 use std::alloc::Global;

@@ -4,10 +4,10 @@ ghost use Rattle.std.specs.Prelude.{◌≡◌, ◌≢◌, ◌≤◌, ◌⊎◌, 
 ghost use Rattle.sci_core.specs.Size.{IsMachineSize};
 ghost use Rattle.sci_c_values.specs.declared.status.TheConstants.{SCI_MISUSE, SCI_NOT_ENABLED, SCI_NO_MEMORY, SCI_OK, SCI_RANGE};
 ghost use Rattle.sci_c_values.specs.Operation.{SaysNoEvent};
+ghost use Rattle.sci_c.specs.{Closing.{IsClosed, IsOpened}, Kinds.{OnMachine, machine_in}};
+ghost use Rattle.sci_c.specs.Machine.{AreLogsOf, HasNoAuthority, IsAuthorityOf, IsMachineLast, IsNotEnabled, IsOpening, IsPartOfSettling, IsSending};
+ghost use Rattle.sci_c.specs.Machine.{IsSettling, IsStep, size};
 ghost use Rattle.sci_c.specs.declared.thing.Kind.TheVariants as kind;
-ghost use Rattle.sci_c.specs.Closing.{IsClosed, IsOpened};
-ghost use Rattle.sci_c.specs.Kinds.{OnMachine, machine_in};
-ghost use Rattle.sci_c.specs.Machine.{AreLogsOf, HasNoAuthority, IsAuthorityOf, IsMachineLast, IsNotEnabled, IsOpening, IsPartOfSettling, IsSending, IsSettling, IsStep, size};
 
 use crate::closing::{closed, opened};
 use crate::handle::SciObject;

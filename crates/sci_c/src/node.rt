@@ -5,13 +5,11 @@ ghost use Rattle.sci_home.specs.Serving.{current_of};
 ghost use Rattle.sci_core.specs.Node.{IsAtRest, home_of, lines_of, node_performing, node_replying, opening_node, pending_on};
 ghost use Rattle.sci_core.specs.Size.{IsMachineSize};
 ghost use Rattle.sci_c_values.specs.declared.status.TheConstants.{SCI_MISUSE, SCI_NOT_ENABLED, SCI_NO_MEMORY, SCI_OK, SCI_RANGE};
-ghost use Rattle.sci_words.specs.declared.event.TheConstants.AskKind.{ALL};
 ghost use Rattle.sci_c_values.specs.Operation.{SaysNoOp};
-ghost use Rattle.sci_c.specs.declared.thing.Kind.TheVariants as kind;
-ghost use Rattle.sci_c.specs.Closing.{IsClosed, IsOpened};
-ghost use Rattle.sci_c.specs.Kinds.{OnNode, node_in};
-ghost use Rattle.sci_c.specs.Machine.{size};
+ghost use Rattle.sci_words.specs.declared.event.TheConstants.AskKind.{ALL};
+ghost use Rattle.sci_c.specs.{Closing.{IsClosed, IsOpened}, Kinds.{OnNode, node_in}, Machine.{size}};
 ghost use Rattle.sci_c.specs.Node.{HasNoContents, IsAsk, IsHomeContents, IsIssue, IsNoAsk, IsNoIssue, IsPendingOf, IsPerformed, IsReply};
+ghost use Rattle.sci_c.specs.declared.thing.Kind.TheVariants as kind;
 
 use crate::closing::{closed, opened};
 use crate::handle::SciObject;

@@ -2,8 +2,7 @@
 
 ghost use Rattle.std.specs.Prelude.{◌≡◌, ◌≢◌, ◌<◌, ◌⊎◌, ◌++◌, None, IfOk, drop, length, map};
 ghost use Rattle.sci_c_values.specs.declared.status.TheConstants.{SCI_FULL, SCI_MISUSE, SCI_NO_MEMORY, SCI_OK};
-ghost use Rattle.sci_c.specs.declared.ordering.TheConstants.{CYCLE, ORDER, UNLAWFUL};
-ghost use Rattle.sci_c.specs.Kinds.{OnLogs, logs_in};
+ghost use Rattle.sci_c.specs.{declared.ordering.TheConstants.{CYCLE, ORDER, UNLAWFUL}, Kinds.{OnLogs, logs_in}};
 ghost use Rattle.sci_c.specs.Order.{IsOrdering, ref_struct, step_struct};
 
 use crate::handle::SciObject;

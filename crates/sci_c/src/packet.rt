@@ -1,10 +1,8 @@
 //! Packets as bytes and as words.
 
 ghost use Rattle.std.specs.Prelude.{◌≡◌, ◌≢◌, ◌≤◌, length, take};
-ghost use Rattle.sci_packets.specs.Fault.{fault_of, fault_of_words};
-ghost use Rattle.sci_packets.specs.Spelling.{NoneSpells, NoneSpellsInWords};
-ghost use Rattle.sci_c_values.specs.Packet.{IsPlain};
-ghost use Rattle.sci_c_values.specs.declared.status.TheConstants.{SCI_OK};
+ghost use Rattle.sci_packets.specs.{Fault.{fault_of, fault_of_words}, Spelling.{NoneSpells, NoneSpellsInWords}};
+ghost use Rattle.sci_c_values.specs.{Packet.{IsPlain}, declared.status.TheConstants.{SCI_OK}};
 ghost use Rattle.sci_c.specs.Packet.{IsPacketRefusal, IsRead, IsReadOfWords, IsWritten, IsWrittenInWords, fault_status, refusal_number};
 
 use sci_c_values::{

@@ -3,8 +3,7 @@
 ghost use Rattle.std.specs.Prelude.{◌≡◌, ◌≢◌, ◌⊎◌, ◌↔◌, None, IsSome};
 ghost use Rattle.sci_history.specs.Lawful.{Lawful};
 ghost use Rattle.sci_c_values.specs.declared.status.TheConstants.{SCI_FULL, SCI_MISUSE, SCI_NO_MEMORY, SCI_OK, SCI_TEXT};
-ghost use Rattle.sci_c.specs.Kinds.{OnLogs, logs_in};
-ghost use Rattle.sci_c.specs.Logs.{AreRead, AreTooLong, AreWritten, IsFound, IsTextFault};
+ghost use Rattle.sci_c.specs.{Kinds.{OnLogs, logs_in}, Logs.{AreRead, AreTooLong, AreWritten, IsFound, IsTextFault}};
 
 use crate::closing::opened;
 use crate::handle::SciObject;

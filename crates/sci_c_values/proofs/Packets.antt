@@ -1,17 +1,15 @@
 -- Lists of eight words, and what the words of a packet are.
-use Rattle.std.proofs.Common.{◌≡◌, ℕ, ◌+◌, ◌*◌, ◌/◌, ◌<◌, ◌^◌, ◌==◌, ◌∷◌, ◌++◌, [], List, length, drop, get_or, Option, Some, None, refl, sym, ap, ◌∙◌, arith}
-use Rattle.std.proofs.lemmas.List.{append-nil}
+use Rattle.std.proofs.Common.{◌≡◌, ℕ, ◌+◌, ◌*◌, ◌/◌, ◌<◌, ◌^◌, ◌==◌, ◌∷◌, ◌++◌, [], List, length, drop, get_or, Option, Some, None, refl, sym, ap, ◌∙◌}
+use Rattle.std.proofs.{Common.{arith}, lemmas.List.{append-nil}}
 use Rattle.std.specs.Prelude.{if◌then◌else◌, IfSome, ◌≤◌, Bool, true, false}
 use lib.Dec.{eqb}
 use mir.Val.{bool_byte}
 use Rattle.sci_words.specs.declared.stamped.Stamped.{Stamped}
-use Rattle.sci_packets.specs.declared.packet.Packet.{Packet}
-use Rattle.sci_packets.specs.Fields.{contents_words}
+use Rattle.sci_packets.specs.{declared.packet.Packet.{Packet}, Fields.{contents_words}}
 use Rattle.sci_packets.specs.Spelling.{IsContents, IsPacket, header_of, first_word, second_word, words_of}
 use Rattle.sci_packets.specs.Table.{parts_of}
 use Rattle.sci_packets.proofs.Packets.{header_fits}
-use Rattle.sci_c_values.specs.declared.packet.SciPacket.{SciPacket}
-use Rattle.sci_c_values.specs.Packet.{SaysPacket, first_of, second_of}
+use Rattle.sci_c_values.specs.{declared.packet.SciPacket.{SciPacket}, Packet.{SaysPacket, first_of, second_of}}
 
 -- the words of a line, one by one
 abbrev pub eight_from : ℕ → List ℕ → List ℕ

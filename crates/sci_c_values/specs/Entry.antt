@@ -1,10 +1,8 @@
 -- The entry that a struct says.
 use Rattle.std.specs.Prelude.{◌≡◌, ℕ}
-use Rattle.sci_words.specs.declared.operation.Reply.{Reply}
-use Rattle.sci_words.specs.declared.operation.Reply.TheVariants.{Stored, Got}
+use Rattle.sci_words.specs.declared.operation.Reply.{Reply, TheVariants.{Stored, Got}}
 use Rattle.sci_history.specs.declared.entry.Entry.{Entry}
-use Rattle.sci_c_values.specs.declared.entry.SciEntry.{SciEntry}
-use Rattle.sci_c_values.specs.Operation.{SaysOp, op_struct}
+use Rattle.sci_c_values.specs.{declared.entry.SciEntry.{SciEntry}, Operation.{SaysOp, op_struct}}
 
 -- 1 for a reply that has a word
 abbrev pub word_count : Reply → ℕ

@@ -1,14 +1,11 @@
 -- The operation, the kind of ask and the event that a struct says.
 use Rattle.std.specs.Prelude.{◌≡◌, ℕ, Some, slice_get}
-use Rattle.sci_words.specs.declared.event.TheConstants.AskKind.{ALL}
-use Rattle.sci_words.specs.declared.event.Event.{Event}
+use Rattle.sci_words.specs.declared.event.{TheConstants.AskKind.{ALL}, Event.{Event}}
 use Rattle.sci_words.specs.declared.event.Event.TheVariants.{Issue, Perform, Ask, Serve, Refuse, Reply, Accept}
-use Rattle.sci_words.specs.declared.operation.Act.{Act}
-use Rattle.sci_words.specs.declared.operation.Act.TheVariants.{Load, Store, Lock}
+use Rattle.sci_words.specs.declared.operation.Act.{Act, TheVariants.{Load, Store, Lock}}
 use Rattle.sci_words.specs.declared.operation.LockOp.TheVariants.{MaskSwap, CompareSwap, FetchAdd, BoundedAdd, WrapAdd}
 use Rattle.sci_words.specs.declared.operation.Op.{Op}
-use Rattle.sci_c_values.specs.declared.operation.SciOp.{SciOp}
-use Rattle.sci_c_values.specs.declared.operation.SciEvent.{SciEvent}
+use Rattle.sci_c_values.specs.declared.operation.{SciOp.{SciOp}, SciEvent.{SciEvent}}
 
 abbrev pub act_number : Act → ℕ
 act_number Load = 0

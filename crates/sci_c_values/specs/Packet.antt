@@ -2,13 +2,10 @@
 use Rattle.std.specs.Prelude.{◌≡◌, ℕ, ◌<◌, ◌≤◌, ◌+◌, ◌*◌, ◌^◌, ◌==◌, List, [], ◌∷◌, Some, replicate, if◌then◌else◌}
 use Rattle.sci_packets.specs.declared.fault.PacketFault.{PacketFault}
 use Rattle.sci_packets.specs.declared.fault.PacketFault.TheVariants.{Short, UnknownCommand, BadOffset, BadIdentifier}
-use Rattle.sci_packets.specs.declared.packet.Packet.{Packet}
-use Rattle.sci_packets.specs.Fault.{fault_of_words}
-use Rattle.sci_packets.specs.Spelling.{SpellsInWords}
-use Rattle.sci_c_values.specs.declared.packet.SciPacket.{SciPacket}
-use Rattle.sci_c_values.specs.declared.packet.PacketRefusal.{PacketRefusal}
-use Rattle.sci_c_values.specs.declared.packet.PacketRefusal.TheVariants as refusal
+use Rattle.sci_packets.specs.{declared.packet.Packet.{Packet}, Fault.{fault_of_words}, Spelling.{SpellsInWords}}
+use Rattle.sci_c_values.specs.declared.packet.{SciPacket.{SciPacket}, PacketRefusal.{PacketRefusal}}
 use Rattle.sci_c_values.specs.declared.status.TheConstants.{SCI_SHORT, SCI_UNKNOWN_COMMAND, SCI_BAD_OFFSET, SCI_BAD_IDENTIFIER}
+use Rattle.sci_c_values.specs.declared.packet.PacketRefusal.TheVariants as refusal
 
 -- the status of a fault
 abbrev pub fault_number : PacketFault → ℕ

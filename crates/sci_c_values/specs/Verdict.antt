@@ -3,12 +3,10 @@ use Rattle.std.specs.Prelude.{ℕ, Option, Some, None}
 use Rattle.sci_history.specs.declared.verdict.FaultKind.{FaultKind}
 use Rattle.sci_history.specs.declared.verdict.FaultKind.TheVariants.{VersionTwice, VersionMissing, WrongReply, OutOfOrder, LastDiffers}
 use Rattle.sci_history.specs.declared.verdict.Verdict.{Verdict}
-use Rattle.sci_history.specs.declared.verdict.Verdict.TheVariants as verdict
-use Rattle.sci_text.specs.declared.fault.TextFault.{TextFault}
-use Rattle.sci_text.specs.declared.fault.TextFaultKind.{TextFaultKind}
+use Rattle.sci_text.specs.declared.fault.{TextFault.{TextFault}, TextFaultKind.{TextFaultKind}}
 use Rattle.sci_text.specs.declared.fault.TextFaultKind.TheVariants.{Syntax, Range, TooMany, Read, Write, Memory}
-use Rattle.sci_c_values.specs.declared.verdict.SciVerdict.{SciVerdict}
-use Rattle.sci_c_values.specs.declared.verdict.SciTextFault.{SciTextFault}
+use Rattle.sci_c_values.specs.declared.verdict.{SciVerdict.{SciVerdict}, SciTextFault.{SciTextFault}}
+use Rattle.sci_history.specs.declared.verdict.Verdict.TheVariants as verdict
 
 -- 1 to 5, since 0 is lawful
 abbrev pub kind_number : FaultKind → ℕ

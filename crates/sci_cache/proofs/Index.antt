@@ -1,25 +1,14 @@
 -- What a cache keeps beside its lines, after one has changed.
 use Rattle.std.proofs.Common.{◌≡◌, ◌≢◌, ◌<◌, ◌⊎◌, ℕ, ◌+◌, ◌-◌, ◌^◌, not, cond, Bool, true, false, if◌then◌else◌, nat_lt, List, length, get_or, set, Option}
-use Rattle.std.proofs.Common.{Some, None, sym, subst, ap, ◌∙◌, arith, inl, inr, refl}
+use Rattle.std.proofs.{Common.{Some, None, sym, subst, ap, ◌∙◌, arith, inl, inr, refl}, lemmas.Bool.{cases_eq}}
+use Rattle.std.proofs.lemmas.List.{get_or-set_other, get_or-set_same, length-set, Sums.{sum_by-set}}
 use Rattle.std.specs.Prelude.{IfSome}
-use Rattle.std.proofs.lemmas.Bool.{cases_eq}
-use Rattle.std.proofs.lemmas.List.{get_or-set_other, get_or-set_same, length-set}
-use Rattle.std.proofs.lemmas.List.Sums.{sum_by-set}
-use Rattle.sci_cache.specs.declared.line_kind.LineKind.{LineKind}
+use Rattle.sci_cache.specs.{declared.line_kind.LineKind.{LineKind}, State.{CacheState, Head, FreshHead, Below, is_out}}
+use Rattle.sci_cache.specs.{Performing.{Performed, performing}, Line.{LineState, untouched}, Cache.{slots_taken}}
+use Rattle.sci_cache.specs.{Index.{IsIndex}, Kinds.{is_of}, LineKinds.{KindSets, set_of}, LineSet.{is_in}}
+use Rattle.sci_words.specs.declared.{stamped.Stamped.{Stamped}, operation.{Op.{Op}, Reply.{Reply}}}
+use Rattle.sci_words.specs.{Operation.{is_maker}, Stamped.{after, reply_of}}
 use Rattle.sci_cache.specs.declared.line_kind.LineKind.TheVariants as kind
-use Rattle.sci_words.specs.declared.stamped.Stamped.{Stamped}
-use Rattle.sci_words.specs.declared.operation.Op.{Op}
-use Rattle.sci_words.specs.declared.operation.Reply.{Reply}
-use Rattle.sci_words.specs.Operation.{is_maker}
-use Rattle.sci_words.specs.Stamped.{after, reply_of}
-use Rattle.sci_cache.specs.State.{CacheState, Head, FreshHead, Below, is_out}
-use Rattle.sci_cache.specs.Performing.{Performed, performing}
-use Rattle.sci_cache.specs.Line.{LineState, untouched}
-use Rattle.sci_cache.specs.Cache.{slots_taken}
-use Rattle.sci_cache.specs.Index.{IsIndex}
-use Rattle.sci_cache.specs.Kinds.{is_of}
-use Rattle.sci_cache.specs.LineKinds.{KindSets, set_of}
-use Rattle.sci_cache.specs.LineSet.{is_in}
 
 abbrev weight : LineState → ℕ
 weight line = cond {A = ℕ} (not (is_out line.state)) 1 0

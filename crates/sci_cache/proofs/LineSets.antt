@@ -1,11 +1,9 @@
 -- The bits of a set of lines.
-use Rattle.std.proofs.Common.{◌≡◌, ◌≢◌, ◌<◌, ◌≤◌, ℕ, zero, suc, ◌+◌, ◌-◌, ◌/◌, ◌%◌, ◌*◌, bit_and, bit_or, w64, true, false, sym, ap, ◌∙◌, refl, arith, inl, inr}
-use Rattle.std.specs.Prelude.{◌==◌, ◌^◌, ◌&&◌, min}
-use Rattle.std.specs.Int.{bit_at, trailing_zeros}
-use Rattle.std.proofs.lemmas.Bool.{cases_lt}
-use Rattle.std.proofs.lemmas.Nat.{shr-shr}
+use Rattle.std.proofs.Common.{◌≡◌, ◌≢◌, ◌<◌, ◌≤◌, ℕ, zero, suc, ◌+◌, ◌-◌, ◌/◌, ◌%◌, ◌*◌, bit_and, bit_or, w64, true, false, sym, ap, ◌∙◌, refl, arith, inl}
+use Rattle.std.proofs.{Common.{inr}, lemmas.{Bool.{cases_lt}, Nat.{shr-shr}}}
 use Rattle.std.proofs.lemmas.Nat.Bits.{bit_at_above, bit_at_and, bit_at-lt, bit_at_clear_other, bit_at_clear_same, bit_at_set_other, bit_at_set_same}
 use Rattle.std.proofs.lemmas.Nat.Bits.{bit_at-trailing_zeros, bit_at-zero}
+use Rattle.std.specs.{Prelude.{◌==◌, ◌^◌, ◌&&◌, min}, Int.{bit_at, trailing_zeros}}
 use Rattle.sci_cache.specs.LineSet.{is_in}
 
 is_one : (a b : ℕ) → a ≡ b → (a == 1) ≡ (b == 1)

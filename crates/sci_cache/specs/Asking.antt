@@ -3,11 +3,11 @@
 -- state asks what, and every other request, is this project's profile.
 use Rattle.std.specs.Prelude.{ℕ, true, false, Option, Some, None}
 use Rattle.sci_words.specs.declared.event.AskKind.{AskKind}
-use Rattle.sci_words.specs.declared.event.AskKind.TheVariants as kind
 use Rattle.sci_packets.specs.declared.body.Body.{Body}
-use Rattle.sci_packets.specs.declared.body.Body.TheVariants as body
 use Rattle.sci_cache.specs.State.{CacheState, Out, Asking, Joining, FreshJoining, Head, FreshHead, Below, Purging, Claiming, Clearing, Returning, Rolling}
 use Rattle.sci_cache.specs.State.{Telling}
+use Rattle.sci_words.specs.declared.event.AskKind.TheVariants as kind
+use Rattle.sci_packets.specs.declared.body.Body.TheVariants as body
 
 -- an ask: to whom, None for the home of the line, what, and the state that the cache then is in
 pub record Asked : Type 0 where

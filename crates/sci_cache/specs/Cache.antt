@@ -1,15 +1,9 @@
 -- A node's cache: its number, the size of the machine, and its part for each line.
 use Rattle.std.specs.Prelude.{ℕ, Bool, not, ◌%◌, nat_lt, List, count_by, slice_index_or, slice_set, Option, option_map, Some, None, Result}
 use Rattle.std.specs.Result.{result_map_both}
-use Rattle.sci_words.specs.declared.event.AskKind.{AskKind}
-use Rattle.sci_words.specs.declared.operation.Op.{Op}
-use Rattle.sci_words.specs.declared.operation.Reply.{Reply}
-use Rattle.sci_packets.specs.declared.body.Body.{Body}
-use Rattle.sci_packets.specs.declared.packet.Packet.{Packet}
-use Rattle.sci_cache.specs.declared.fault.AskFault.{AskFault}
-use Rattle.sci_cache.specs.State.{is_out}
-use Rattle.sci_cache.specs.Asking.{Asked}
-use Rattle.sci_cache.specs.Serving.{serving}
+use Rattle.sci_words.specs.declared.{event.AskKind.{AskKind}, operation.{Op.{Op}, Reply.{Reply}}}
+use Rattle.sci_packets.specs.declared.{body.Body.{Body}, packet.Packet.{Packet}}
+use Rattle.sci_cache.specs.{declared.fault.AskFault.{AskFault}, State.{is_out}, Asking.{Asked}, Serving.{serving}}
 use Rattle.sci_cache.specs.Performing.{performing}
 use Rattle.sci_cache.specs.Line.{LineState, untouched, line_asking, line_asked, line_in, line_accepting, next_control}
 

@@ -1,8 +1,8 @@
 -- The state that each value of the program holds.
 use Rattle.sci_cache.specs.declared.held.Held.{Held}
-use Rattle.sci_cache.specs.declared.held.Held.TheVariants as held
 use Rattle.sci_cache.specs.State.{CacheState, Out, Asking, Joining, FreshJoining, Head, FreshHead, Below, Purging, Claiming, Clearing, Returning, Rolling}
 use Rattle.sci_cache.specs.State.{Telling, Fading}
+use Rattle.sci_cache.specs.declared.held.Held.TheVariants as held
 
 abbrev pub state_of : Held → CacheState
 state_of (held.Out s) = Out

@@ -1,12 +1,8 @@
 -- What a cache keeps beside its lines, so that no call has to look at all of them.
 use Rattle.std.specs.Prelude.{◌≡◌, ◌<◌, ◌≤◌, ℕ, List, length, slice_index_or}
 use Rattle.sci_words.specs.declared.limits.TheConstants.{MAX_LINES}
-use Rattle.sci_cache.specs.declared.line_kind.LineKind.{LineKind}
-use Rattle.sci_cache.specs.Line.{LineState, untouched}
-use Rattle.sci_cache.specs.Cache.{slots_taken}
-use Rattle.sci_cache.specs.Kinds.{is_of}
-use Rattle.sci_cache.specs.LineKinds.{KindSets, set_of}
-use Rattle.sci_cache.specs.LineSet.{is_in}
+use Rattle.sci_cache.specs.{declared.line_kind.LineKind.{LineKind}, Line.{LineState, untouched}, Cache.{slots_taken}}
+use Rattle.sci_cache.specs.{Kinds.{is_of}, LineKinds.{KindSets, set_of}, LineSet.{is_in}}
 
 -- how many lines have an entry, and for each kind of state the set of the lines of that kind
 pub record IsIndex (taken : ℕ) (kinds : KindSets) (lines : List LineState) : Type 0 where

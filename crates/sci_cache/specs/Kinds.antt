@@ -1,7 +1,7 @@
 -- What the state of a line is to the planner of a node's requests (the profile).
 use Rattle.std.specs.Prelude.{Bool, true, false, not, Some}
-use Rattle.sci_cache.specs.State.{CacheState, Joining, FreshJoining, Head, FreshHead, Below, Purging, Claiming, Clearing, Returning, Rolling, Telling, Fading}
-use Rattle.sci_cache.specs.declared.line_kind.LineKind.{LineKind}
+use Rattle.sci_cache.specs.State.{CacheState, Joining, FreshJoining, Head, FreshHead, Below, Purging, Claiming, Clearing, Returning, Rolling, Telling}
+use Rattle.sci_cache.specs.{State.{Fading}, declared.line_kind.LineKind.{LineKind}}
 use Rattle.sci_cache.specs.declared.line_kind.LineKind.TheVariants as kind
 
 -- the head of a list that has a next entry: it purges before it writes or leaves

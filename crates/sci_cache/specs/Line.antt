@@ -1,14 +1,10 @@
 -- A cache's part for one line: its state, and its asks counted modulo CONTROLS. That asks are numbered, and that a line
 -- with an entry takes a slot, is this project's profile.
 use Rattle.std.specs.Prelude.{ℕ, Bool, not, ◌&&◌, ◌==◌, ◌+◌, ◌-◌, ◌%◌, if◌then◌else◌, Option, Some, None, Result, Ok, Err}
-use Rattle.sci_words.specs.declared.limits.TheConstants.{CONTROLS}
-use Rattle.sci_words.specs.declared.event.AskKind.{AskKind}
+use Rattle.sci_words.specs.declared.{limits.TheConstants.{CONTROLS}, event.AskKind.{AskKind}}
 use Rattle.sci_packets.specs.declared.body.Body.{Body}
-use Rattle.sci_cache.specs.declared.fault.AskFault.{AskFault}
-use Rattle.sci_cache.specs.declared.fault.AskFault.TheVariants.{NoSlot, NotNow}
-use Rattle.sci_cache.specs.State.{CacheState, Out, is_out}
-use Rattle.sci_cache.specs.Asking.{Asked, asking}
-use Rattle.sci_cache.specs.Accepting.{accepting}
+use Rattle.sci_cache.specs.declared.fault.AskFault.{AskFault, TheVariants.{NoSlot, NotNow}}
+use Rattle.sci_cache.specs.{State.{CacheState, Out, is_out}, Asking.{Asked, asking}, Accepting.{accepting}}
 
 pub record LineState : Type 0 where
   pub state : CacheState

@@ -1,6 +1,5 @@
 -- Sets of lines, each a number with a bit for each line.
-use Rattle.std.specs.Prelude.{ℕ, ◌<◌, ◌==◌, Bool, Option, Some, None}
-use Rattle.std.specs.Int.{bit_at}
+use Rattle.std.specs.{Prelude.{ℕ, ◌<◌, ◌==◌, Bool, Option, Some, None}, Int.{bit_at}}
 
 -- whether a line is in a set
 abbrev pub is_in : ℕ → ℕ → Bool

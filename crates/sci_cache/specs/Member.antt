@@ -1,8 +1,7 @@
 -- Which lines are members of a sharing list, and which entry is behind each. Lists along forward identifiers are those of
 -- IEEE Std 1596-1992; when a line counts as a member is this project's profile.
 use Rattle.std.specs.Prelude.{ℕ, Option, Some, None}
-use Rattle.sci_packets.specs.declared.body.Body.{Body}
-use Rattle.sci_packets.specs.declared.body.Body.TheVariants.{Mdata, Mgone, Purged, Wbok, Wbno, Busy, Fdata}
+use Rattle.sci_packets.specs.declared.body.Body.{Body, TheVariants.{Mdata, Mgone, Purged, Wbok, Wbno, Busy, Fdata}}
 use Rattle.sci_cache.specs.State.{CacheState, Asking, Joining, FreshJoining, Head, FreshHead, Below, Purging, Claiming, Clearing, Returning, Rolling}
 
 -- the entry behind a member, or none at a list's end, by its state and the answer that is under way to it, if any;

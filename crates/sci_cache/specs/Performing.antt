@@ -1,11 +1,8 @@
 -- What a cache's processor can do with its contents. As in IEEE Std 1596-1992, a sharer may read and only the head of a
 -- list may change the line; that it purges the others first is this project's profile.
 use Rattle.std.specs.Prelude.{ℕ, nat_lt, ◌-◌, ◌^◌, if◌then◌else◌, Option, Some, None}
-use Rattle.sci_words.specs.declared.stamped.Stamped.{Stamped}
-use Rattle.sci_words.specs.declared.operation.Op.{Op}
-use Rattle.sci_words.specs.declared.operation.Reply.{Reply}
-use Rattle.sci_words.specs.Operation.{is_maker}
-use Rattle.sci_words.specs.Stamped.{after, reply_of}
+use Rattle.sci_words.specs.declared.{stamped.Stamped.{Stamped}, operation.{Op.{Op}, Reply.{Reply}}}
+use Rattle.sci_words.specs.{Operation.{is_maker}, Stamped.{after, reply_of}}
 use Rattle.sci_cache.specs.State.{CacheState, Head, FreshHead, Below}
 
 -- what an operation did: the reply, the version that it read or made, and the state that the cache then is in

@@ -1,8 +1,9 @@
 //! What each state does with an answer.
 
 ghost use Rattle.std.specs.Prelude.{◌≡◌, option_map};
-ghost use Rattle.sci_cache.specs.State.{Asking as Asking_of, Joining as Joining_of, FreshJoining as FreshJoining_of, Purging as Purging_of, Claiming as Claiming_of, Clearing as Clearing_of, Returning as Returning_of, Rolling as Rolling_of, Telling as Telling_of, Fading as Fading_of};
-ghost use Rattle.sci_cache.specs.Accepting.{accepting};
+ghost use Rattle.sci_cache.specs.State.{Asking as Asking_of, Joining as Joining_of, FreshJoining as FreshJoining_of, Purging as Purging_of};
+ghost use Rattle.sci_cache.specs.State.{Claiming as Claiming_of, Clearing as Clearing_of, Returning as Returning_of, Rolling as Rolling_of};
+ghost use Rattle.sci_cache.specs.{State.{Telling as Telling_of, Fading as Fading_of}, Accepting.{accepting}};
 ghost use Rattle.sci_cache.specs.Held.{state_of};
 
 use crate::held::Held;

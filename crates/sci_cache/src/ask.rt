@@ -3,8 +3,8 @@
 ghost use Rattle.std.specs.Prelude.{◌≡◌, IfSome};
 ghost use Rattle.sci_words.specs.declared.event.AskKind.{AskKind};
 ghost use Rattle.sci_cache.specs.Asking.{asking};
-ghost use Rattle.sci_cache.specs.State.{Out, Joining as Joining_of, FreshJoining as FreshJoining_of, Head, FreshHead as FreshHead_of, Below as Below_of, Telling as Telling_of};
-ghost use Rattle.sci_cache.specs.Held.{state_of};
+ghost use Rattle.sci_cache.specs.State.{Out, Joining as Joining_of, FreshJoining as FreshJoining_of, Head, FreshHead as FreshHead_of, Below as Below_of};
+ghost use Rattle.sci_cache.specs.{State.{Telling as Telling_of}, Held.{state_of}};
 
 use crate::held::Held;
 use crate::states::*;

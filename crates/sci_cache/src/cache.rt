@@ -28,8 +28,7 @@ pub struct Cache {
 
 impl Model for Cache {
     ghost use Rattle.std.specs.Prelude.{◌≡◌};
-    ghost use Rattle.sci_cache.specs.Cache.{CacheOf};
-    ghost use Rattle.sci_cache.specs.Index.{IsIndex};
+    ghost use Rattle.sci_cache.specs.{Cache.{CacheOf}, Index.{IsIndex}};
 
     ghost Value = { CacheOf };
 
@@ -59,14 +58,13 @@ fn taken_after(taken: usize, was_out: bool, is_out: bool) -> usize
 }
 
 impl Cache {
-    ghost use Rattle.std.specs.Prelude.{◌≡◌, ◌<◌, ◌≤◌, ◌%◌, ◌&&◌, ℕ, true, false, Some, None, Ok, Err, IfOk, IfErr, IfSome, IsErr, IsOk, length, replicate};
+    ghost use Rattle.std.specs.Prelude.{◌≡◌, ◌<◌, ◌≤◌, ◌%◌, ◌&&◌, ℕ, true, false, Some, None, Ok, Err, IfOk, IfErr, IfSome, IsErr, IsOk, length};
+    ghost use Rattle.std.specs.Prelude.{replicate};
     ghost use Rattle.sci_words.specs.declared.limits.TheConstants.{MAX_LINES, WORDS_PER_LINE};
-    ghost use Rattle.sci_cache.specs.Serving.{IsForCache};
-    ghost use Rattle.sci_cache.specs.Line.{untouched};
-    ghost use Rattle.sci_cache.specs.Held.{state_of};
-    ghost use Rattle.sci_cache.specs.Kinds.{is_of};
+    ghost use Rattle.sci_cache.specs.{Serving.{IsForCache}, Line.{untouched}, Held.{state_of}, Kinds.{is_of}};
     ghost use Rattle.sci_cache.specs.LineSet.{IsBefore, is_in};
-    ghost use Rattle.sci_cache.specs.Cache.{CacheOf, line_of, has_slot, letter_of, slots_taken, cache_asking, cache_serving, cache_accepting, cache_performing};
+    ghost use Rattle.sci_cache.specs.Cache.{CacheOf, line_of, has_slot, letter_of, slots_taken, cache_asking, cache_serving, cache_accepting};
+    ghost use Rattle.sci_cache.specs.Cache.{cache_performing};
 
     /// The cache of node `me` in a machine of this size, with no entry for any line. Requires that
     /// there is such a node. Refused if memory is.

@@ -6,8 +6,7 @@ use sci_words::Stamped;
 
 impl Held {
     ghost use Rattle.std.specs.Prelude.{◌≡◌};
-    ghost use Rattle.sci_cache.specs.Held.{state_of};
-    ghost use Rattle.sci_cache.specs.Member.{link_of};
+    ghost use Rattle.sci_cache.specs.{Held.{state_of}, Member.{link_of}};
     ghost use Rattle.sci_cache.specs.State.{backward_of, contents_of, forward_of, is_sent as is_sent_of, waits as waits_of};
 
     /// Whether the line awaits an answer.

@@ -1,8 +1,7 @@
 //! The state of a cache for one line, whichever it is.
 
 ghost use Rattle.std.specs.Prelude.{◌≡◌, option_map, false};
-ghost use Rattle.sci_cache.specs.Asking.{asking};
-ghost use Rattle.sci_cache.specs.State.{Joining as Joining_of};
+ghost use Rattle.sci_cache.specs.{Asking.{asking}, State.{Joining as Joining_of}};
 
 use crate::fault::NotAwaited;
 use crate::states::*;
@@ -30,9 +29,7 @@ pub enum Held {
 
 impl Held {
     ghost use Rattle.std.specs.Prelude.{◌≡◌, IfSome, IsSome, IfOk, IsErr, Some, None, option_map};
-    ghost use Rattle.sci_cache.specs.State.{is_out as is_out_of, state_name};
-    ghost use Rattle.sci_cache.specs.Asking.{asking};
-    ghost use Rattle.sci_cache.specs.Accepting.{accepting};
+    ghost use Rattle.sci_cache.specs.{State.{is_out as is_out_of, state_name}, Asking.{asking}, Accepting.{accepting}};
     ghost use Rattle.sci_cache.specs.Held.{state_of};
 
     /// The same state.

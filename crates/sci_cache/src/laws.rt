@@ -1,16 +1,11 @@
 //! Laws of the tables, each the contract of a function that does nothing.
 
 ghost use Rattle.std.specs.Prelude.{◌≡◌, ℕ, true, false, Option, Some, None, IfSome};
-ghost use Rattle.sci_words.specs.declared.event.AskKind.{AskKind};
-ghost use Rattle.sci_words.specs.declared.operation.Op.{Op};
-ghost use Rattle.sci_packets.specs.declared.body.Body.{Body};
-ghost use Rattle.sci_packets.specs.declared.body.Body.TheVariants.{Busy, Purged, Rolled};
-ghost use Rattle.sci_cache.specs.State.{CacheState, waits};
-ghost use Rattle.sci_cache.specs.Asking.{asking};
-ghost use Rattle.sci_cache.specs.Accepting.{accepting};
+ghost use Rattle.sci_words.specs.declared.{event.AskKind.{AskKind}, operation.Op.{Op}};
+ghost use Rattle.sci_packets.specs.declared.body.Body.{Body, TheVariants.{Busy, Purged, Rolled}};
+ghost use Rattle.sci_cache.specs.{State.{CacheState, waits}, Asking.{asking}, Accepting.{accepting}};
 ghost use Rattle.sci_cache.specs.Serving.{serving, serving_cread, serving_purge, serving_roll, serving_setback};
-ghost use Rattle.sci_cache.specs.Performing.{performing};
-ghost use Rattle.sci_cache.specs.Member.{link_of};
+ghost use Rattle.sci_cache.specs.{Performing.{performing}, Member.{link_of}};
 
 /// An ask changes no link.
 pub fn asking_keeps_link()

@@ -28,9 +28,7 @@ impl Model for CachedLine {
 impl CachedLine {
     ghost use Rattle.std.specs.Prelude.{◌≡◌, ◌<◌, IfOk, IfErr, IfSome, IsErr, IsSome, Ok, Err, Some, None};
     ghost use Rattle.sci_words.specs.declared.limits.TheConstants.{WORDS_PER_LINE};
-    ghost use Rattle.sci_cache.specs.State.{CacheState, is_out};
-    ghost use Rattle.sci_cache.specs.Asking.{asking};
-    ghost use Rattle.sci_cache.specs.Serving.{IsForCache, serving};
+    ghost use Rattle.sci_cache.specs.{State.{CacheState, is_out}, Asking.{asking}, Serving.{IsForCache, serving}};
     ghost use Rattle.sci_cache.specs.Performing.{performing};
     ghost use Rattle.sci_cache.specs.Line.{untouched, line_asking, line_asked, line_in, line_accepting, next_control};
     ghost use Rattle.sci_cache.specs.Held.{state_of};

@@ -21,8 +21,7 @@ pub enum LineKind {
 
 impl Held {
     ghost use Rattle.std.specs.Prelude.{◌≡◌};
-    ghost use Rattle.sci_cache.specs.Held.{state_of};
-    ghost use Rattle.sci_cache.specs.Kinds.{is_of as is_state_of};
+    ghost use Rattle.sci_cache.specs.{Held.{state_of}, Kinds.{is_of as is_state_of}};
 
     /// Whether the state is of this kind.
     pub fn is_of(&self, kind: LineKind) -> bool

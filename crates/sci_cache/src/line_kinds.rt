@@ -34,10 +34,7 @@ impl Model for LineKinds {
 impl LineKinds {
     ghost use Rattle.std.specs.Prelude.{◌≡◌, ◌≢◌, ◌<◌, ℕ, false};
     ghost use Rattle.sci_words.specs.declared.limits.TheConstants.{MAX_LINES};
-    ghost use Rattle.sci_cache.specs.Held.{state_of};
-    ghost use Rattle.sci_cache.specs.Kinds.{is_of};
-    ghost use Rattle.sci_cache.specs.LineKinds.{set_of};
-    ghost use Rattle.sci_cache.specs.LineSet.{is_in};
+    ghost use Rattle.sci_cache.specs.{Held.{state_of}, Kinds.{is_of}, LineKinds.{set_of}, LineSet.{is_in}};
     ghost use Rattle.sci_cache.specs.declared.line_kind.LineKind.{LineKind};
 
     /// The kinds of no line.

@@ -5,8 +5,7 @@ use sci_words::Op;
 
 impl Held {
     ghost use Rattle.std.specs.Prelude.{◌≡◌, is_some};
-    ghost use Rattle.sci_cache.specs.Held.{state_of};
-    ghost use Rattle.sci_cache.specs.Performing.{performing};
+    ghost use Rattle.sci_cache.specs.{Held.{state_of}, Performing.{performing}};
 
     /// Whether the state allows an operation: a load wherever it has contents to give, and a maker if no other
     /// node has a copy and the line's version isn't the greatest u64.

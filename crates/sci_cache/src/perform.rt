@@ -1,11 +1,9 @@
 //! What a processor can do with the contents of each state.
 
 ghost use Rattle.std.specs.Prelude.{◌≡◌, ◌<◌, ◌^◌, ◌-◌, true, None, Some, option_map, if◌then◌else◌, nat_lt};
-ghost use Rattle.sci_words.specs.declared.limits.TheConstants.{WORDS_PER_LINE};
-ghost use Rattle.sci_words.specs.Operation.{is_maker};
+ghost use Rattle.sci_words.specs.{declared.limits.TheConstants.{WORDS_PER_LINE}, Operation.{is_maker}};
 ghost use Rattle.sci_words.specs.Stamped.{after, reply_of};
-ghost use Rattle.sci_cache.specs.Performing.{performing};
-ghost use Rattle.sci_cache.specs.Held.{state_of};
+ghost use Rattle.sci_cache.specs.{Performing.{performing}, Held.{state_of}};
 
 use crate::held::Held;
 use sci_words::{Op, Reply, Stamped};

@@ -1,9 +1,7 @@
 -- What a generator draws. Its state is the four words of xoshiro256++, as rand_xoshiro defines them.
 use Rattle.std.specs.Prelude.{◌≡◌, ℕ, ◌-◌, ◌*◌, ◌/◌, ◌%◌, ◌^◌, ◌==◌, List, [], ◌∷◌, Some, if◌then◌else◌, slice_get}
-use Rattle.rand_xoshiro.specs.SplitMix64.{splitmix_seed}
-use Rattle.rand_xoshiro.specs.Xoshiro256.{of_seed, plus_plus}
-use Rattle.sci_words.specs.declared.operation.Act.{Act}
-use Rattle.sci_words.specs.declared.operation.Act.TheVariants.{Load, Store, Lock}
+use Rattle.rand_xoshiro.specs.{SplitMix64.{splitmix_seed}, Xoshiro256.{of_seed, plus_plus}}
+use Rattle.sci_words.specs.declared.operation.Act.{Act, TheVariants.{Load, Store, Lock}}
 use Rattle.sci_words.specs.declared.operation.LockOp.TheVariants.{MaskSwap, CompareSwap, FetchAdd, BoundedAdd, WrapAdd}
 
 -- the state of a seed

@@ -2,8 +2,7 @@
 
 ghost use Rattle.std.specs.Prelude.{◌≡◌, ◌<◌, ◌==◌, if◌then◌else◌, min, slice_get, true};
 ghost use Rattle.sci_chance.specs.Drawing.{IsActOf, after, drawn, word_of};
-ghost use Rattle.sci_words.specs.Operation.{has_words};
-ghost use Rattle.sci_words.specs.declared.event.TheConstants.AskKind.{ALL};
+ghost use Rattle.sci_words.specs.{Operation.{has_words}, declared.event.TheConstants.AskKind.{ALL}};
 ghost use Rattle.sci_words.specs.declared.limits.TheConstants.{WORDS_PER_LINE};
 
 use crate::random::Random;

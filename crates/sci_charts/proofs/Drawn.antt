@@ -1,15 +1,13 @@
 -- The rows of a chart, one event after another.
-use Rattle.std.proofs.Common.{◌≡◌, ◌<◌, ◌≤◌, ℕ, ◌+◌, List, [], ◌∷◌, ◌++◌, length, drop, get_or, Bool, true, false, Option, Some, None, append_assoc}
-use Rattle.std.proofs.Common.{◌∙◌, arith, ap, refl, subst, sym}
-use Rattle.std.specs.Prelude.{◌&&◌, not, is_none, is_some, nat_le, filter, cond}
-use Rattle.std.proofs.lemmas.Bool.{ltb-true, lt-leb}
+use Rattle.std.proofs.Common.{◌≡◌, ◌<◌, ◌≤◌, ℕ, ◌+◌, List, [], ◌∷◌, ◌++◌, length, drop, get_or, Bool, true, false, Option, Some, None, append_assoc, ◌∙◌}
+use Rattle.std.proofs.{Common.{arith, ap, refl, subst, sym}, lemmas.Bool.{ltb-true, lt-leb}}
 use Rattle.std.proofs.lemmas.List.{append-nil, drop_all, drop_more}
+use Rattle.std.specs.Prelude.{◌&&◌, not, is_none, is_some, nat_le, filter, cond}
 use Rattle.sci_words.specs.declared.event.Event.{Event}
 use Rattle.sci_core.specs.Core.{Core, step, stepping}
 use Rattle.sci_cache.specs.Cache.{Letter}
 use Rattle.sci_statistics.specs.About.{letter_sent}
-use Rattle.sci_charts.specs.declared.charting.ChartRequest.{ChartRequest}
-use Rattle.sci_charts.specs.declared.charting.TextLines.{TextLines}
+use Rattle.sci_charts.specs.declared.charting.{ChartRequest.{ChartRequest}, TextLines.{TextLines}}
 use Rattle.sci_charts.specs.Rows.{AreRows, IsRow, Place, if_enabled, is_past, is_shown, is_within, places}
 use Rattle.sci_charts.specs.Drawing.{Adds, AddsBy, EndsWith, chart_end}
 

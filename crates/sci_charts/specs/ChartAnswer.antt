@@ -1,11 +1,8 @@
 -- What `chart` writes for its input. How it looks is tested.
 use Rattle.std.specs.Prelude.{◌≡◌, ℕ, Bool, List, Option}
 use Rattle.sci_text.specs.Schedule.{ScheduleValue, IsSchedule, schedule_text}
-use Rattle.sci_command.specs.declared.outcome.Outcome.{Outcome}
-use Rattle.sci_command.specs.Answer.{IsDoneBy}
-use Rattle.sci_command.specs.AskedLine.{HasLine, IsAskedFault}
-use Rattle.sci_charts.specs.declared.charting.ChartRequest.{ChartRequest}
-use Rattle.sci_charts.specs.Rows.{AreRows, shown_places}
+use Rattle.sci_command.specs.{declared.outcome.Outcome.{Outcome}, Answer.{IsDoneBy}, AskedLine.{HasLine, IsAskedFault}}
+use Rattle.sci_charts.specs.{declared.charting.ChartRequest.{ChartRequest}, Rows.{AreRows, shown_places}}
 use Rattle.sci_charts.specs.Drawing.{EndsWith}
 
 -- the chart of a schedule: it ends with one row for each event that is asked for, in order

@@ -1,9 +1,7 @@
 -- Elements of SVG.
 use Rattle.std.specs.Prelude.{ℕ, List, [], ◌∷◌, ◌++◌, codes}
 use Rattle.sci_text.specs.Number.{number}
-use Rattle.sci_charts.specs.declared.elements.Point.{Point}
-use Rattle.sci_charts.specs.declared.elements.Way.{Way}
-use Rattle.sci_charts.specs.declared.elements.Way.TheVariants.{Straight, Around}
+use Rattle.sci_charts.specs.declared.elements.{Point.{Point}, Way.{Way, TheVariants.{Straight, Around}}}
 
 -- ` NAME="VALUE"`
 unfoldable pub attribute : List ℕ → ℕ → List ℕ

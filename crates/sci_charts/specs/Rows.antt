@@ -4,19 +4,12 @@ use Rattle.sci_words.specs.declared.event.Event.{Event}
 use Rattle.sci_packets.specs.declared.packet.Packet.{Packet}
 use Rattle.sci_cache.specs.Cache.{Letter, letter_of}
 use Rattle.sci_core.specs.Core.{Core, step, stepping}
-use Rattle.sci_statistics.specs.About.{line_about, letter_sent}
-use Rattle.sci_statistics.specs.Beginning.{before}
-use Rattle.sci_text.specs.Number.{number}
-use Rattle.sci_text.specs.Schedule.{ScheduleValue, event_word, event_details, first_node}
-use Rattle.sci_text.specs.Number.{field}
-use Rattle.sci_command.specs.AskedLine.{is_asked}
-use Rattle.sci_command.specs.PacketLine.{packet_line}
-use Rattle.sci_charts.specs.declared.charting.ChartRequest.{ChartRequest}
-use Rattle.sci_charts.specs.declared.charting.TextLines.{TextLines}
-use Rattle.sci_charts.specs.declared.arrows.ArrowKind.{ArrowKind}
-use Rattle.sci_charts.specs.declared.arrows.ArrowKind.TheVariants.{Request, Refused, Answer, Busy}
-use Rattle.sci_charts.specs.declared.elements.Point.{Point}
-use Rattle.sci_charts.specs.declared.elements.Way.{Way}
+use Rattle.sci_statistics.specs.{About.{line_about, letter_sent}, Beginning.{before}}
+use Rattle.sci_text.specs.{Number.{number, field}, Schedule.{ScheduleValue, event_word, event_details, first_node}}
+use Rattle.sci_command.specs.{AskedLine.{is_asked}, PacketLine.{packet_line}}
+use Rattle.sci_charts.specs.declared.charting.{ChartRequest.{ChartRequest}, TextLines.{TextLines}}
+use Rattle.sci_charts.specs.declared.arrows.ArrowKind.{ArrowKind, TheVariants.{Request, Refused, Answer, Busy}}
+use Rattle.sci_charts.specs.declared.elements.{Point.{Point}, Way.{Way}}
 use Rattle.sci_charts.specs.Elements.{arrow_element, block_element, circle_element, cross_element, event_element, label_element}
 
 -- ---- the events that are shown

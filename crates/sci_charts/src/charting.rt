@@ -2,11 +2,9 @@
 
 ghost use Rattle.std.specs.Prelude.{◌≡◌, ◌&&◌, false, IfOk};
 ghost use Rattle.sci_text.specs.Tap.{has_failed};
-ghost use Rattle.sci_command.specs.Answer.{HasAnswered};
-ghost use Rattle.sci_command.specs.declared.outcome.Outcome.{Outcome};
-ghost use Rattle.sci_charts.specs.ChartAnswer.{IsChart, IsChartAnswer};
+ghost use Rattle.sci_command.specs.{Answer.{HasAnswered}, declared.outcome.Outcome.{Outcome}};
 ghost use Rattle.sci_command.specs.AskedLine.{IsAskedFault, is_asked};
-ghost use Rattle.sci_charts.specs.Rows.{is_past, is_within};
+ghost use Rattle.sci_charts.specs.{ChartAnswer.{IsChart, IsChartAnswer}, Rows.{is_past, is_within}};
 
 use crate::drawing::Drawing;
 use crate::layout::FIRST_LINE;

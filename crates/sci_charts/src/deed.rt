@@ -4,8 +4,7 @@ ghost use Rattle.std.specs.Prelude.{◌≡◌, false, IfOk, OnOk, is_none, is_so
 ghost use Rattle.sci_cache.specs.Cache.{letter_of};
 ghost use Rattle.sci_core.specs.Core.{step, stepping};
 ghost use Rattle.sci_statistics.specs.About.{letter_sent};
-ghost use Rattle.sci_charts.specs.Drawing.{is_dead, letter_in};
-ghost use Rattle.sci_charts.specs.Rows.{if_enabled};
+ghost use Rattle.sci_charts.specs.{Drawing.{is_dead, letter_in}, Rows.{if_enabled}};
 
 use sci_core::Machine;
 use sci_packets::Packet;

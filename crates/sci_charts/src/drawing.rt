@@ -2,8 +2,7 @@
 
 ghost use Rattle.std.specs.Prelude.{◌≡◌, ℕ, List, ◌++◌, IfOk, OnOk, not};
 ghost use Rattle.sci_core.specs.Core.{step};
-ghost use Rattle.sci_charts.specs.Drawing.{Adds, Drawn, chart_end, is_dead, letter_in};
-ghost use Rattle.sci_charts.specs.Rows.{IsRow};
+ghost use Rattle.sci_charts.specs.{Drawing.{Adds, Drawn, chart_end, is_dead, letter_in}, Rows.{IsRow}};
 
 use crate::arrows::{Arrows, Passage};
 use crate::charting::ChartRequest;

@@ -1,7 +1,8 @@
 //! Elements of SVG, appended to a text. Words have none of the characters to which XML gives a meaning there: `>` is not one.
 
 ghost use Rattle.std.specs.Prelude.{◌≡◌, ◌++◌, OnOk};
-ghost use Rattle.sci_charts.specs.Elements.{arrow_element, attribute, block_element, circle_element, class_attribute, cross_element, event_element, label_element, opening, point_text, title_element, way_text};
+ghost use Rattle.sci_charts.specs.Elements.{arrow_element, attribute, block_element, circle_element, class_attribute, cross_element, event_element};
+ghost use Rattle.sci_charts.specs.Elements.{label_element, opening, point_text, title_element, way_text};
 
 use sci_text::{push_number, push_text};
 use std::alloc::AllocError;

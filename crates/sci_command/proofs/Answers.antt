@@ -1,16 +1,12 @@
 -- Answers to a text that was read.
 use Rattle.std.proofs.Common.{◌≡◌, ℕ, List, Bool, false, Option, Result, Ok, Err, refl}
-use Rattle.std.specs.Prelude.{IfErr}
-use Rattle.std.specs.Result.{IsErr}
-use Rattle.sci_text.specs.declared.fault.TextFault.{TextFault}
-use Rattle.sci_text.specs.declared.fault.TextFaultKind.{TextFaultKind}
+use Rattle.std.specs.{Prelude.{IfErr}, Result.{IsErr}}
+use Rattle.sci_text.specs.declared.fault.{TextFault.{TextFault}, TextFaultKind.{TextFaultKind}}
 use Rattle.sci_text.specs.FirstFault.{AreRead, IsRefusal, IsTold}
 use Rattle.sci_text.proofs.FirstFaults.{told_of_bytes}
-use Rattle.sci_command.specs.declared.answer.Answer.{Answer}
-use Rattle.sci_command.specs.declared.outcome.Outcome.{Outcome}
+use Rattle.sci_command.specs.declared.{answer.Answer.{Answer}, outcome.Outcome.{Outcome}}
 use Rattle.sci_command.specs.declared.outcome.Outcome.TheVariants.{Done, Unlawful, Refused}
-use Rattle.sci_command.specs.Answer.{IsAnswerBy, IsAnswered}
-use Rattle.sci_command.specs.Input.{IsReadAs}
+use Rattle.sci_command.specs.{Answer.{IsAnswerBy, IsAnswered}, Input.{IsReadAs}}
 
 -- one that is made isn't Refused
 pub answer_made : (is_made : List ℕ → List ℕ → Outcome → Type 0) (is_told : TextFaultKind → Option (List ℕ) → Bool → ℕ → Type 0)

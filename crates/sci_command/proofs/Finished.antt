@@ -1,18 +1,12 @@
 -- What is written of a command's answer is an answer to its input.
 use Rattle.std.proofs.Common.{◌≡◌, ℕ, List, Bool, false, true, Option, Result, Ok, Err}
-use Rattle.std.specs.Prelude.{IfOk, IfErr}
-use Rattle.std.specs.Io.KnownBytes.{Appends}
-use Rattle.sci_text.specs.declared.fault.TextFault.{TextFault}
-use Rattle.sci_text.specs.declared.tap.Tap.{Tap}
+use Rattle.std.specs.{Prelude.{IfOk, IfErr}, Io.KnownBytes.{Appends}}
+use Rattle.sci_text.specs.declared.{fault.{TextFault.{TextFault}, TextFaultKind.{TextFaultKind}}, tap.Tap.{Tap}}
 use Rattle.sci_text.specs.Tap.{has_failed, is_called_again, tapped}
-use Rattle.sci_command.specs.declared.answer.Answer.{Answer}
-use Rattle.sci_command.specs.declared.outcome.Outcome.{Outcome}
-use Rattle.sci_command.specs.declared.outcome.Outcome.TheVariants.{Refused}
-use Rattle.sci_command.specs.Answer.{HasAnswered, IsAnswered, IsWrittenOf}
-use Rattle.sci_text.specs.declared.fault.TextFaultKind.{TextFaultKind}
-use Rattle.sci_command.proofs.Refusals.{AllowsMemory, refused_by}
-use Rattle.sci_command.specs.Refusal.{Refuses, IsRefusalBy}
+use Rattle.sci_command.specs.declared.{answer.Answer.{Answer}, outcome.Outcome.{Outcome, TheVariants.{Refused}}}
+use Rattle.sci_command.specs.{Answer.{HasAnswered, IsAnswered, IsWrittenOf}, Refusal.{Refuses, IsRefusalBy}}
 use Rattle.sci_command.specs.Writing.{HasCarriedOut, HasWritten, WritesFront}
+use Rattle.sci_command.proofs.Refusals.{AllowsMemory, refused_by}
 
 -- a text that was written, or a front of it, is an answer if the text is
 pub written_text : (is_answer : List ℕ → Outcome → Type 0) (text : List ℕ) (outcome : Outcome) → is_answer text outcome

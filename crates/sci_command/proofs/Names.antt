@@ -1,8 +1,6 @@
 -- The name of a command is short.
 use Rattle.std.proofs.Common.{◌≤◌, length, arith}
-use Rattle.sci_packets.specs.declared.command.Command.{Command}
-use Rattle.sci_packets.specs.declared.command.Command.TheVariants.{Mread}
-use Rattle.sci_packets.specs.Table.{command_name}
+use Rattle.sci_packets.specs.{declared.command.Command.{Command, TheVariants.{Mread}}, Table.{command_name}}
 
 pub name_short : (command : Command) → length (command_name command) ≤ 7
 unfolding command_name

@@ -1,11 +1,8 @@
 -- A text that is written piece by piece.
 use Rattle.std.proofs.Common.{◌≡◌, ℕ, List, [], ◌++◌, Bool, false, true, Option, refl, sym, ap, subst, ◌∙◌, append_assoc}
-use Rattle.std.specs.Prelude.{Result, Ok, Err, OnOk, IfErr}
-use Rattle.std.specs.Io.KnownBytes.{Appends}
-use Rattle.std.proofs.KnownBytes.{Appends-trans}
-use Rattle.std.proofs.lemmas.List.{append-nil}
-use Rattle.sci_text.specs.declared.fault.TextFault.{TextFault}
-use Rattle.sci_text.specs.declared.fault.TextFaultKind.TheVariants.{Write}
+use Rattle.std.proofs.{KnownBytes.{Appends-trans}, lemmas.List.{append-nil}}
+use Rattle.std.specs.{Prelude.{Result, Ok, Err, OnOk, IfErr}, Io.KnownBytes.{Appends}}
+use Rattle.sci_text.specs.declared.fault.{TextFault.{TextFault}, TextFaultKind.TheVariants.{Write}}
 use Rattle.sci_text.specs.Writing.{IsWriteFault}
 use Rattle.sci_command.specs.Writing.{IsPrinted, WritesFront}
 use Rattle.sci_command.proofs.Written.{front_written}

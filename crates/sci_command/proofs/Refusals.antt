@@ -1,12 +1,9 @@
 -- A refusal that was written is that of the fault that is told, or of the memory that its line would take.
 use Rattle.std.proofs.Common.{ℕ, ◌<◌, List, Bool, Option, refl, inl, inr, arith}
-use Rattle.sci_text.specs.declared.fault.TextFault.{TextFault}
-use Rattle.sci_text.specs.declared.fault.TextFaultKind.{TextFaultKind}
-use Rattle.sci_text.specs.declared.fault.TextFaultKind.TheVariants.{Read, Write, Memory}
-use Rattle.sci_text.specs.FirstFault.{IsTold}
+use Rattle.sci_text.specs.declared.fault.{TextFault.{TextFault}, TextFaultKind.{TextFaultKind}}
+use Rattle.sci_text.specs.{declared.fault.TextFaultKind.TheVariants.{Read, Write, Memory}, FirstFault.{IsTold}}
 use Rattle.sci_text.specs.ScheduleFault.{IsScheduleFault}
-use Rattle.sci_command.specs.AskedLine.{IsAskedFault}
-use Rattle.sci_command.specs.Refusal.{Refuses, IsRefusalBy}
+use Rattle.sci_command.specs.{AskedLine.{IsAskedFault}, Refusal.{Refuses, IsRefusalBy}}
 
 -- where a fault is told of a line, that memory was refused may be told of the whole input
 abbrev pub AllowsMemory : (TextFaultKind → ℕ → Type 0) → Type 0

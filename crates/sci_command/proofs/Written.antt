@@ -1,9 +1,8 @@
 -- A text is written from its front.
 use Rattle.std.proofs.Common.{◌≡◌, ℕ, List, take, drop, Bool, true, Option, Result, Ok, Err, sym}
-use Rattle.std.specs.Prelude.{IfErr, is_err}
 use Rattle.std.proofs.lemmas.List.{take-append-drop}
-use Rattle.sci_text.specs.declared.fault.TextFault.{TextFault}
-use Rattle.sci_text.specs.declared.fault.TextFaultKind.TheVariants.{Write}
+use Rattle.std.specs.Prelude.{IfErr, is_err}
+use Rattle.sci_text.specs.declared.fault.{TextFault.{TextFault}, TextFaultKind.TheVariants.{Write}}
 use Rattle.sci_text.specs.Writing.{IsWriteFault}
 use Rattle.sci_command.specs.Writing.{WritesFront}
 

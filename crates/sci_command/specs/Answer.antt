@@ -1,13 +1,9 @@
 -- A command's answer, and what is written of it.
 use Rattle.std.specs.Prelude.{◌≡◌, ℕ, Bool, List, Option, Result, Ok, Err}
-use Rattle.sci_text.specs.declared.fault.TextFault.{TextFault}
-use Rattle.sci_text.specs.declared.fault.TextFaultKind.{TextFaultKind}
-use Rattle.sci_text.specs.declared.tap.Tap.{Tap}
+use Rattle.sci_text.specs.declared.{fault.{TextFault.{TextFault}, TextFaultKind.{TextFaultKind}}, tap.Tap.{Tap}}
 use Rattle.sci_text.specs.Tap.{has_failed, is_called_again, tapped}
-use Rattle.sci_command.specs.declared.answer.Answer.{Answer}
-use Rattle.sci_command.specs.declared.outcome.Outcome.{Outcome}
-use Rattle.sci_command.specs.declared.outcome.Outcome.TheVariants.{Done, Unlawful, Refused}
-use Rattle.sci_command.specs.Input.{IsReadAs}
+use Rattle.sci_command.specs.declared.{answer.Answer.{Answer}, outcome.Outcome.{Outcome}}
+use Rattle.sci_command.specs.{declared.outcome.Outcome.TheVariants.{Done, Unlawful, Refused}, Input.{IsReadAs}}
 use Rattle.sci_command.specs.Refusal.{IsRefusalBy, Refuses}
 
 -- the text of the answer is written, and the command ends as it says; or the refusal of the fault

@@ -1,11 +1,9 @@
 -- The line that is written for a packet.
-use Rattle.std.specs.Prelude.{ℕ, List, [], ◌∷◌, ◌++◌, codes, Option, Some, None}
-use Rattle.std.specs.List.{flat_map}
+use Rattle.std.specs.{Prelude.{ℕ, List, [], ◌∷◌, ◌++◌, codes, Option, Some, None}, List.{flat_map}}
 use Rattle.sci_words.specs.declared.stamped.Stamped.{Stamped}
 use Rattle.sci_packets.specs.declared.body.Body.{Body}
 use Rattle.sci_packets.specs.declared.body.Body.TheVariants.{Roll, Wback, Setback, Mdata, Mgone, Cdata, Purged, Fdata}
-use Rattle.sci_packets.specs.declared.packet.Packet.{Packet}
-use Rattle.sci_packets.specs.Table.{command_name, command_of}
+use Rattle.sci_packets.specs.{declared.packet.Packet.{Packet}, Table.{command_name, command_of}}
 use Rattle.sci_text.specs.Number.{number, field}
 
 -- an identifier, or that there is none

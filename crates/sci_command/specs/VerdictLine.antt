@@ -3,8 +3,8 @@ use Rattle.std.specs.Prelude.{ℕ, List, [], ◌∷◌, ◌++◌, codes, Option,
 use Rattle.sci_history.specs.declared.verdict.FaultKind.{FaultKind}
 use Rattle.sci_history.specs.declared.verdict.FaultKind.TheVariants.{VersionTwice, VersionMissing, WrongReply, OutOfOrder, LastDiffers}
 use Rattle.sci_history.specs.declared.verdict.Verdict.{Verdict}
-use Rattle.sci_history.specs.declared.verdict.Verdict.TheVariants as verdicts
 use Rattle.sci_text.specs.Number.{field}
+use Rattle.sci_history.specs.declared.verdict.Verdict.TheVariants as verdicts
 
 -- the number of a kind of fault, and its name
 unfoldable pub kind_text : FaultKind → List ℕ

@@ -1,10 +1,7 @@
 -- What is written of a text.
-use Rattle.std.specs.Prelude.{◌≡◌, ℕ, Bool, false, true, List, ◌++◌, Option}
-use Rattle.std.specs.Io.KnownBytes.{Appends}
-use Rattle.sci_text.specs.declared.tap.Tap.{Tap}
-use Rattle.sci_text.specs.Tap.{has_failed, is_called_again, tapped}
-use Rattle.sci_command.specs.declared.outcome.Outcome.{Outcome}
-use Rattle.sci_command.specs.declared.outcome.Outcome.TheVariants.{Refused}
+use Rattle.std.specs.{Prelude.{◌≡◌, ℕ, Bool, false, true, List, ◌++◌, Option}, Io.KnownBytes.{Appends}}
+use Rattle.sci_text.specs.{declared.tap.Tap.{Tap}, Tap.{has_failed, is_called_again, tapped}}
+use Rattle.sci_command.specs.declared.outcome.Outcome.{Outcome, TheVariants.{Refused}}
 
 -- a front of the text is written, and nothing else
 pub record WritesFront (old new : Option (List ℕ)) (text : List ℕ) : Type 0 where

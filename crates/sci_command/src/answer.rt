@@ -1,8 +1,7 @@
 //! What a command answers.
 
 ghost use Rattle.std.specs.Prelude.{◌≡◌};
-ghost use Rattle.sci_command.specs.Answer.{IsWrittenOf};
-ghost use Rattle.sci_command.specs.Writing.{HasWritten};
+ghost use Rattle.sci_command.specs.{Answer.{IsWrittenOf}, Writing.{HasWritten}};
 ghost use Rattle.sci_text.specs.Tap.{has_failed, is_called_again, tapped};
 
 use crate::outcome::Outcome;

@@ -1,10 +1,8 @@
 //! The line of memory that a command of a schedule is asked for.
 
 ghost use Rattle.std.specs.Prelude.{◌≡◌, true, false, IfOk, IfErr};
-ghost use Rattle.sci_text.specs.Schedule.{IsSchedule, schedule_text};
-ghost use Rattle.sci_text.specs.Tap.{has_failed, is_called_again, tapped};
-ghost use Rattle.sci_command.specs.Input.{IsReadAs};
-ghost use Rattle.sci_command.specs.AskedLine.{HasLine, IsAskedFault, is_asked as is_asked_of};
+ghost use Rattle.sci_text.specs.{Schedule.{IsSchedule, schedule_text}, Tap.{has_failed, is_called_again, tapped}};
+ghost use Rattle.sci_command.specs.{Input.{IsReadAs}, AskedLine.{HasLine, IsAskedFault, is_asked as is_asked_of}};
 
 use sci_text::{Schedule, Tap, TextFault, TextFaultKind, read_schedule};
 use std::alloc::Global;

@@ -14,8 +14,7 @@ pub enum Outcome {
 }
 
 impl Outcome {
-    ghost use Rattle.std.specs.Prelude.{◌≡◌};
-    ghost use Rattle.std.specs.Process.{exit_status};
+    ghost use Rattle.std.specs.{Prelude.{◌≡◌}, Process.{exit_status}};
     ghost use Rattle.sci_command.specs.Status.{status_of};
 
     /// The exit status of the program: 0 for Done, 1 for Unlawful and 2 for Refused.

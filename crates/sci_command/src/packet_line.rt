@@ -1,7 +1,6 @@
 //! The lines that packets are printed as.
 
-ghost use Rattle.std.specs.Prelude.{◌≡◌, ◌≤◌, ◌+◌, ◌++◌, length, OnOk};
-ghost use Rattle.std.specs.List.{flat_map};
+ghost use Rattle.std.specs.{Prelude.{◌≡◌, ◌≤◌, ◌+◌, ◌++◌, length, OnOk}, List.{flat_map}};
 ghost use Rattle.sci_words.specs.declared.limits.TheConstants.{MAX_TEXT_LINE_BYTES};
 ghost use Rattle.sci_text.specs.Number.{field};
 ghost use Rattle.sci_command.specs.PacketLine.{contents_text, head_text, identifier_text, packet_line, said_text, tail_text};

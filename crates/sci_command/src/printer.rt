@@ -1,7 +1,6 @@
 //! A text that is written piece by piece.
 
-ghost use Rattle.std.specs.Prelude.{◌≡◌, ◌++◌, ℕ, List, [], Option, false, true};
-ghost use Rattle.std.specs.Io.KnownBytes.{Appends};
+ghost use Rattle.std.specs.{Prelude.{◌≡◌, ◌++◌, ℕ, List, [], Option, false, true}, Io.KnownBytes.{Appends}};
 ghost use Rattle.sci_command.specs.Writing.{IsPrinted, WritesFront};
 ghost use Rattle.sci_text.specs.Tap.{has_failed, is_called_again, tapped};
 

@@ -1,10 +1,8 @@
 //! Refusals of texts.
 
-ghost use Rattle.std.specs.Prelude.{◌≡◌, ◌++◌, ℕ, List, false, IfOk};
-ghost use Rattle.std.specs.Io.KnownBytes.{Appends};
+ghost use Rattle.std.specs.{Prelude.{◌≡◌, ◌++◌, ℕ, List, false, IfOk}, Io.KnownBytes.{Appends}};
 ghost use Rattle.sci_text.specs.Tap.{has_failed, is_called_again, tapped};
-ghost use Rattle.sci_command.specs.Refusal.{Refuses, kind_word, line_refusal};
-ghost use Rattle.sci_command.specs.Writing.{WritesFront};
+ghost use Rattle.sci_command.specs.{Refusal.{Refuses, kind_word, line_refusal}, Writing.{WritesFront}};
 
 use crate::outcome::Outcome;
 use crate::writing::write_answer;

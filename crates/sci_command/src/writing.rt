@@ -1,7 +1,6 @@
 //! Writing an answer.
 
-ghost use Rattle.std.specs.Prelude.{◌≡◌, false, true};
-ghost use Rattle.std.specs.Io.KnownBytes.{Appends};
+ghost use Rattle.std.specs.{Prelude.{◌≡◌, false, true}, Io.KnownBytes.{Appends}};
 ghost use Rattle.sci_command.specs.Writing.{WritesFront};
 ghost use Rattle.sci_text.specs.Tap.{has_failed, is_called_again, tapped};
 

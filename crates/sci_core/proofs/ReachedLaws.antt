@@ -1,46 +1,27 @@
 -- The laws of every reached state, and of every schedule.
 use Rattle.std.proofs.Common.{◌≡◌, ℕ, ◌<◌, ◌≤◌, List, [], ◌++◌, filter, length, map, Option, refl, sym, ap, subst, ◌∙◌, arith, inl, inr}
-use Rattle.std.specs.Prelude.{Result, Ok, Err, IfOk, Some, unwrap_or}
-use Rattle.std.proofs.lemmas.List.Elements.{All-from_recursion}
-use Rattle.std.specs.List.{All, AllPairs}
-use Rattle.std.proofs.lemmas.Bool.{cases_lt}
-use Rattle.std.proofs.lemmas.List.{get_or_past}
+use Rattle.std.proofs.lemmas.{List.{get_or_past, Elements.{All-from_recursion}}, Bool.{cases_lt}}
 use Rattle.std.proofs.lemmas.List.FromFn.{get_or-map-range_with_len, length-map-range_with_len}
-use Rattle.sci_words.specs.declared.limits.TheConstants.{MAX_NODES}
-use Rattle.sci_words.specs.declared.event.Event.{Event}
-use Rattle.sci_words.specs.declared.stamped.Stamped.{Stamped}
+use Rattle.std.specs.{Prelude.{Result, Ok, Err, IfOk, Some, unwrap_or}, List.{All, AllPairs}}
+use Rattle.sci_words.specs.declared.{limits.TheConstants.{MAX_NODES}, event.Event.{Event}, stamped.Stamped.{Stamped}}
 use Rattle.sci_words.specs.Stamped.{zero_stamped}
-use Rattle.sci_history.specs.declared.entry.Entry.{Entry}
-use Rattle.sci_history.specs.Audit.{IsWithin, AreWithin}
-use Rattle.sci_history.specs.History.{IsHistory, HasHistory}
-use Rattle.sci_history.specs.Lawful.{Lawful}
+use Rattle.sci_history.specs.{declared.entry.Entry.{Entry}, Audit.{IsWithin, AreWithin}}
+use Rattle.sci_history.specs.{History.{IsHistory, HasHistory}, Lawful.{Lawful}}
 use Rattle.sci_history.specs.Memory.{IsRun, zero_memory, stamped_at, words_of_lines}
 use Rattle.sci_history.specs.Placed.{log_of, is_of_node, is_on_line, pair_of}
 use Rattle.sci_history.specs.Sequential.{IsSequentialOrder, IsSequentiallyConsistent}
-use Rattle.sci_history.proofs.SequentialRuns.{histories_are_run}
-use Rattle.sci_history.proofs.Lawfulness.{lawful_line}
+use Rattle.sci_history.proofs.{SequentialRuns.{histories_are_run}, Lawfulness.{lawful_line}}
 use Rattle.sci_history.proofs.Order.{filter_none, filter-filter, all_weaker, all-filter}
-use Rattle.sci_core.specs.Node.{NodeOf, opening_node, no_node}
-use Rattle.sci_core.specs.Core.{Core, node_at, stepping, step, opening, run}
-use Rattle.sci_core.specs.Reached.{IsReachable, IsReached}
-use Rattle.sci_core.specs.Done.{ChangesBy, LastChanges, made_by, done}
-use Rattle.sci_core.specs.Outcome.{logs_of}
-use Rattle.sci_core.specs.Coherent.{IsCoherent}
-use Rattle.sci_core.specs.Shape.{HasShapes}
-use Rattle.sci_core.specs.Sharing.{last_at, last_of}
-use Rattle.sci_core.specs.Tidy.{AreAccepted}
-use Rattle.sci_core.specs.WellFormed.{IsWellFormed}
+use Rattle.sci_core.specs.{Node.{NodeOf, opening_node, no_node}, Core.{Core, node_at, stepping, step, opening, run}}
+use Rattle.sci_core.specs.{Reached.{IsReachable, IsReached}, Done.{ChangesBy, LastChanges, made_by, done}}
+use Rattle.sci_core.specs.{Outcome.{logs_of}, Coherent.{IsCoherent}, Shape.{HasShapes}, Sharing.{last_at, last_of}}
+use Rattle.sci_core.specs.{Tidy.{AreAccepted}, WellFormed.{IsWellFormed}, Size.{Size, IsSize}}
 use Rattle.sci_core.proofs.WellFormed.WellFormedSteps.{step_well, run_well, is_size, reachable, opened, any_well}
-use Rattle.sci_core.proofs.Tidy.TidyRuns.{opening_tidy, any_tidy, reached_tidy}
-use Rattle.sci_core.proofs.Tidy.Transactions.{runs_alternate}
-use Rattle.sci_core.proofs.Shape.ShapeSteps.{ShapedAt}
-use Rattle.sci_core.proofs.Shape.ShapeRuns.{each_mapped, opening_shaped, step_follows}
-use Rattle.sci_core.proofs.Shape.ShapeClauses.{last_is, shape_of}
-use Rattle.sci_core.proofs.Shape.StaleFronts.{any_stale}
+use Rattle.sci_core.proofs.Tidy.{TidyRuns.{opening_tidy, any_tidy, reached_tidy}, Transactions.{runs_alternate}}
+use Rattle.sci_core.proofs.Shape.{ShapeSteps.{ShapedAt}, ShapeRuns.{each_mapped, opening_shaped, step_follows}}
+use Rattle.sci_core.proofs.Shape.{ShapeClauses.{last_is, shape_of}, StaleFronts.{any_stale}}
 use Rattle.sci_core.proofs.History.Works.{HasSerials, opening_serials}
 use Rattle.sci_core.proofs.History.Histories.{run_follows, RunLogged, run_logged, IsKnown}
-use Rattle.sci_core.specs.Size.{Size}
-use Rattle.sci_core.specs.Size.{IsSize}
 
 -- ---- from the opening on
 

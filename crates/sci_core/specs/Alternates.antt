@@ -2,13 +2,10 @@
 -- and an Accept that takes the answer.
 use Rattle.std.specs.Prelude.{◌≡◌, ℕ, if◌then◌else◌, List, [], ◌∷◌, ◌++◌, slice_get, Option, Some, None, option_map}
 use Rattle.sci_words.specs.declared.event.Event.{Event}
-use Rattle.sci_words.specs.declared.event.Event.TheVariants as event
 use Rattle.sci_cache.specs.Cache.{Letter}
-use Rattle.sci_core.specs.declared.lane.LaneKind.TheVariants.{Requests, Answers}
-use Rattle.sci_core.specs.Size.{Size}
-use Rattle.sci_core.specs.Node.{node_asking}
-use Rattle.sci_core.specs.Core.{Core, node_at, lane_of, stepping, step, opening}
-use Rattle.sci_core.specs.Sharing.{is_about}
+use Rattle.sci_core.specs.{declared.lane.LaneKind.TheVariants.{Requests, Answers}, Size.{Size}, Node.{node_asking}}
+use Rattle.sci_core.specs.{Core.{Core, node_at, lane_of, stepping, step, opening}, Sharing.{is_about}}
+use Rattle.sci_words.specs.declared.event.Event.TheVariants as event
 
 -- what an event does for a transaction, with its control number
 pub data Mark : Type 0 where

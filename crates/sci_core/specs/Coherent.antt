@@ -2,18 +2,10 @@
 -- every line.
 use Rattle.std.specs.Prelude.{◌≡◌, ℕ, ◌<◌, filter}
 use Rattle.sci_words.specs.Stamped.{zero_stamped}
-use Rattle.sci_history.specs.Audit.{AreWithin}
-use Rattle.sci_history.specs.History.{IsHistory}
-use Rattle.sci_history.specs.Lawful.{Lawful}
-use Rattle.sci_history.specs.Placed.{is_of_node, is_on_line}
+use Rattle.sci_history.specs.{Audit.{AreWithin}, History.{IsHistory}, Lawful.{Lawful}, Placed.{is_of_node, is_on_line}}
 use Rattle.sci_history.specs.Sequential.{IsSequentialOrder}
-use Rattle.sci_core.specs.Core.{Core, node_at}
-use Rattle.sci_core.specs.Reached.{IsReached}
-use Rattle.sci_core.specs.Done.{done}
-use Rattle.sci_core.specs.Outcome.{logs_of}
-use Rattle.sci_core.specs.Sharing.{last_at, last_of}
-use Rattle.sci_core.specs.Tidy.{IsTidy, AreAccepted}
-use Rattle.sci_core.specs.Shape.{HasShapes}
+use Rattle.sci_core.specs.{Core.{Core, node_at}, Reached.{IsReached}, Done.{done}, Outcome.{logs_of}}
+use Rattle.sci_core.specs.{Sharing.{last_at, last_of}, Tidy.{IsTidy, AreAccepted}, Shape.{HasShapes}}
 use Rattle.sci_core.specs.Alternates.{Alternates}
 
 -- the entries of the schedule on a line are, in their order, the line's history from zero words to its last contents

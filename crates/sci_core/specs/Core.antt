@@ -1,18 +1,14 @@
 -- The state of the whole machine, and its steps. A step is a node's side of an event together with the one packet
 -- that is sent or taken.
 use Rattle.std.specs.Prelude.{◌≡◌, ◌≤◌, length, ℕ, ◌+◌, ◌*◌, nat_lt, if◌then◌else◌, List, [], ◌∷◌, ◌++◌, map, replicate, slice_index_or, slice_set, Option}
-use Rattle.std.specs.Prelude.{Some, None, unwrap_or, IsSome}
-use Rattle.std.specs.List.{fold, range_with_len}
-use Rattle.sci_words.specs.declared.extent.Extent.{Extent}
-use Rattle.sci_words.specs.declared.event.Event.{Event}
-use Rattle.sci_words.specs.declared.event.Event.TheVariants as event
+use Rattle.std.specs.{Prelude.{Some, None, unwrap_or, IsSome}, List.{fold, range_with_len}}
+use Rattle.sci_words.specs.declared.{extent.Extent.{Extent}, event.Event.{Event}}
 use Rattle.sci_history.specs.declared.entry.Entry.{Entry}
 use Rattle.sci_cache.specs.Cache.{Letter}
-use Rattle.sci_core.specs.declared.lane.LaneKind.{LaneKind}
-use Rattle.sci_core.specs.declared.lane.LaneKind.TheVariants.{Requests, Answers}
-use Rattle.sci_core.specs.Size.{Size, size_of}
+use Rattle.sci_core.specs.{declared.lane.LaneKind.{LaneKind, TheVariants.{Requests, Answers}}, Size.{Size, size_of}}
 use Rattle.sci_core.specs.Node.{NodeOf, opening_node, no_node, node_issuing, node_performing, node_asking, node_serving, node_refusing, node_replying}
 use Rattle.sci_core.specs.Node.{node_accepting}
+use Rattle.sci_words.specs.declared.event.Event.TheVariants as event
 
 pub record Core : Type 0 where
   pub size : Size

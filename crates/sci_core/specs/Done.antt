@@ -1,14 +1,10 @@
 -- The entries that a schedule makes, in its order, and what each does to the last contents of its line.
 use Rattle.std.specs.Prelude.{◌≡◌, ◌<◌, ℕ, List, [], ◌∷◌, ◌++◌, Option, Some, None, option_map, option_to_list}
-use Rattle.sci_words.specs.declared.stamped.Stamped.{Stamped}
-use Rattle.sci_words.specs.declared.event.Event.{Event}
-use Rattle.sci_words.specs.declared.event.Event.TheVariants as event
-use Rattle.sci_words.specs.Stamped.{after, reply_of}
+use Rattle.sci_words.specs.{declared.{stamped.Stamped.{Stamped}, event.Event.{Event}}, Stamped.{after, reply_of}}
 use Rattle.sci_history.specs.declared.entry.Entry.{Entry}
-use Rattle.sci_core.specs.Size.{Size}
-use Rattle.sci_core.specs.Node.{node_performing}
-use Rattle.sci_core.specs.Core.{Core, node_at, stepping, step, opening}
+use Rattle.sci_core.specs.{Size.{Size}, Node.{node_performing}, Core.{Core, node_at, stepping, step, opening}}
 use Rattle.sci_core.specs.Sharing.{last_at}
+use Rattle.sci_words.specs.declared.event.Event.TheVariants as event
 
 -- ---- entries
 

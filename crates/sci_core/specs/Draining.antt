@@ -2,10 +2,10 @@
 use Rattle.std.specs.Prelude.{◌≡◌, ◌≤◌, ◌&&◌, ℕ, ◌+◌, ◌*◌, Bool, true, false, if◌then◌else◌, List, [], ◌∷◌, Option, Some, None, is_some}
 use Rattle.std.specs.List.{sum_by, AllByRecursion}
 use Rattle.sci_words.specs.declared.event.Event.{Event}
-use Rattle.sci_words.specs.declared.event.Event.TheVariants as event
 use Rattle.sci_packets.specs.Table.{is_request}
 use Rattle.sci_cache.specs.Cache.{Letter}
 use Rattle.sci_core.specs.Core.{Core, IsEnabled, lane_at, node_at, step, stepping}
+use Rattle.sci_words.specs.declared.event.Event.TheVariants as event
 
 -- ---- the weight
 

@@ -1,7 +1,6 @@
 -- What of a packet or a node makes an event enabled, in every state where a schedule leads.
 use Rattle.std.specs.Prelude.{◌≡◌, ◌<◌, ℕ, true, false, List, ◌∷◌, None, IsSome}
-use Rattle.sci_cache.specs.State.{waits}
-use Rattle.sci_cache.specs.Cache.{Letter, line_of}
+use Rattle.sci_cache.specs.{State.{waits}, Cache.{Letter, line_of}}
 use Rattle.sci_core.specs.declared.lane.LaneKind.TheVariants.{Requests, Answers}
 use Rattle.sci_core.specs.Node.{node_serving, node_refusing, node_accepting, is_setback}
 use Rattle.sci_core.specs.Core.{Core, node_at, lane_of}

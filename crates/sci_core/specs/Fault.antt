@@ -1,10 +1,7 @@
 -- Why an event was not applied.
 use Rattle.std.specs.Prelude.{◌≡◌, Bool, true, false, Option, None, IsSome, IsTrue}
-use Rattle.sci_words.specs.declared.event.Event.{Event}
-use Rattle.sci_words.specs.declared.event.Event.TheVariants.{Ask, Reply}
-use Rattle.sci_core.specs.declared.fault.ApplyFault.{ApplyFault}
-use Rattle.sci_core.specs.declared.fault.ApplyFault.TheVariants.{NotEnabled, Memory}
-use Rattle.sci_core.specs.Core.{Core}
+use Rattle.sci_words.specs.declared.event.Event.{Event, TheVariants.{Ask, Reply}}
+use Rattle.sci_core.specs.{declared.fault.ApplyFault.{ApplyFault, TheVariants.{NotEnabled, Memory}}, Core.{Core}}
 
 -- the events that lengthen a lane
 abbrev pub is_sending : Event → Bool

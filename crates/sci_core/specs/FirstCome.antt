@@ -1,19 +1,14 @@
 -- First come, first served: who waits before the authority of a line, whom the line's home lets in, and who becomes the
 -- authority.
-use Rattle.std.specs.Prelude.{◌≡◌, ℕ, Bool, true, false, not, ◌&&◌, ◌==◌, if◌then◌else◌, List, [], ◌∷◌, ◌++◌, filter, reverse, slice_get, Option, Some, None}
-use Rattle.std.specs.Prelude.{is_some}
-use Rattle.std.specs.List.{range_with_len}
+use Rattle.std.specs.Prelude.{◌≡◌, ℕ, Bool, true, false, not, ◌&&◌, ◌==◌, if◌then◌else◌, List, [], ◌∷◌, ◌++◌, filter, reverse, slice_get, Option, Some}
+use Rattle.std.specs.{Prelude.{None, is_some}, List.{range_with_len}}
 use Rattle.sci_words.specs.declared.event.Event.{Event}
-use Rattle.sci_words.specs.declared.event.Event.TheVariants as event
-use Rattle.sci_packets.specs.declared.body.Body.{Body}
-use Rattle.sci_packets.specs.declared.body.Body.TheVariants.{Mread, Fread}
+use Rattle.sci_packets.specs.declared.body.Body.{Body, TheVariants.{Mread, Fread}}
 use Rattle.sci_cache.specs.Cache.{Letter}
-use Rattle.sci_core.specs.declared.lane.LaneKind.TheVariants.{Requests}
-use Rattle.sci_core.specs.Size.{Size}
-use Rattle.sci_core.specs.Core.{Core, lane_of, opening, step, stepping}
-use Rattle.sci_core.specs.Shape.{IsAuthority}
-use Rattle.sci_core.specs.Sharing.{authority_contents, sharer_of}
-use Rattle.sci_core.specs.SharingList.{IsSharingList}
+use Rattle.sci_core.specs.{declared.lane.LaneKind.TheVariants.{Requests}, Size.{Size}}
+use Rattle.sci_core.specs.{Core.{Core, lane_of, opening, step, stepping}, Shape.{IsAuthority}}
+use Rattle.sci_core.specs.{Sharing.{authority_contents, sharer_of}, SharingList.{IsSharingList}}
+use Rattle.sci_words.specs.declared.event.Event.TheVariants as event
 
 -- The nodes that wait on a line, the next authority first: the members of its list before the authority,
 -- from the one directly before it to the front. Nobody waits if the line has no list.

@@ -1,7 +1,6 @@
 -- Which members of a list are fresh: the home has the contents as well as they have.
 use Rattle.std.specs.Prelude.{Bool, true, false, Option, Some}
-use Rattle.sci_packets.specs.declared.body.Body.{Body}
-use Rattle.sci_packets.specs.declared.body.Body.TheVariants.{Wbok, Fdata}
+use Rattle.sci_packets.specs.declared.body.Body.{Body, TheVariants.{Wbok, Fdata}}
 use Rattle.sci_cache.specs.State.{CacheState, Asking, FreshJoining, FreshHead, Claiming, Clearing}
 
 -- whether a member is fresh, by its state and the answer that is under way to it

@@ -1,9 +1,7 @@
 -- Nodes that have at most one operation pending at a time.
 use Rattle.std.specs.Prelude.{◌≡◌, ℕ, List, take, IsSome}
 use Rattle.sci_words.specs.declared.event.Event.{Event}
-use Rattle.sci_core.specs.Size.{Size}
-use Rattle.sci_core.specs.Node.{NodeOf, pending_on}
-use Rattle.sci_core.specs.Core.{node_at, run}
+use Rattle.sci_core.specs.{Size.{Size}, Node.{NodeOf, pending_on}, Core.{node_at, run}}
 
 -- an operation is pending on one line at most
 abbrev pub HasOnePending : NodeOf → Type 0

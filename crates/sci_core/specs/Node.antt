@@ -1,24 +1,16 @@
 -- A node's part of the machine, and its side of each event. Each side is a function of the part alone, and of the
 -- packet that it takes; None says that this side is not enabled.
-use Rattle.std.specs.Prelude.{IsTrue, ◌≡◌, ℕ, ◌+◌, ◌/◌, ◌%◌, ◌<◌, ◌≤◌, replicate, count_by, IfSome, Bool, true, false, nat_lt, ◌&&◌, if◌then◌else◌, List, []}
-use Rattle.std.specs.Prelude.{◌∷◌, ◌++◌, length, slice_index_or, slice_set, Option, Some, None, is_some, is_none, option_map, Result, Ok, Err}
-use Rattle.sci_words.specs.declared.limits.TheConstants.{WORDS_PER_LINE}
-use Rattle.sci_words.specs.declared.event.AskKind.{AskKind}
-use Rattle.sci_words.specs.declared.operation.Op.{Op}
-use Rattle.sci_words.specs.declared.operation.Reply.{Reply}
-use Rattle.sci_words.specs.Operation.{has_words}
-use Rattle.sci_packets.specs.declared.body.Body.{Body}
-use Rattle.sci_packets.specs.declared.body.Body.TheVariants.{Setback, Busy}
+use Rattle.std.specs.Prelude.{IsTrue, ◌≡◌, ℕ, ◌+◌, ◌/◌, ◌%◌, ◌<◌, ◌≤◌, replicate, count_by, IfSome, Bool, true, false, nat_lt, ◌&&◌, if◌then◌else◌, List}
+use Rattle.std.specs.Prelude.{[], ◌∷◌, ◌++◌, length, slice_index_or, slice_set, Option, Some, None, is_some, is_none, option_map, Result, Ok, Err}
+use Rattle.sci_words.specs.declared.{limits.TheConstants.{WORDS_PER_LINE}, event.AskKind.{AskKind}, operation.Op.{Op}}
+use Rattle.sci_words.specs.{declared.operation.Reply.{Reply}, Operation.{has_words}}
+use Rattle.sci_packets.specs.{declared.body.Body.{Body, TheVariants.{Setback, Busy}}, Table.{IsRequest}}
 use Rattle.sci_history.specs.declared.entry.Entry.{Entry}
 use Rattle.sci_home.specs.declared.state.HomeState.{HomeState}
-use Rattle.sci_packets.specs.Table.{IsRequest}
 use Rattle.sci_home.specs.Serving.{opening_home, is_for_home, IsForHome, home_serving}
-use Rattle.sci_cache.specs.declared.fault.AskFault.{AskFault}
-use Rattle.sci_cache.specs.State.{is_out}
-use Rattle.sci_cache.specs.Line.{untouched}
+use Rattle.sci_cache.specs.{declared.fault.AskFault.{AskFault}, State.{is_out}, Line.{untouched}}
 use Rattle.sci_cache.specs.Cache.{CacheOf, Letter, line_of, cache_asking, cache_serving, cache_accepting, cache_performing}
-use Rattle.sci_core.specs.Size.{Size}
-use Rattle.sci_core.specs.declared.pending.Pending.{Pending}
+use Rattle.sci_core.specs.{Size.{Size}, declared.pending.Pending.{Pending}}
 
 pub record NodeOf : Type 0 where
   pub cache : CacheOf

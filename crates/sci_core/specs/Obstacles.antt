@@ -1,21 +1,17 @@
 -- Why an event isn't enabled: the first thing that stands in its way, in the order of these cases.
 use Rattle.std.specs.Prelude.{ℕ, Bool, nat_lt, not, if◌then◌else◌, Option, Some, None, is_some, is_none, Result, Ok, Err, slice_get}
-use Rattle.sci_words.specs.declared.limits.TheConstants.{WORDS_PER_LINE}
-use Rattle.sci_words.specs.declared.event.AskKind.{AskKind}
-use Rattle.sci_words.specs.declared.event.Event.{Event}
-use Rattle.sci_words.specs.declared.event.Event.TheVariants as event
+use Rattle.sci_words.specs.declared.{limits.TheConstants.{WORDS_PER_LINE}, event.{AskKind.{AskKind}, Event.{Event}}}
 use Rattle.sci_words.specs.declared.operation.Op.{Op}
-use Rattle.sci_cache.specs.declared.fault.AskFault.{AskFault}
-use Rattle.sci_cache.specs.declared.fault.AskFault.TheVariants as fault
-use Rattle.sci_cache.specs.Cache.{CacheOf, Letter, cache_asking}
+use Rattle.sci_cache.specs.{declared.fault.AskFault.{AskFault}, Cache.{CacheOf, Letter, cache_asking}}
 use Rattle.sci_core.specs.declared.obstacle.Obstacle.{Obstacle}
-use Rattle.sci_core.specs.declared.obstacle.Obstacle.TheVariants.{NoSuchNode, NoSuchSender, NoSuchLine, NoSuchWord, AlreadyPending, NoIssueLeft, NothingPending}
-use Rattle.sci_core.specs.declared.obstacle.Obstacle.TheVariants.{NotAllowed, NotAsked, NoSlot, NothingUnderWay, AnswerWaits, SetbackComes, NoAnswerWaits}
-use Rattle.sci_core.specs.declared.taking.Taking.{Taking}
+use Rattle.sci_core.specs.declared.obstacle.Obstacle.TheVariants.{NoSuchNode, NoSuchSender, NoSuchLine, NoSuchWord, AlreadyPending, NoIssueLeft}
+use Rattle.sci_core.specs.declared.obstacle.Obstacle.TheVariants.{NothingPending, NotAllowed, NotAsked, NoSlot, NothingUnderWay, AnswerWaits, SetbackComes}
+use Rattle.sci_core.specs.declared.{obstacle.Obstacle.TheVariants.{NoAnswerWaits}, taking.Taking.{Taking}}
 use Rattle.sci_core.specs.declared.taking.Taking.TheVariants.{Serve, Refuse, Accept}
 use Rattle.sci_core.specs.Node.{NodeOf, lines_of, pending_on, is_setback, node_performing}
-use Rattle.sci_core.specs.Core.{Core, node_at, lane_of, node_of}
-use Rattle.sci_core.specs.Taking.{lane_kind}
+use Rattle.sci_core.specs.{Core.{Core, node_at, lane_of, node_of}, Taking.{lane_kind}}
+use Rattle.sci_words.specs.declared.event.Event.TheVariants as event
+use Rattle.sci_cache.specs.declared.fault.AskFault.TheVariants as fault
 
 -- what stands in the way: this, unless the condition is met, and else the rest
 abbrev pub unless : Bool → Obstacle → Option Obstacle → Option Obstacle

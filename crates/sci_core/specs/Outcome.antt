@@ -1,6 +1,5 @@
 -- What is read off a state: the logs of all nodes.
-use Rattle.std.specs.Prelude.{List, map}
-use Rattle.std.specs.List.{range_with_len}
+use Rattle.std.specs.{Prelude.{List, map}, List.{range_with_len}}
 use Rattle.sci_words.specs.declared.limits.TheConstants.{MAX_NODES}
 use Rattle.sci_history.specs.declared.entry.Entry.{Entry}
 use Rattle.sci_core.specs.Core.{Core, node_at}

@@ -1,9 +1,7 @@
 -- The states where a schedule leads.
 use Rattle.std.specs.Prelude.{◌≡◌, ◌<◌, ℕ, List}
 use Rattle.sci_words.specs.declared.event.Event.{Event}
-use Rattle.sci_core.specs.Core.{Core, node_at, run}
-use Rattle.sci_core.specs.Size.{IsSize, IsMachineSize}
-use Rattle.sci_core.specs.Node.{NodeOf}
+use Rattle.sci_core.specs.{Core.{Core, node_at, run}, Size.{IsSize, IsMachineSize}, Node.{NodeOf}}
 
 -- a state to which a schedule leads a machine of any size; a schedule is any finite list of events
 pub record IsReachable (core : Core) : Type 0 where

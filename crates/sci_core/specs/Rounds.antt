@@ -3,19 +3,13 @@
 use Rattle.std.specs.Prelude.{◌≡◌, ◌≢◌, ◌<◌, ◌⊎◌, ◌%◌, ℕ, Bool, true, false, ◌==◌, Option, Some, None}
 use Rattle.std.specs.List.{range_with_len, sum_by}
 use Rattle.sci_words.specs.declared.event.AskKind.{AskKind}
-use Rattle.sci_words.specs.declared.event.AskKind.TheVariants as kind
 use Rattle.sci_packets.specs.declared.body.Body.{Body}
-use Rattle.sci_home.specs.declared.state.HomeState.{HomeState}
-use Rattle.sci_home.specs.Serving.{home_serving}
+use Rattle.sci_home.specs.{declared.state.HomeState.{HomeState}, Serving.{home_serving}}
 use Rattle.sci_cache.specs.State.{CacheState, Out, Joining, FreshJoining, Head, FreshHead, Telling}
-use Rattle.sci_cache.specs.Asking.{Asked, asking}
-use Rattle.sci_cache.specs.Accepting.{accepting}
-use Rattle.sci_cache.specs.Serving.{serving}
-use Rattle.sci_core.specs.declared.settle.Wanted.{Wanted}
-use Rattle.sci_core.specs.declared.settle.Wanted.TheVariants.{Teller, Leader, Joiner}
-use Rattle.sci_core.specs.Core.{Core, node_at}
-use Rattle.sci_core.specs.Shape.{state_at}
-use Rattle.sci_core.specs.Sharing.{home_at}
+use Rattle.sci_cache.specs.{Asking.{Asked, asking}, Accepting.{accepting}, Serving.{serving}}
+use Rattle.sci_core.specs.{declared.settle.Wanted.{Wanted, TheVariants.{Teller, Leader, Joiner}}, Core.{Core, node_at}}
+use Rattle.sci_core.specs.{Shape.{state_at}, Sharing.{home_at}}
+use Rattle.sci_words.specs.declared.event.AskKind.TheVariants as kind
 
 -- ---- rounds
 

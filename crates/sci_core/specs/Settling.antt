@@ -1,14 +1,11 @@
 -- Events that are made one after another, and the state where the machine has come to rest.
 use Rattle.std.specs.Prelude.{◌≡◌, ◌<◌, ◌≤◌, ℕ, ◌+◌, ◌*◌, Bool, true, false, List, [], ◌∷◌, length, is_some, count_by}
 use Rattle.std.specs.List.{range_with_len, sum_by}
-use Rattle.sci_words.specs.declared.event.Event.{Event}
-use Rattle.sci_words.specs.declared.event.Event.TheVariants as event
-use Rattle.sci_words.specs.declared.stamped.Stamped.{Stamped}
+use Rattle.sci_words.specs.declared.{event.Event.{Event}, stamped.Stamped.{Stamped}}
 use Rattle.sci_home.specs.declared.state.HomeState.TheVariants.{Home}
-use Rattle.sci_core.specs.Core.{Core, IsEnabled, node_at, run_from, step}
-use Rattle.sci_core.specs.Draining.{IsDrained}
-use Rattle.sci_core.specs.Node.{IsAtRest}
+use Rattle.sci_core.specs.{Core.{Core, IsEnabled, node_at, run_from, step}, Draining.{IsDrained}, Node.{IsAtRest}}
 use Rattle.sci_core.specs.Sharing.{home_at}
+use Rattle.sci_words.specs.declared.event.Event.TheVariants as event
 
 -- ---- events that are made
 

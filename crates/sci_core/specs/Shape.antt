@@ -4,15 +4,12 @@ use Rattle.std.specs.Prelude.{◌≡◌, ◌<◌, ℕ, Bool, true, false, List, 
 use Rattle.std.specs.List.{AllByRecursion}
 use Rattle.sci_words.specs.declared.stamped.Stamped.{Stamped}
 use Rattle.sci_packets.specs.declared.body.Body.TheVariants.{Wback, Fdata}
-use Rattle.sci_home.specs.declared.state.HomeState.{HomeState}
-use Rattle.sci_home.specs.declared.state.HomeState.TheVariants as at
-use Rattle.sci_home.specs.Serving.{current_of}
+use Rattle.sci_home.specs.{declared.state.HomeState.{HomeState}, Serving.{current_of}}
 use Rattle.sci_history.specs.Seen.{IsAmong}
 use Rattle.sci_cache.specs.State.{CacheState, Asking, Joining, FreshJoining, Below, Rolling, contents_of}
-use Rattle.sci_core.specs.Core.{Core}
-use Rattle.sci_core.specs.Sharing.{packets_of, sharer_of, home_at, authority_contents, last_at}
-use Rattle.sci_core.specs.Fresh.{is_fresh}
-use Rattle.sci_core.specs.SharingList.{IsSharingList}
+use Rattle.sci_core.specs.{Core.{Core}, Sharing.{packets_of, sharer_of, home_at, authority_contents, last_at}}
+use Rattle.sci_core.specs.{Fresh.{is_fresh}, SharingList.{IsSharingList}}
+use Rattle.sci_home.specs.declared.state.HomeState.TheVariants as at
 
 -- ---- members
 

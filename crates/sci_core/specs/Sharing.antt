@@ -1,19 +1,14 @@
 -- What the machine has of one line: its home, each node's state, and the packets that are under way. Who may change
 -- the line, and its last contents.
 use Rattle.std.specs.Prelude.{ℕ, ◌%◌, Bool, ◌&&◌, ◌==◌, if◌then◌else◌, List, [], ◌∷◌, ◌++◌, map, filter, Option, Some, None, option_to_list, unwrap_or}
-use Rattle.std.specs.List.{flat_map, range_with_len}
-use Rattle.std.specs.Option.{option_or}
-use Rattle.sci_words.specs.declared.stamped.Stamped.{Stamped}
-use Rattle.sci_words.specs.Stamped.{zero_stamped}
-use Rattle.sci_packets.specs.declared.body.Body.{Body}
-use Rattle.sci_packets.specs.declared.body.Body.TheVariants.{Mdata, Cdata, Purged, Wbok, Wbno, Busy, Fdata}
+use Rattle.std.specs.{List.{flat_map, range_with_len}, Option.{option_or}}
+use Rattle.sci_words.specs.{declared.stamped.Stamped.{Stamped}, Stamped.{zero_stamped}}
+use Rattle.sci_packets.specs.declared.body.Body.{Body, TheVariants.{Mdata, Cdata, Purged, Wbok, Wbno, Busy, Fdata}}
 use Rattle.sci_packets.specs.Table.{is_request}
-use Rattle.sci_home.specs.declared.state.HomeState.{HomeState}
-use Rattle.sci_home.specs.Serving.{current_of}
+use Rattle.sci_home.specs.{declared.state.HomeState.{HomeState}, Serving.{current_of}}
 use Rattle.sci_cache.specs.State.{CacheState, Asking, Joining, FreshJoining, Head, FreshHead, Purging, Claiming, Clearing, Returning, Rolling, Telling}
 use Rattle.sci_cache.specs.Cache.{Letter, line_of}
-use Rattle.sci_core.specs.Node.{home_of}
-use Rattle.sci_core.specs.Core.{Core, node_at}
+use Rattle.sci_core.specs.{Node.{home_of}, Core.{Core, node_at}}
 
 -- ---- packets
 

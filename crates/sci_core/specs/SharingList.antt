@@ -3,8 +3,7 @@ use Rattle.std.specs.Prelude.{◌≡◌, ℕ, List, [], ◌∷◌, Option, Some,
 use Rattle.sci_history.specs.Seen.{IsAmong}
 use Rattle.sci_cache.specs.Member.{link_of}
 use Rattle.sci_home.specs.Serving.{head_of}
-use Rattle.sci_core.specs.Core.{Core}
-use Rattle.sci_core.specs.Sharing.{sharer_of, home_at}
+use Rattle.sci_core.specs.{Core.{Core}, Sharing.{sharer_of, home_at}}
 
 -- ---- lists along links
 

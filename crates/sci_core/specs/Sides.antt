@@ -1,15 +1,12 @@
 -- What each event does, told by its node's side alone: what the node does with it, and where its one packet is put or
 -- comes from.
 use Rattle.std.specs.Prelude.{◌≡◌, ◌<◌, ℕ, List, [], ◌∷◌, Option, None, option_map}
-use Rattle.sci_words.specs.declared.event.AskKind.{AskKind}
-use Rattle.sci_words.specs.declared.event.Event.{Event}
-use Rattle.sci_words.specs.declared.event.Event.TheVariants as event
-use Rattle.sci_words.specs.declared.operation.Op.{Op}
+use Rattle.sci_words.specs.declared.{event.{AskKind.{AskKind}, Event.{Event}}, operation.Op.{Op}}
 use Rattle.sci_cache.specs.Cache.{Letter}
-use Rattle.sci_core.specs.declared.lane.LaneKind.{LaneKind}
-use Rattle.sci_core.specs.declared.lane.LaneKind.TheVariants.{Requests, Answers}
+use Rattle.sci_core.specs.declared.lane.LaneKind.{LaneKind, TheVariants.{Requests, Answers}}
 use Rattle.sci_core.specs.Node.{NodeOf, node_issuing, node_performing, node_asking, node_serving, node_refusing, node_replying, node_accepting}
 use Rattle.sci_core.specs.Core.{Core, node_at, with_node, lane_place, lane_of, with_lane, sent_by, stepping}
+use Rattle.sci_words.specs.declared.event.Event.TheVariants as event
 
 -- the node is this one next, and the lane loses its front
 abbrev pub taken_to : Core → ℕ → LaneKind → ℕ → List Letter → NodeOf → Core

@@ -1,7 +1,6 @@
 -- The size of a machine.
 use Rattle.std.specs.Prelude.{◌≤◌, ℕ}
-use Rattle.sci_words.specs.declared.extent.Extent.{Extent}
-use Rattle.sci_words.specs.declared.limits.TheConstants.{MAX_OPERATIONS}
+use Rattle.sci_words.specs.declared.{extent.Extent.{Extent}, limits.TheConstants.{MAX_OPERATIONS}}
 use Rattle.sci_words.specs.Extent.{AreWithinLimits}
 
 -- how many nodes, lines and version slots a machine has, and how many operations each node may issue

@@ -1,13 +1,11 @@
 -- What a node does with a packet that has come to it: one word for Serve, Refuse and Accept.
 use Rattle.std.specs.Prelude.{ℕ, Option}
 use Rattle.sci_words.specs.declared.event.Event.{Event}
-use Rattle.sci_words.specs.declared.event.Event.TheVariants as event
 use Rattle.sci_cache.specs.Cache.{Letter}
-use Rattle.sci_core.specs.declared.lane.LaneKind.{LaneKind}
-use Rattle.sci_core.specs.declared.lane.LaneKind.TheVariants.{Requests, Answers}
-use Rattle.sci_core.specs.declared.taking.Taking.{Taking}
+use Rattle.sci_core.specs.declared.{lane.LaneKind.{LaneKind, TheVariants.{Requests, Answers}}, taking.Taking.{Taking}}
 use Rattle.sci_core.specs.declared.taking.Taking.TheVariants.{Serve, Refuse, Accept}
 use Rattle.sci_core.specs.Node.{NodeOf, IsForNode, IsServable, node_serving, node_refusing, node_accepting}
+use Rattle.sci_words.specs.declared.event.Event.TheVariants as event
 
 -- the lane that the packet comes by
 abbrev pub lane_kind : Taking → LaneKind

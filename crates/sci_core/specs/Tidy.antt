@@ -4,11 +4,8 @@ use Rattle.sci_packets.specs.declared.body.Body.{Body}
 use Rattle.sci_packets.specs.declared.body.Body.TheVariants.{Mread, Fread, Cread, Purge, Roll, Wback, Setback, Claim, Clear}
 use Rattle.sci_packets.specs.Table.{is_request}
 use Rattle.sci_cache.specs.State.{CacheState, Asking, Joining, FreshJoining, Purging, Claiming, Clearing, Returning, Rolling, Telling, Fading, waits}
-use Rattle.sci_cache.specs.Accepting.{accepting}
-use Rattle.sci_cache.specs.Line.{LineState, last_control}
-use Rattle.sci_cache.specs.Cache.{Letter, line_of}
-use Rattle.sci_core.specs.Core.{Core, node_at}
-use Rattle.sci_core.specs.Sharing.{packets_of, answer_to}
+use Rattle.sci_cache.specs.{Accepting.{accepting}, Line.{LineState, last_control}, Cache.{Letter, line_of}}
+use Rattle.sci_core.specs.{Core.{Core, node_at}, Sharing.{packets_of, answer_to}}
 
 -- The request is the one that the state sent, with the identifiers and the contents that the state has. That of a node
 -- that leaves may have gone to an entry that was before it.

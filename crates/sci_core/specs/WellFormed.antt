@@ -1,18 +1,13 @@
 -- Plain facts of a machine's state: sizes, senders and receivers, and numbers in range.
-use Rattle.std.specs.Prelude.{◌≡◌, ℕ, ◌*◌, ◌/◌, ◌%◌, ◌<◌, ◌≤◌, false, slice_index_or, Option, IfSome}
-use Rattle.std.specs.List.{All}
+use Rattle.std.specs.{Prelude.{◌≡◌, ℕ, ◌*◌, ◌/◌, ◌%◌, ◌<◌, ◌≤◌, false, slice_index_or, Option, IfSome}, List.{All}}
 use Rattle.sci_words.specs.declared.limits.TheConstants.{CONTROLS}
-use Rattle.sci_packets.specs.declared.body.Body.{Body}
-use Rattle.sci_packets.specs.declared.body.Body.TheVariants.{Roll, Setback, Mgone, Purged, Fdata}
+use Rattle.sci_packets.specs.declared.body.Body.{Body, TheVariants.{Roll, Setback, Mgone, Purged, Fdata}}
 use Rattle.sci_packets.specs.Table.{is_request, IsRequest}
-use Rattle.sci_home.specs.declared.state.HomeState.{HomeState}
-use Rattle.sci_home.specs.declared.state.HomeState.TheVariants as home
-use Rattle.sci_home.specs.Serving.{opening_home, IsForHome}
+use Rattle.sci_home.specs.{declared.state.HomeState.{HomeState}, Serving.{opening_home, IsForHome}}
 use Rattle.sci_cache.specs.State.{CacheState, Joining, FreshJoining, Head, FreshHead, Below, Purging, Claiming, Rolling, Telling}
 use Rattle.sci_cache.specs.Cache.{Letter, line_of, slots_taken}
-use Rattle.sci_core.specs.Node.{NodeOf, lines_of, IsNode}
-use Rattle.sci_core.specs.Core.{Core, HasSize, node_at, lane_at}
-use Rattle.sci_core.specs.Size.{Size}
+use Rattle.sci_core.specs.{Node.{NodeOf, lines_of, IsNode}, Core.{Core, HasSize, node_at, lane_at}, Size.{Size}}
+use Rattle.sci_home.specs.declared.state.HomeState.TheVariants as home
 
 -- ---- every identifier names a node
 

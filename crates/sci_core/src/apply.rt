@@ -27,13 +27,9 @@ pub fn node_of(event: &Event) -> u8
 
 impl State {
     ghost use Rattle.std.specs.Prelude.{◌≡◌, ◌<◌, Some, None, IfOk, IfErr, IfSome, IsErr, IsTrue, false};
+    ghost use Rattle.sci_core.specs.{Core.{node_at, stepping}, Node.{node_issuing, node_performing}, Fault.{IsFaultOf}};
+    ghost use Rattle.sci_core.specs.{Taking.{taking_event}, WellFormed.{IsWellFormed}, Work.{IsIssued, IsLogged}};
     ghost use Rattle.sci_words.specs.declared.event.Event.TheVariants as event;
-    ghost use Rattle.sci_core.specs.Core.{node_at, stepping};
-    ghost use Rattle.sci_core.specs.Node.{node_issuing, node_performing};
-    ghost use Rattle.sci_core.specs.Fault.{IsFaultOf};
-    ghost use Rattle.sci_core.specs.Taking.{taking_event};
-    ghost use Rattle.sci_core.specs.WellFormed.{IsWellFormed};
-    ghost use Rattle.sci_core.specs.Work.{IsIssued, IsLogged};
 
     /// Applies an event, as the step says. Unchanged on refusal: NotEnabled exactly if the event is not
     /// enabled, Memory only if it is.

@@ -1,10 +1,8 @@
 //! Where the answer that a line awaits is looked for first: its state says to which node the request went.
 
-ghost use Rattle.std.specs.Prelude.{◌≡◌, ◌&&◌, map};
-ghost use Rattle.std.specs.List.{list_any};
+ghost use Rattle.std.specs.{Prelude.{◌≡◌, ◌&&◌, map}, List.{list_any}};
 ghost use Rattle.sci_packets.specs.Table.{is_request};
-ghost use Rattle.sci_cache.specs.Held.{state_of};
-ghost use Rattle.sci_cache.specs.Cache.{letter_of};
+ghost use Rattle.sci_cache.specs.{Held.{state_of}, Cache.{letter_of}};
 ghost use Rattle.sci_core.specs.Sharing.{asked_node as asked_node_of, asks_about};
 
 use crate::lane::{Lane, LaneKind};
@@ -47,8 +45,7 @@ fn any_asks(packets: &[Packet], n: u8, line: u8) -> bool
 }
 
 impl Lane {
-    ghost use Rattle.std.specs.Prelude.{◌≡◌};
-    ghost use Rattle.std.specs.List.{list_any};
+    ghost use Rattle.std.specs.{Prelude.{◌≡◌}, List.{list_any}};
     ghost use Rattle.sci_core.specs.Sharing.{asks_about};
 
     /// Whether the request of an ask of node `n` about a line is in this lane.
@@ -62,9 +59,7 @@ impl Lane {
 
 impl State {
     ghost use Rattle.std.specs.Prelude.{◌≡◌, ◌<◌, IfSome};
-    ghost use Rattle.sci_core.specs.Sharing.{answer_to as answer_to_of};
-    ghost use Rattle.sci_core.specs.Tidy.{IsTidy};
-    ghost use Rattle.sci_core.specs.WellFormed.{IsWellFormed};
+    ghost use Rattle.sci_core.specs.{Sharing.{answer_to as answer_to_of}, Tidy.{IsTidy}, WellFormed.{IsWellFormed}};
 
     /// The answer that is under way to node `n` about a line, or that there is none, as the line's state and the node
     /// that it asked tell: no answer comes if none is awaited, or if the request is still in its lane. None if they don't

@@ -7,10 +7,8 @@ use std::alloc::AllocError;
 
 impl Machine {
     ghost use Rattle.std.specs.Prelude.{◌≡◌, ◌<◌, ℕ, Some, None, IfOk, IfSome, IsErr, IsSome, OnOk, OnErr, length, true};
-    ghost use Rattle.sci_core.specs.Coherent.{IsCoherent};
-    ghost use Rattle.sci_core.specs.Core.{IsEnabled, lane_of, node_at, stepping};
-    ghost use Rattle.sci_core.specs.Draining.{IsDrained, brings_on, weight};
-    ghost use Rattle.sci_core.specs.Reached.{IsReached};
+    ghost use Rattle.sci_core.specs.{Coherent.{IsCoherent}, Core.{IsEnabled, lane_of, node_at, stepping}};
+    ghost use Rattle.sci_core.specs.{Draining.{IsDrained, brings_on, weight}, Reached.{IsReached}};
     ghost use Rattle.sci_core.specs.Settling.{Leads, LeadsOn};
 
     /// Brings all that is under way to its end, and gives the number of events: each is a Serve, a Reply or an

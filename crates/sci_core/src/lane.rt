@@ -1,6 +1,7 @@
 //! Lanes: the packets that are under way from one node to another.
 
-ghost use Rattle.std.specs.Prelude.{◌≡◌, ◌∷◌, [], ◌++◌, IfSome, IsErr, OnOk, OnErr, IfOk, option_map, option_copied, slice_get, length, drop, map, None, Some};
+ghost use Rattle.std.specs.Prelude.{◌≡◌, ◌∷◌, [], ◌++◌, IfSome, IsErr, OnOk, OnErr, IfOk, option_map, option_copied, slice_get, length, drop, map, None};
+ghost use Rattle.std.specs.Prelude.{Some};
 ghost use Rattle.sci_cache.specs.Cache.{letter_of};
 
 use sci_packets::Packet;

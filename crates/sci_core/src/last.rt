@@ -2,8 +2,7 @@
 
 ghost use Rattle.std.specs.Prelude.{◌≡◌, ◌&&◌, not, ◌<◌, ◌≤◌, ◌%◌, filter, map, option_copied, option_to_list, Some, None};
 ghost use Rattle.sci_packets.specs.Table.{is_request};
-ghost use Rattle.sci_cache.specs.Held.{state_of};
-ghost use Rattle.sci_cache.specs.Cache.{letter_of};
+ghost use Rattle.sci_cache.specs.{Held.{state_of}, Cache.{letter_of}};
 ghost use Rattle.sci_core.specs.Sharing.{is_about, answer_in, contents_held as contents_held_of};
 
 use crate::lane::{Lane, LaneKind};
@@ -103,12 +102,10 @@ impl Lane {
 
 impl State {
     ghost use Rattle.std.specs.Prelude.{◌≡◌, ◌<◌, ◌++◌, ℕ, None, IfSome, filter, option_to_list};
-    ghost use Rattle.sci_core.specs.declared.lane.LaneKind.TheVariants.{Answers};
-    ghost use Rattle.sci_core.specs.Core.{lane_of, node_at};
-    ghost use Rattle.sci_core.specs.WellFormed.{IsWellFormed};
-    ghost use Rattle.sci_core.specs.Shape.{IsAuthority};
-    ghost use Rattle.sci_core.specs.Sharing.{answer_in, answer_to as answer_to_of, authority_contents, is_about, sharer_of, home_at, last_at as last_at_of};
-    ghost use Rattle.sci_core.specs.Tidy.{IsTidy};
+    ghost use Rattle.sci_core.specs.{declared.lane.LaneKind.TheVariants.{Answers}, Core.{lane_of, node_at}};
+    ghost use Rattle.sci_core.specs.{WellFormed.{IsWellFormed}, Shape.{IsAuthority}};
+    ghost use Rattle.sci_core.specs.Sharing.{answer_in, answer_to as answer_to_of, authority_contents, is_about, sharer_of, home_at};
+    ghost use Rattle.sci_core.specs.{Sharing.{last_at as last_at_of}, Tidy.{IsTidy}};
     ghost use Rattle.sci_home.specs.Serving.{current_of};
 
     /// The answer that is under way from one node to node `n` about a line: one that waits there, or one in the lane.

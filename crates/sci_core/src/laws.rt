@@ -4,42 +4,23 @@
 //! for every number of nodes, lines, slots and operations from 1 up. A law of reached states (`IsReached`) is of
 //! machines within the limits.
 
-ghost use Rattle.std.specs.Prelude.{◌≡◌, ◌<◌, ◌≤◌, ℕ, List, filter, map, Some, None, IsSome};
-ghost use Rattle.sci_words.specs.declared.event.Event.{Event};
-ghost use Rattle.sci_words.specs.declared.limits.TheConstants.{MAX_NODES};
-ghost use Rattle.sci_words.specs.Stamped.{zero_stamped};
-ghost use Rattle.sci_history.specs.History.{IsHistory};
-ghost use Rattle.sci_history.specs.Lawful.{Lawful};
-ghost use Rattle.sci_history.specs.Memory.{IsRun, words_of_lines, zero_memory};
-ghost use Rattle.sci_history.specs.Placed.{is_on_line, pair_of};
+ghost use Rattle.std.specs.{Prelude.{◌≡◌, ◌<◌, ◌≤◌, ℕ, List, filter, map, Some, None, IsSome}, List.{AllByRecursion}};
+ghost use Rattle.sci_words.specs.declared.{event.Event.{Event}, limits.TheConstants.{MAX_NODES}, operation.Op.{Op}};
+ghost use Rattle.sci_words.specs.{declared.stamped.Stamped.{Stamped}, Stamped.{zero_stamped}};
+ghost use Rattle.sci_history.specs.{History.{IsHistory}, Lawful.{Lawful}, Memory.{IsRun, words_of_lines, zero_memory}};
+ghost use Rattle.sci_history.specs.Placed.{is_on_line, pair_of, maker_count, on_line, is_of_node};
 ghost use Rattle.sci_history.specs.Sequential.{AreInProgramOrder, IsInProgramOrder, IsSequentialOrder};
-ghost use Rattle.sci_core.specs.Core.{Core, run, step};
-ghost use Rattle.sci_core.specs.Sides.{StepsBySides};
-ghost use Rattle.sci_core.specs.Enabled.{AreServedAt, IsAcceptedAt};
-ghost use Rattle.sci_core.specs.InRange.{IsEntryOf, IsStamped};
-ghost use Rattle.sci_history.specs.Placed.{maker_count, on_line, is_of_node};
-ghost use Rattle.std.specs.List.{AllByRecursion};
-ghost use Rattle.sci_core.specs.Core.{node_at};
-ghost use Rattle.sci_core.specs.Node.{IsNode, NodeOf, node_issuing, node_performing, pending_on};
-ghost use Rattle.sci_core.specs.Work.{IsIssued, IsLogged};
-ghost use Rattle.sci_words.specs.declared.operation.Op.{Op};
 ghost use Rattle.sci_history.specs.declared.entry.Entry.{Entry};
-ghost use Rattle.sci_core.specs.declared.pending.Pending.{Pending};
-ghost use Rattle.sci_words.specs.declared.stamped.Stamped.{Stamped};
-ghost use Rattle.sci_cache.specs.Cache.{line_of};
-ghost use Rattle.sci_cache.specs.State.{Head};
-ghost use Rattle.sci_core.specs.Coherent.{IsCoherent};
-ghost use Rattle.sci_core.specs.GoingOn.{CanGoOn};
-ghost use Rattle.sci_core.specs.InTurn.{IssuesInTurn};
-ghost use Rattle.sci_core.specs.Done.{LastChanges, done, made_by};
-ghost use Rattle.sci_core.specs.Outcome.{logs_of};
-ghost use Rattle.sci_core.specs.Size.{Size, IsMachineSize, IsSize};
-ghost use Rattle.sci_core.specs.Reached.{IsReachable, IsReachableNode, IsReached};
-ghost use Rattle.sci_core.specs.WellFormed.{IsPart, IsWellFormed};
-ghost use Rattle.sci_core.specs.Shape.{HasShapes};
-ghost use Rattle.sci_core.specs.Sharing.{last_at, last_of};
-ghost use Rattle.sci_core.specs.Tidy.{AreAccepted, IsTidy};
+ghost use Rattle.sci_core.specs.{Core.{Core, run, step, node_at}, Sides.{StepsBySides}};
+ghost use Rattle.sci_core.specs.{Enabled.{AreServedAt, IsAcceptedAt}, InRange.{IsEntryOf, IsStamped}};
+ghost use Rattle.sci_core.specs.Node.{IsNode, NodeOf, node_issuing, node_performing, pending_on};
+ghost use Rattle.sci_core.specs.{Work.{IsIssued, IsLogged}, declared.pending.Pending.{Pending}, Coherent.{IsCoherent}};
+ghost use Rattle.sci_core.specs.{GoingOn.{CanGoOn}, InTurn.{IssuesInTurn}, Done.{LastChanges, done, made_by}};
+ghost use Rattle.sci_core.specs.{Outcome.{logs_of}, Size.{Size, IsMachineSize, IsSize}};
+ghost use Rattle.sci_core.specs.{Reached.{IsReachable, IsReachableNode, IsReached}, WellFormed.{IsPart, IsWellFormed}};
+ghost use Rattle.sci_core.specs.{Shape.{HasShapes}, Sharing.{last_at, last_of}, Tidy.{AreAccepted, IsTidy}};
 ghost use Rattle.sci_core.specs.Alternates.{Alternates};
+ghost use Rattle.sci_cache.specs.{Cache.{line_of}, State.{Head}};
 
 /// Every state that a schedule leads to is reached, of a machine of any size and of one within the limits; and what a
 /// machine within the limits reaches, a machine of any size does.

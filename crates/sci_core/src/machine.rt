@@ -19,8 +19,7 @@ pub struct Machine {
 }
 
 impl Model for Machine {
-    ghost use Rattle.sci_core.specs.Core.{Core};
-    ghost use Rattle.sci_core.specs.Reached.{IsReached};
+    ghost use Rattle.sci_core.specs.{Core.{Core}, Reached.{IsReached}};
 
     ghost Value = { Core };
 
@@ -30,26 +29,17 @@ impl Model for Machine {
 }
 
 impl Machine {
-    ghost use Rattle.std.specs.Prelude.{◌≡◌, ◌<◌, ◌≤◌, ℕ, Some, None, IfSome, IfOk, IfErr, IsErr, OnOk, OnErr, option_map, option_copied, slice_get, length};
+    ghost use Rattle.std.specs.Prelude.{◌≡◌, ◌<◌, ◌≤◌, ℕ, Some, None, IfSome, IfOk, IfErr, IsErr, OnOk, OnErr, option_map, option_copied, slice_get};
+    ghost use Rattle.std.specs.Prelude.{length};
     ghost use Rattle.sci_words.specs.declared.limits.TheConstants.{MAX_OPERATIONS};
-    ghost use Rattle.sci_cache.specs.Cache.{letter_of};
     ghost use Rattle.sci_words.specs.declared.event.Event.TheVariants.{Issue, Perform};
+    ghost use Rattle.sci_cache.specs.Cache.{letter_of};
     ghost use Rattle.sci_core.specs.Core.{IsEnabled, core_of, lane_of, node_at, opening, stepping, run_from};
-    ghost use Rattle.sci_core.specs.Node.{node_issuing, node_performing};
-    ghost use Rattle.sci_core.specs.Fault.{IsFaultOf};
-    ghost use Rattle.sci_core.specs.Size.{size_of};
-    ghost use Rattle.sci_core.specs.Reached.{IsReached};
-    ghost use Rattle.sci_core.specs.Stopped.{IsStoppedAt};
-    ghost use Rattle.sci_core.specs.Coherent.{IsCoherent};
-    ghost use Rattle.sci_core.specs.Done.{LastChanges, made_by};
-    ghost use Rattle.sci_history.specs.Audit.{AreWithin};
-    ghost use Rattle.sci_history.specs.Lawful.{Lawful};
-    ghost use Rattle.sci_history.specs.Sequential.{IsSequentiallyConsistent};
-    ghost use Rattle.sci_core.specs.Outcome.{logs_of};
-    ghost use Rattle.sci_core.specs.Sharing.{last_at, last_of};
-    ghost use Rattle.sci_core.specs.Shape.{IsAuthority};
-    ghost use Rattle.sci_core.specs.SharingList.{IsSharingList};
-    ghost use Rattle.sci_core.specs.Work.{IsIssued, IsLogged};
+    ghost use Rattle.sci_core.specs.{Node.{node_issuing, node_performing}, Fault.{IsFaultOf}, Size.{size_of}};
+    ghost use Rattle.sci_core.specs.{Reached.{IsReached}, Stopped.{IsStoppedAt}, Coherent.{IsCoherent}};
+    ghost use Rattle.sci_core.specs.{Done.{LastChanges, made_by}, Outcome.{logs_of}, Sharing.{last_at, last_of}};
+    ghost use Rattle.sci_core.specs.{Shape.{IsAuthority}, SharingList.{IsSharingList}, Work.{IsIssued, IsLogged}};
+    ghost use Rattle.sci_history.specs.{Audit.{AreWithin}, Lawful.{Lawful}, Sequential.{IsSequentiallyConsistent}};
 
     /// A machine of this size in which no line was touched: all lines are HOME with zero words at version 0, and
     /// all else is empty. Each node may issue `limit` operations. Requires that this is 1 to

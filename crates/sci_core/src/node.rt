@@ -31,8 +31,7 @@ pub struct Node {
 impl Model for Node {
     ghost use Rattle.std.specs.Prelude.{◌≡◌, ◌≤◌, length, option_map, vec_capacity};
     ghost use Rattle.sci_cache.specs.Cache.{letter_of};
-    ghost use Rattle.sci_core.specs.Node.{NodeOf, IsNode};
-    ghost use Rattle.sci_core.specs.Inside.{FitsInside};
+    ghost use Rattle.sci_core.specs.{Node.{NodeOf, IsNode}, Inside.{FitsInside}};
 
     ghost Value = { NodeOf };
 
@@ -71,17 +70,16 @@ fn read_words(act: Act)
 }
 
 impl Node {
-    ghost use Rattle.std.specs.Prelude.{◌≡◌, ◌≢◌, ◌<◌, ◌≤◌, ◌%◌, ◌&&◌, ℕ, length, Some, None, Ok, Err, true, false, IfOk, IfSome, IsErr, IsSome, MatchOption, MatchBool, is_some, IsTrue, option_map, option_copied};
+    ghost use Rattle.std.specs.Prelude.{◌≡◌, ◌≢◌, ◌<◌, ◌≤◌, ◌%◌, ◌&&◌, ℕ, length, Some, None, Ok, Err, true, false, IfOk, IfSome, IsErr, IsSome};
+    ghost use Rattle.std.specs.Prelude.{MatchOption, MatchBool, is_some, IsTrue, option_map, option_copied};
     ghost use Rattle.sci_words.specs.declared.limits.TheConstants.{MAX_LINES, MAX_OPERATIONS};
-    ghost use Rattle.sci_core.specs.Size.{size_of};
-    ghost use Rattle.sci_core.specs.Taking.{IsTakable, node_taking};
-    ghost use Rattle.sci_core.specs.Work.{IsIssued, IsLogged};
+    ghost use Rattle.sci_core.specs.{Size.{size_of}, Taking.{IsTakable, node_taking}, Work.{IsIssued, IsLogged}};
+    ghost use Rattle.sci_core.specs.Node.{IsAtRest, NodeOf, opening_node, lines_of, home_of, pending_on, IsForNode, IsServable, node_issuing};
+    ghost use Rattle.sci_core.specs.Node.{node_performing, node_asking, node_serving, node_refusing, node_replying, node_accepting};
+    ghost use Rattle.sci_core.specs.Node.{may_issue as may_issue_of, serving_at_home, serving_in_cache, answering};
     ghost use Rattle.sci_home.specs.Serving.{is_for_home, IsForHome};
-    ghost use Rattle.sci_cache.specs.Held.{state_of};
-    ghost use Rattle.sci_cache.specs.LineSet.{IsBefore};
-    ghost use Rattle.sci_cache.specs.Kinds.{could_give_way, is_of};
+    ghost use Rattle.sci_cache.specs.{Held.{state_of}, LineSet.{IsBefore}, Kinds.{could_give_way, is_of}};
     ghost use Rattle.sci_cache.specs.Cache.{has_slot, letter_of, line_of};
-    ghost use Rattle.sci_core.specs.Node.{IsAtRest, NodeOf, opening_node, lines_of, home_of, pending_on, IsForNode, IsServable, node_issuing, node_performing, node_asking, node_serving, node_refusing, node_replying, node_accepting, may_issue as may_issue_of, serving_at_home, serving_in_cache, answering};
 
     /// The node with the number `me` in a machine of this size, whose processor may issue `limit` operations.
     /// Requires that there is such a node, and that `limit` is 1 to 65,536. Refused if memory

@@ -1,8 +1,7 @@
 //! Why an event isn't enabled.
 
 ghost use Rattle.std.specs.Prelude.{◌≡◌, is_some};
-ghost use Rattle.sci_cache.specs.Asking.{asking};
-ghost use Rattle.sci_cache.specs.State.{Out};
+ghost use Rattle.sci_cache.specs.{Asking.{asking}, State.{Out}};
 
 use crate::apply::node_of;
 use crate::machine::Machine;
@@ -54,7 +53,9 @@ fn begins(kind: AskKind) -> bool
 impl Node {
     ghost use Rattle.std.specs.Prelude.{◌≡◌, is_none, is_some};
     ghost use Rattle.sci_core.specs.Node.{node_issuing, node_performing, node_asking, node_replying};
-    ghost use Rattle.sci_core.specs.Obstacles.{issue_obstacle as issue_obstacle_of, perform_obstacle as perform_obstacle_of, ask_obstacle as ask_obstacle_of, reply_obstacle as reply_obstacle_of, packet_obstacle as packet_obstacle_of};
+    ghost use Rattle.sci_core.specs.Obstacles.{issue_obstacle as issue_obstacle_of, perform_obstacle as perform_obstacle_of};
+    ghost use Rattle.sci_core.specs.Obstacles.{ask_obstacle as ask_obstacle_of, reply_obstacle as reply_obstacle_of};
+    ghost use Rattle.sci_core.specs.Obstacles.{packet_obstacle as packet_obstacle_of};
     ghost use Rattle.sci_cache.specs.Cache.{letter_of};
 
     /// Why an operation can't be issued, or None if it can.

@@ -24,8 +24,7 @@ pub(crate) struct PendingOps {
 
 impl Model for PendingOps {
     ghost use Rattle.std.specs.Prelude.{List, Option};
-    ghost use Rattle.sci_core.specs.declared.pending.Pending.{Pending};
-    ghost use Rattle.sci_core.specs.PendingSet.{IsPendingSet};
+    ghost use Rattle.sci_core.specs.{declared.pending.Pending.{Pending}, PendingSet.{IsPendingSet}};
 
     ghost Value = { List (Option Pending) };
 

@@ -3,10 +3,8 @@
 
 ghost use Rattle.std.specs.Prelude.{◌<◌, ℕ, List};
 ghost use Rattle.sci_words.specs.declared.event.Event.{Event};
-ghost use Rattle.sci_core.specs.Core.{Core, run, step};
-ghost use Rattle.sci_core.specs.FirstCome.{AreInTurn, AreWaiting, IsInTurn};
-ghost use Rattle.sci_core.specs.Reached.{IsReachable};
-ghost use Rattle.sci_core.specs.Size.{IsSize, Size};
+ghost use Rattle.sci_core.specs.{Core.{Core, run, step}, FirstCome.{AreInTurn, AreWaiting, IsInTurn}};
+ghost use Rattle.sci_core.specs.{Reached.{IsReachable}, Size.{IsSize, Size}};
 
 /// In every reached state those who wait on a line are one list: the members of its list before the authority, the one
 /// directly before it first.

@@ -50,12 +50,8 @@ fn parting(held: &Held) -> AskKind
 impl Machine {
     ghost use Rattle.std.specs.Prelude.{◌≡◌, ◌<◌, ◌≤◌, ◌+◌, ◌*◌, ℕ, Some, None, IfOk, IfSome, IsErr, IsSome, OnOk, OnErr, true, false};
     ghost use Rattle.sci_cache.specs.State.{Out};
-    ghost use Rattle.sci_core.specs.Reached.{IsReached};
-    ghost use Rattle.sci_core.specs.Shape.{state_at};
-    ghost use Rattle.sci_core.specs.Coherent.{IsCoherent};
-    ghost use Rattle.sci_core.specs.Core.{node_at};
-    ghost use Rattle.sci_core.specs.Draining.{IsDrained};
-    ghost use Rattle.sci_core.specs.Node.{node_asking, pending_on};
+    ghost use Rattle.sci_core.specs.{Reached.{IsReached}, Shape.{state_at}, Coherent.{IsCoherent}, Core.{node_at}};
+    ghost use Rattle.sci_core.specs.{Draining.{IsDrained}, Node.{node_asking, pending_on}};
     ghost use Rattle.sci_core.specs.Rounds.{AreOut, IsNext, IsRound, rank};
     ghost use Rattle.sci_core.specs.Settling.{IsSettled, IsWithin, Leads, LeadsOn, pending_count, settles};
 

@@ -53,9 +53,7 @@ impl State {
     ghost use Rattle.sci_home.specs.Serving.{head_of};
     ghost use Rattle.sci_core.specs.Shape.{HasShape, IsAuthority};
     ghost use Rattle.sci_core.specs.Sharing.{authority_contents, home_at, last_at, sharer_of};
-    ghost use Rattle.sci_core.specs.SharingList.{IsSharingList, link_at};
-    ghost use Rattle.sci_core.specs.Tidy.{IsTidy};
-    ghost use Rattle.sci_core.specs.WellFormed.{IsWellFormed};
+    ghost use Rattle.sci_core.specs.{SharingList.{IsSharingList, link_at}, Tidy.{IsTidy}, WellFormed.{IsWellFormed}};
 
     /// The head of a line's list, or None if the home has the line alone. Requires that there is such a
     /// line.

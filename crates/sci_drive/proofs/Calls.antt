@@ -1,18 +1,15 @@
 -- How the calls of a gate come one after another.
-use Rattle.std.proofs.Common.{◌≡◌, ◌≤◌, ◌<◌, ◌+◌, ℕ, arith, true, false, Bool, List, [], ◌∷◌, ◌++◌, Some, None, cond, if◌then◌else◌, append-nil, append_assoc}
-use Rattle.std.proofs.Common.{refl, sym, ap, subst, ◌∙◌, inl, inr}
-use Rattle.std.specs.Prelude.{◌⊎◌}
-use Rattle.std.specs.List.{Contains}
-use Rattle.std.proofs.lemmas.Bool.{cases_lt}
+use Rattle.std.proofs.Common.{◌≡◌, ◌≤◌, ◌<◌, ◌+◌, ℕ, arith, true, false, Bool, List, [], ◌∷◌, ◌++◌, Some, None, cond, if◌then◌else◌, append-nil}
+use Rattle.std.proofs.{Common.{append_assoc, refl, sym, ap, subst, ◌∙◌, inl, inr}, lemmas.Bool.{cases_lt}}
 use Rattle.std.proofs.lemmas.List.Elements.{Contains-append_left, Contains-append_right, filter_map-append}
 use Rattle.std.proofs.lemmas.List.Sums.{sum_by-append}
+use Rattle.std.specs.{Prelude.{◌⊎◌}, List.{Contains}}
 use Rattle.sci_history.specs.declared.entry.Entry.{Entry}
 use Rattle.sci_core.specs.Node.{NodeOf}
 use Rattle.sci_words.specs.declared.operation.Op.{Op}
 use Rattle.sci_drive.specs.declared.driver.Issuing.{Issuing}
 use Rattle.sci_drive.specs.Calls.{Answered, AreAllowed, AreCalls, AreCallsOf, Call, Done, EndWithDone, IsHeard, MayIssue, entry_told, is_done}
-use Rattle.sci_drive.specs.Calls.{times_before, times_done, told}
-use Rattle.sci_drive.specs.Driving.{DriverOf, IsDriven, opening_driver}
+use Rattle.sci_drive.specs.{Calls.{times_before, times_done, told}, Driving.{DriverOf, IsDriven, opening_driver}}
 
 -- ---- where a call stands in two lists
 

@@ -1,19 +1,14 @@
 -- What the calls of a worker make of a driver and its node.
-use Rattle.std.proofs.Common.{◌≡◌, ◌≢◌, ◌≤◌, ◌<◌, ◌+◌, ◌-◌, ℕ, arith, true, false, Bool, List, [], ◌∷◌, ◌++◌, length, All, Option, Some, None, cond, ◌==◌, refl}
-use Rattle.std.proofs.Common.{rules, sym, ap, subst, ◌∙◌, inl, inr}
-use Rattle.std.specs.Prelude.{slice_get, slice_index_or}
-use Rattle.std.specs.List.{Contains, remove}
-use Rattle.std.proofs.lemmas.Bool.{cases_eq, cases_lt, eq-eqb, ne_eqb}
-use Rattle.std.proofs.lemmas.List.{get_or_default, length_push}
+use Rattle.std.proofs.Common.{◌≡◌, ◌≢◌, ◌≤◌, ◌<◌, ◌+◌, ◌-◌, ℕ, arith, true, false, Bool, List, [], ◌∷◌, ◌++◌, length, All, Option, Some, None, cond, ◌==◌}
+use Rattle.std.proofs.Common.{refl, rules, sym, ap, subst, ◌∙◌, inl, inr}
+use Rattle.std.proofs.lemmas.{Bool.{cases_eq, cases_lt, eq-eqb, ne_eqb}, List.{get_or_default, length_push}}
 use Rattle.std.proofs.lemmas.Option.{slice_get_within}
 use Rattle.std.proofs.lemmas.List.Edits.{get_or-remove_below, get_or-remove_above, length-remove}
-use Rattle.std.proofs.lemmas.List.Elements.{All-push, Contains-append_left, Contains-push}
-use Rattle.std.proofs.lemmas.List.Sums.{sum_by-append}
+use Rattle.std.proofs.lemmas.List.{Elements.{All-push, Contains-append_left, Contains-push}, Sums.{sum_by-append}}
+use Rattle.std.specs.{Prelude.{slice_get, slice_index_or}, List.{Contains, remove}}
 use Rattle.sci_words.specs.declared.operation.Op.{Op}
 use Rattle.sci_history.specs.declared.entry.Entry.{Entry}
-use Rattle.sci_core.specs.Node.{NodeOf, pending_on}
-use Rattle.sci_core.specs.Work.{IsIssued, IsLogged}
-use Rattle.sci_core.specs.declared.pending.Pending.{Pending}
+use Rattle.sci_core.specs.{Node.{NodeOf, pending_on}, Work.{IsIssued, IsLogged}, declared.pending.Pending.{Pending}}
 use Rattle.sci_policy.specs.Worker.{HasSameWork}
 use Rattle.sci_drive.specs.Script.{IsLogOf, IsNamedBy, IsWholeLogOf, times_answered}
 use Rattle.sci_drive.specs.declared.driver.Issuing.{Issuing}

@@ -1,20 +1,12 @@
 -- What the calls of a worker make of a driver that issues in order, and its node.
-use Rattle.std.proofs.Common.{true, ◌≡◌, ◌≤◌, ◌<◌, ℕ, arith, List, [], ◌∷◌, ◌++◌, length, take, All, Some, sym, ap, subst, ◌∙◌, inl}
-use Rattle.std.proofs.Common.{inr, rules}
-use Rattle.std.specs.Prelude.{slice_get, slice_index_or}
-use Rattle.std.specs.List.{Contains, remove}
-use Rattle.std.proofs.lemmas.Bool.{cases_eq}
-use Rattle.std.proofs.lemmas.List.{get_or_default, length_push, map-append, take_more}
-use Rattle.std.proofs.lemmas.Option.{get_or_from_slice_get, slice_get_within}
-use Rattle.std.proofs.lemmas.List.Edits.{length-remove}
-use Rattle.std.proofs.lemmas.List.Elements.{All-push}
-use Rattle.std.proofs.lemmas.List.Quantifiers.{all_pairs_push}
+use Rattle.std.proofs.Common.{true, ◌≡◌, ◌≤◌, ◌<◌, ℕ, arith, List, [], ◌∷◌, ◌++◌, length, take, All, Some, sym, ap, subst, ◌∙◌, inl, inr, rules}
+use Rattle.std.proofs.lemmas.{Bool.{cases_eq}, List.{get_or_default, length_push, map-append, take_more}}
+use Rattle.std.proofs.lemmas.{Option.{get_or_from_slice_get, slice_get_within}, List.Edits.{length-remove}}
+use Rattle.std.proofs.lemmas.List.{Elements.{All-push}, Quantifiers.{all_pairs_push}}
+use Rattle.std.specs.{Prelude.{slice_get, slice_index_or}, List.{Contains, remove}}
 use Rattle.sci_words.specs.declared.operation.Op.{Op}
-use Rattle.sci_history.specs.declared.entry.Entry.{Entry}
-use Rattle.sci_history.specs.Sequential.{IsInProgramOrder}
-use Rattle.sci_core.specs.Node.{NodeOf, pending_on}
-use Rattle.sci_core.specs.Work.{IsLogged}
-use Rattle.sci_core.specs.declared.pending.Pending.{Pending}
+use Rattle.sci_history.specs.{declared.entry.Entry.{Entry}, Sequential.{IsInProgramOrder}}
+use Rattle.sci_core.specs.{Node.{NodeOf, pending_on}, Work.{IsLogged}, declared.pending.Pending.{Pending}}
 use Rattle.sci_policy.specs.Worker.{HasSameWork}
 use Rattle.sci_drive.specs.declared.driver.Issuing.TheVariants.{InOrder}
 use Rattle.sci_drive.specs.Driving.{DriverOf, HasSubmittedNothing, IsDriven, IsInOrder, opening_driver}

@@ -1,15 +1,12 @@
 -- How often a gate rests in so many turns.
-use Rattle.std.proofs.Common.{◌≡◌, ◌≤◌, ◌<◌, ◌+◌, ◌*◌, ℕ, arith, true, false, Bool, List, [], ◌∷◌, ◌++◌, length, cond, if◌then◌else◌, length-append, refl, ap}
-use Rattle.std.proofs.Common.{◌∙◌, inl, inr}
+use Rattle.std.proofs.Common.{◌≡◌, ◌≤◌, ◌<◌, ◌+◌, ◌*◌, ℕ, arith, true, false, Bool, List, [], ◌∷◌, ◌++◌, length, cond, if◌then◌else◌, length-append, refl}
+use Rattle.std.proofs.{Common.{ap, ◌∙◌, inl, inr}, lemmas.List.{Elements.{filter_map-append}, Sums.{sum_by-append}}}
 use Rattle.std.specs.Prelude.{◌⊎◌}
-use Rattle.std.proofs.lemmas.List.Elements.{filter_map-append}
-use Rattle.std.proofs.lemmas.List.Sums.{sum_by-append}
 use Rattle.sci_history.specs.declared.entry.Entry.{Entry}
 use Rattle.sci_core.specs.Node.{NodeOf}
 use Rattle.sci_drive.specs.declared.driver.Round.{Round}
 use Rattle.sci_drive.specs.Calls.{AllDone, AreCalls, Call, EndWithAllDone, IsHeard, Rest, entry_told, is_rest, times_rested, told}
-use Rattle.sci_drive.specs.Driving.{DriverOf}
-use Rattle.sci_drive.specs.Resting.{RestsInTime, in_a_row}
+use Rattle.sci_drive.specs.{Driving.{DriverOf}, Resting.{RestsInTime, in_a_row}}
 use Rattle.sci_drive.proofs.Calls.{calls_on, no_calls, one_call}
 
 rests_append : (first second : List Call) → times_rested (first ++ second) ≡ times_rested first + times_rested second

@@ -1,16 +1,12 @@
 -- What a driver does in a round, step by step.
 use Rattle.std.proofs.Common.{◌≡◌, ◌+◌, ℕ, Bool, true, false, List, [], ◌∷◌, ◌++◌, Some, if◌then◌else◌, add-one, refl, sym, ap, subst, inl, inr}
-use Rattle.std.specs.Prelude.{◌⊎◌, Result, Ok, IfOk}
-use Rattle.std.specs.List.{Contains}
-use Rattle.std.specs.declared.alloc.AllocError.{AllocError}
 use Rattle.std.proofs.lemmas.List.Elements.{Contains-append_left}
+use Rattle.std.specs.{Prelude.{◌⊎◌, Result, Ok, IfOk}, List.{Contains}, declared.alloc.AllocError.{AllocError}}
 use Rattle.sci_words.specs.declared.operation.Op.{Op}
 use Rattle.sci_history.specs.declared.entry.Entry.{Entry}
-use Rattle.sci_core.specs.Node.{NodeOf}
-use Rattle.sci_core.specs.Work.{IsIssued, IsLogged}
+use Rattle.sci_core.specs.{Node.{NodeOf}, Work.{IsIssued, IsLogged}}
 use Rattle.sci_policy.specs.Worker.{HasSameWork, IsNodeTurn}
-use Rattle.sci_drive.specs.declared.driver.Round.{Round}
-use Rattle.sci_drive.specs.Calls.{AllDone, Call, Done, IsHeard, MayIssue, Rest}
+use Rattle.sci_drive.specs.{declared.driver.Round.{Round}, Calls.{AllDone, Call, Done, IsHeard, MayIssue, Rest}}
 use Rattle.sci_drive.specs.Driving.{DriverOf}
 use Rattle.sci_drive.specs.Resting.{AllAreDone, AreBehind, NotAsked, NotYet, in_a_row, is_rest_due, rests_if, row_after}
 use Rattle.sci_drive.specs.Rounds.{AllSubmitted, ArePerformed, GoRounds, GoesRound, IsHeldBack, IsTried, LineIsTaken, NoRoom, NoneNow, NotAllowed, OneMore}

@@ -2,11 +2,9 @@
 use Rattle.std.specs.Prelude.{◌≡◌, ◌<◌, ◌≤◌, ◌⊎◌, ◌+◌, ℕ, Bool, false, List, [], length, All, Some, None, slice_get}
 use Rattle.std.specs.List.{Contains}
 use Rattle.sci_words.specs.declared.operation.Op.{Op}
-use Rattle.sci_core.specs.Node.{NodeOf, pending_on}
-use Rattle.sci_core.specs.declared.pending.Pending.{Pending}
+use Rattle.sci_core.specs.{Node.{NodeOf, pending_on}, declared.pending.Pending.{Pending}}
 use Rattle.sci_history.specs.Sequential.{IsInProgramOrder}
-use Rattle.sci_drive.specs.declared.driver.Issuing.{Issuing}
-use Rattle.sci_drive.specs.declared.driver.Issuing.TheVariants.{InOrder}
+use Rattle.sci_drive.specs.declared.driver.Issuing.{Issuing, TheVariants.{InOrder}}
 use Rattle.sci_drive.specs.Script.{IsFrontOf, IsNamedBy, times_answered}
 
 -- a script, when its operations are submitted, how many of them were, the lines on which one is pending, by serial, and

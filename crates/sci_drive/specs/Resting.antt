@@ -1,8 +1,7 @@
 -- When a gate rests.
 use Rattle.std.specs.Prelude.{◌≡◌, ℕ, ◌+◌, ◌*◌, ◌≤◌, nat_le, Bool, true, false, ◌&&◌, ◌||◌, not, if◌then◌else◌, List, [], ◌∷◌, length}
 use Rattle.sci_policy.specs.Turn.{is_idle}
-use Rattle.sci_drive.specs.Calls.{AllDone, Call, Rest, times_rested, told}
-use Rattle.sci_drive.specs.declared.driver.Round.{Round}
+use Rattle.sci_drive.specs.{Calls.{AllDone, Call, Rest, times_rested, told}, declared.driver.Round.{Round}}
 use Rattle.sci_drive.specs.declared.running.TheConstants.{RESTLESS_TURNS}
 
 -- how many turns there are in a row without an entry or a rest, after this round

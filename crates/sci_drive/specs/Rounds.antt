@@ -1,19 +1,12 @@
 -- What a driver does in a round: it submits and performs, and its worker takes a turn.
 use Rattle.std.specs.Prelude.{◌≡◌, ◌≤◌, ◌+◌, ℕ, zero, suc, false, List, [], ◌∷◌, ◌++◌, length, Option, Some, None, IsSome, Result, Ok, IfOk, slice_get}
-use Rattle.std.specs.List.{Contains}
-use Rattle.std.specs.declared.alloc.AllocError.{AllocError}
+use Rattle.std.specs.{List.{Contains}, declared.alloc.AllocError.{AllocError}}
 use Rattle.sci_words.specs.declared.operation.Op.{Op}
 use Rattle.sci_history.specs.declared.entry.Entry.{Entry}
-use Rattle.sci_core.specs.Node.{NodeOf, node_performing}
-use Rattle.sci_core.specs.Work.{IsIssued, IsLogged}
-use Rattle.sci_policy.specs.Turn.{submit_fault}
-use Rattle.sci_policy.specs.Worker.{HasSameWork, IsNodeTurn}
-use Rattle.sci_drive.specs.declared.driver.Issuing.{Issuing}
-use Rattle.sci_drive.specs.declared.driver.Issuing.TheVariants.{Ahead, InOrder}
-use Rattle.sci_drive.specs.declared.driver.Round.{Round}
-use Rattle.sci_drive.specs.Calls.{Call, IsHeard, MayIssue}
-use Rattle.sci_drive.specs.Driving.{DriverOf}
-use Rattle.sci_drive.specs.Resting.{AreBehind}
+use Rattle.sci_core.specs.{Node.{NodeOf, node_performing}, Work.{IsIssued, IsLogged}}
+use Rattle.sci_policy.specs.{Turn.{submit_fault}, Worker.{HasSameWork, IsNodeTurn}}
+use Rattle.sci_drive.specs.declared.driver.{Issuing.{Issuing, TheVariants.{Ahead, InOrder}}, Round.{Round}}
+use Rattle.sci_drive.specs.{Calls.{Call, IsHeard, MayIssue}, Driving.{DriverOf}, Resting.{AreBehind}}
 
 -- ---- submitted
 

@@ -61,14 +61,11 @@ pub struct Round {
 }
 
 impl<'a> Driver<'a> {
-    ghost use Rattle.std.specs.Prelude.{◌≡◌, ◌<◌, ◌≤◌, ◌↔◌, ℕ, List, true, false, [], IfOk, length};
-    ghost use Rattle.std.specs.List.{Contains};
+    ghost use Rattle.std.specs.{Prelude.{◌≡◌, ◌<◌, ◌≤◌, ◌↔◌, ℕ, List, true, false, [], IfOk, length}, List.{Contains}};
     ghost use Rattle.sci_history.specs.declared.entry.Entry.{Entry};
-    ghost use Rattle.sci_policy.specs.Rest.{MayIdle};
-    ghost use Rattle.sci_policy.specs.Turn.{is_idle};
+    ghost use Rattle.sci_policy.specs.{Rest.{MayIdle}, Turn.{is_idle}};
     ghost use Rattle.sci_words.specs.declared.limits.TheConstants.{MAX_OPERATIONS};
-    ghost use Rattle.sci_drive.specs.Calls.{IsHeard};
-    ghost use Rattle.sci_drive.specs.Driving.{IsDriven, IsInOrder, opening_driver};
+    ghost use Rattle.sci_drive.specs.{Calls.{IsHeard}, Driving.{IsDriven, IsInOrder, opening_driver}};
     ghost use Rattle.sci_drive.specs.Rounds.{ArePerformed, GoesRound, IsTried, Submits, most_pending};
 
     /// A driver that has submitted nothing yet. Requires that the script has at most 65,536 operations.

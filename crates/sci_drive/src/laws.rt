@@ -3,8 +3,7 @@
 ghost use Rattle.std.specs.Prelude.{List};
 ghost use Rattle.sci_words.specs.declared.operation.Op.{Op};
 ghost use Rattle.sci_core.specs.Node.{NodeOf};
-ghost use Rattle.sci_drive.specs.declared.driver.Issuing.{Issuing};
-ghost use Rattle.sci_drive.specs.declared.driver.Issuing.TheVariants.{InOrder};
+ghost use Rattle.sci_drive.specs.declared.driver.Issuing.{Issuing, TheVariants.{InOrder}};
 ghost use Rattle.sci_drive.specs.Driving.{HasSubmittedNothing, IsDriven, IsInOrder, opening_driver};
 
 /// A new driver may drive a worker that has submitted nothing; and if it issues in order, the log so far stands in order.

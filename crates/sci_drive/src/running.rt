@@ -7,8 +7,7 @@ ghost use Rattle.sci_drive.specs.Calls.{AreCallsOf, Call, EndWithAllDone, Rest, 
 ghost use Rattle.sci_drive.specs.declared.driver.Issuing.TheVariants.{Ahead, InOrder};
 ghost use Rattle.sci_drive.specs.declared.running.TheConstants.{RESTLESS_TURNS};
 ghost use Rattle.sci_drive.specs.Driving.{DriverOf, HasSubmittedNothing, opening_driver};
-ghost use Rattle.sci_drive.specs.Resting.{RestsInTime, in_a_row, is_rest_due};
-ghost use Rattle.sci_drive.specs.Rounds.{GoRounds};
+ghost use Rattle.sci_drive.specs.{Resting.{RestsInTime, in_a_row, is_rest_due}, Rounds.{GoRounds}};
 ghost use Rattle.sci_drive.specs.Script.{IsFrontOf, IsLogOf, IsWholeLogOf};
 
 use crate::driver::{Driver, Issuing, Round};
@@ -132,8 +131,7 @@ fn rest_if_due<G: Gate>(gate: &mut G, round: &Round, restless: u32) -> u32
 
 impl<'a> Driver<'a> {
     ghost use Rattle.std.specs.Prelude.{◌≡◌, ◌≤◌, ◌⊎◌, ℕ, [], ◌∷◌, List, true, false, length, IfOk};
-    ghost use Rattle.sci_drive.specs.Calls.{AllDone, AreCalls, Call, EndWithAllDone};
-    ghost use Rattle.sci_drive.specs.Driving.{IsDriven, IsInOrder};
+    ghost use Rattle.sci_drive.specs.{Calls.{AllDone, AreCalls, Call, EndWithAllDone}, Driving.{IsDriven, IsInOrder}};
 
     /// Whether the whole script is answered and the gate says that all are done. It isn't asked before.
     fn is_over<G: Gate>(&self, gate: &mut G) -> bool

@@ -1,8 +1,7 @@
 //! What the nodes are to do.
 
 ghost use Rattle.std.specs.Prelude.{◌≡◌};
-ghost use Rattle.sci_words.specs.declared.event.Event.TheVariants.{Issue};
-ghost use Rattle.sci_words.specs.declared.operation.Act.TheVariants.{Lock};
+ghost use Rattle.sci_words.specs.declared.{event.Event.TheVariants.{Issue}, operation.Act.TheVariants.{Lock}};
 ghost use Rattle.sci_words.specs.declared.operation.LockOp.TheVariants.{FetchAdd};
 
 use sci_words::{Act, Event, LockOp, Op};

@@ -1,9 +1,7 @@
 //! A run of the machine.
 
 ghost use Rattle.std.specs.Prelude.{IfOk, length};
-ghost use Rattle.sci_history.specs.Audit.{AreWithin};
-ghost use Rattle.sci_history.specs.Lawful.{Lawful};
-ghost use Rattle.sci_history.specs.Sequential.{IsSequentiallyConsistent};
+ghost use Rattle.sci_history.specs.{Audit.{AreWithin}, Lawful.{Lawful}, Sequential.{IsSequentiallyConsistent}};
 
 use crate::counting::addition;
 use sci_core::Machine;

@@ -1,27 +1,19 @@
 -- What a loop over a line's entries has found so far.
-use Rattle.std.proofs.Common.{◌≡◌, ℕ, ◌+◌, ◌<◌, ◌≤◌, Bool, true, false, cond, List, [], ◌∷◌, ◌++◌, length, get_or, take, drop, Some, None, refl, sym, ap, ◌∙◌}
-use Rattle.std.proofs.Common.{subst, add-one, ◌-◌, set, arith}
+use Rattle.std.proofs.Common.{◌≡◌, ℕ, ◌+◌, ◌<◌, ◌≤◌, Bool, true, false, cond, List, [], ◌∷◌, ◌++◌, length, get_or, take, drop, Some, None, refl, sym, ap}
+use Rattle.std.proofs.Common.{◌∙◌, subst, add-one, ◌-◌, set, arith}
 use Rattle.std.proofs.lemmas.List.{take_more, length-map, get_or-map, get_or_default, get_or-set_same, get_or-set_other}
 use Rattle.std.proofs.Math.Seq.{drop-cons}
 use denote.Ref.{Bor}
-use Rattle.std.specs.Prelude.{All, IsTrue}
-use Rattle.std.specs.List.{filter, list_any}
-use Rattle.std.proofs.Common.{◌||◌}
-use Rattle.std.proofs.lemmas.Bool.{cases_eq, eq-eqb, ne_eqb}
-use Rattle.std.proofs.lemmas.List.{append-nil}
-use Rattle.std.proofs.lemmas.List.Folds.{list_any-append}
-use Rattle.std.proofs.lemmas.List.Elements.{filter-append, All-from_recursion}
-use Rattle.sci_words.specs.Stamped.{line_after}
-use Rattle.sci_history.specs.Placed.{is_making, makes, is_of_node}
-use Rattle.sci_history.specs.Audit.{last_entry, words_after}
-use Rattle.sci_history.proofs.Order.{filter_yes, filter_no}
-use Rattle.sci_history.proofs.AuditOrders.{last_of-push}
-use Rattle.sci_history.proofs.AuditVersions.{none_fail, versions_within}
-use Rattle.sci_history.proofs.AuditRuns.{words_after-push}
-use Rattle.sci_words.specs.declared.operation.Act.TheVariants.{Load}
+use Rattle.std.specs.{Prelude.{All, IsTrue}, List.{filter, list_any}}
+use Rattle.std.proofs.{Common.{◌||◌}, lemmas.{Bool.{cases_eq, eq-eqb, ne_eqb}, List.{append-nil}}}
+use Rattle.std.proofs.lemmas.List.{Folds.{list_any-append}, Elements.{filter-append, All-from_recursion}}
+use Rattle.sci_words.specs.{Stamped.{line_after}, declared.operation.Act.TheVariants.{Load}}
 use Rattle.sci_words.specs.declared.operation.Reply.TheVariants.{Stored}
+use Rattle.sci_history.specs.Placed.{is_making, makes, is_of_node}
+use Rattle.sci_history.specs.Audit.{last_entry, words_after, entries_of, first_failing, is_version_missing}
 use Rattle.sci_history.specs.declared.entry.Entry.{Entry}
-use Rattle.sci_history.specs.Audit.{entries_of, first_failing, is_version_missing}
+use Rattle.sci_history.proofs.{Order.{filter_yes, filter_no}, AuditOrders.{last_of-push}}
+use Rattle.sci_history.proofs.{AuditVersions.{none_fail, versions_within}, AuditRuns.{words_after-push}}
 
 abbrev pub no_entry : Entry
 no_entry = record { node = 0; serial = 0; op = record { line = 0; word = 0; act = Load }; reply = Stored; version = 0 }

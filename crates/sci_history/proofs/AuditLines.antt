@@ -1,27 +1,20 @@
 -- What the audit of a line needs of its entries, and what lines that are found lawful say of all.
-use Rattle.std.proofs.Common.{◌≡◌, ◌↔◌, ℕ, suc, ◌+◌, ◌<◌, ◌≤◌, false, List, [], ◌∷◌, ◌++◌, length, Option, Some, None, refl, sym, subst, arith}
-use Rattle.std.proofs.Common.{inl, inr, below_more}
-use Rattle.std.specs.Prelude.{All}
-use Rattle.std.specs.List.{flat_map, AllByRecursion}
-use Rattle.std.proofs.lemmas.Bool.{cases_lt, ne_eqb}
+use Rattle.std.proofs.Common.{◌≡◌, ◌↔◌, ℕ, suc, ◌+◌, ◌<◌, ◌≤◌, false, List, [], ◌∷◌, ◌++◌, length, Option, Some, None, refl, sym, subst, arith, inl, inr}
+use Rattle.std.proofs.{Common.{below_more}, lemmas.Bool.{cases_lt, ne_eqb}}
 use Rattle.std.proofs.lemmas.List.{get_or_past, get_or_append_left, get_or_push, length-append}
 use Rattle.std.proofs.lemmas.List.Elements.{All-from_recursion, recursion_from_All}
-use Rattle.sci_words.specs.declared.limits.TheConstants.{MAX_NODES, WORDS_PER_LINE}
-use Rattle.sci_words.specs.declared.stamped.Stamped.{Stamped}
+use Rattle.std.specs.{Prelude.{All}, List.{flat_map, AllByRecursion}}
+use Rattle.sci_words.specs.declared.{limits.TheConstants.{MAX_NODES, WORDS_PER_LINE}, stamped.Stamped.{Stamped}}
 use Rattle.sci_words.specs.Stamped.{zero_stamped}
-use Rattle.sci_history.specs.declared.entry.Entry.{Entry}
-use Rattle.sci_history.specs.declared.verdict.FaultKind.{FaultKind}
-use Rattle.sci_history.specs.declared.verdict.Verdict.{Verdict}
-use Rattle.sci_history.specs.declared.verdict.Verdict.TheVariants as verdicts
-use Rattle.sci_history.specs.declared.faults.LineFault.{LineFault}
-use Rattle.sci_history.specs.Memory.{stamped_at}
+use Rattle.sci_history.specs.declared.{entry.Entry.{Entry}, verdict.{FaultKind.{FaultKind}, Verdict.{Verdict}}}
+use Rattle.sci_history.specs.{declared.faults.LineFault.{LineFault}, Memory.{stamped_at}}
 use Rattle.sci_history.specs.Placed.{log_of, AreOwn, is_on_line, on_line, maker_count, by_version, placed_entries}
 use Rattle.sci_history.specs.Lawful.{IsLawfulLine, Lawful}
 use Rattle.sci_history.specs.Audit.{AreKnown, IsWithin, AreWithin, is_version_missing, first_missing, HasNoFault, IsFault, IsFound, AreFound, IsVerdict}
 use Rattle.sci_history.proofs.Order.{all_weaker, all-append, all-filter, filter_none}
-use Rattle.sci_history.proofs.Placement.{by_node_and_serial-none}
-use Rattle.sci_history.proofs.AuditVersions.{none_fail, versions_within}
+use Rattle.sci_history.proofs.{Placement.{by_node_and_serial-none}, AuditVersions.{none_fail, versions_within}}
 use Rattle.sci_history.proofs.Audits.{all-by_version, nodes_on_line, lawful_found, no_fault, fault_or_none}
+use Rattle.sci_history.specs.declared.verdict.Verdict.TheVariants as verdicts
 
 pub versions_low : (entries : List Entry) → None ≡ first_missing entries → All (λ e. e.version ≤ maker_count entries) entries
 versions_low entries e =

@@ -1,14 +1,10 @@
 -- What an audit's fourth kind says: each node's entries stand in order.
-use Rattle.std.proofs.Common.{◌≡◌, ℕ, zero, suc, ◌<◌, ◌≤◌, true, false, ltb, not, List, [], ◌∷◌, ◌++◌, length, get_or, Option, Some, None, refl, sym, ap, ◌∙◌}
-use Rattle.std.proofs.Common.{subst, append_assoc, arith}
-use Rattle.std.specs.Prelude.{AllPairs, IfSome}
-use Rattle.std.specs.List.{filter, AllByRecursion}
+use Rattle.std.proofs.Common.{◌≡◌, ℕ, zero, suc, ◌<◌, ◌≤◌, true, false, ltb, not, List, [], ◌∷◌, ◌++◌, length, get_or, Option, Some, None, refl, sym, ap}
+use Rattle.std.proofs.Common.{◌∙◌, subst, append_assoc, arith}
 use Rattle.std.proofs.lemmas.Bool.{cases_Bool, cases_eq, cases_order, eq-eqb, ne_eqb, ltb-true, lt-ltb, le-ltb, le-leb, and_parts, and_from, not-false}
-use Rattle.std.proofs.lemmas.Bool.{both_ways}
-use Rattle.std.proofs.lemmas.List.{append-nil}
-use Rattle.std.proofs.lemmas.List.Elements.{filter-append, All-from_recursion}
-use Rattle.sci_history.specs.declared.entry.Entry.{Entry}
-use Rattle.sci_history.specs.Placed.{is_of_node}
+use Rattle.std.proofs.lemmas.{Bool.{both_ways}, List.{append-nil, Elements.{filter-append, All-from_recursion}}}
+use Rattle.std.specs.{Prelude.{AllPairs, IfSome}, List.{filter, AllByRecursion}}
+use Rattle.sci_history.specs.{declared.entry.Entry.{Entry}, Placed.{is_of_node}}
 use Rattle.sci_history.specs.Audit.{last_entry, is_placed_before, breaks_order, is_out_of_order, first_disordered}
 use Rattle.sci_history.proofs.Order.{IsInOrder, filter_yes, filter_no, all_weaker}
 use Rattle.sci_history.proofs.Placement.{place, pairs-head, pairs-tail}

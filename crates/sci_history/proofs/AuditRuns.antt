@@ -1,25 +1,18 @@
 -- What an audit's third kind says: placed entries are a history, once their versions are whole.
-use Rattle.std.proofs.Common.{◌≡◌, ℕ, zero, suc, ◌+◌, ◌<◌, ◌≤◌, true, cond, eqb, not, List, [], ◌∷◌, ◌++◌, length, map, None, refl, sym, ap, ◌∙◌, subst, arith}
+use Rattle.std.proofs.Common.{◌≡◌, ℕ, zero, suc, ◌+◌, ◌<◌, ◌≤◌, true, cond, eqb, not, List, [], ◌∷◌, ◌++◌, length, map, None, refl, sym, ap, ◌∙◌, subst}
+use Rattle.std.proofs.{Common.{arith}, lemmas.Bool.{cases_Bool, eqb-true, eq-eqb, and_parts, not-true, not-false}}
+use Rattle.std.proofs.lemmas.List.{map-append, Sums.{length-filter}}
 use Rattle.std.specs.List.{filter, AllByRecursion}
-use Rattle.std.proofs.lemmas.Bool.{cases_Bool, eqb-true, eq-eqb, and_parts, not-true, not-false}
-use Rattle.std.proofs.lemmas.List.{map-append}
-use Rattle.std.proofs.lemmas.List.Sums.{length-filter}
-use Rattle.sci_words.specs.declared.limits.TheConstants.{MAX_NODES}
-use Rattle.sci_words.specs.declared.operation.Op.{Op}
-use Rattle.sci_words.specs.declared.operation.Reply.{Reply}
-use Rattle.sci_words.specs.declared.operation.Reply.TheVariants.{Stored, Got}
-use Rattle.sci_words.specs.declared.stamped.Stamped.{Stamped}
+use Rattle.sci_words.specs.declared.{limits.TheConstants.{MAX_NODES}, operation.{Op.{Op}, Reply.{Reply}}}
+use Rattle.sci_words.specs.declared.{operation.Reply.TheVariants.{Stored, Got}, stamped.Stamped.{Stamped}}
 use Rattle.sci_words.specs.Stamped.{line_after, zero_line, zero_stamped, reply_of}
-use Rattle.sci_history.specs.declared.entry.Entry.{Entry}
-use Rattle.sci_history.specs.Memory.{IsLineRun}
+use Rattle.sci_history.specs.{declared.entry.Entry.{Entry}, Memory.{IsLineRun}}
 use Rattle.sci_history.specs.Placed.{is_making, makes, reads, maker_count, by_node_and_serial, by_version, placed_entries, pair_of}
-use Rattle.sci_history.specs.Lawful.{HasWholeVersions}
-use Rattle.sci_history.specs.History.{IsHistory}
+use Rattle.sci_history.specs.{Lawful.{HasWholeVersions}, History.{IsHistory}}
 use Rattle.sci_history.specs.Audit.{same_reply, line_after_all, words_after, is_reply_wrong, first_wrong}
 use Rattle.sci_history.proofs.Order.{filter_none, all_weaker, all-filter, all-passes}
 use Rattle.sci_history.proofs.Placement.{all-by_node_and_serial, by_node_and_serial-one, by_node_and_serial-none}
-use Rattle.sci_history.proofs.AuditVersions.{NoneFail, none_fail, from_none_fail}
-use Rattle.sci_history.proofs.Runs.{same_stamped}
+use Rattle.sci_history.proofs.{AuditVersions.{NoneFail, none_fail, from_none_fail}, Runs.{same_stamped}}
 
 -- ---- replies
 

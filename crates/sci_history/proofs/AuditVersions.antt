@@ -1,15 +1,11 @@
 -- What an audit's first two kinds say: the makers' versions are 1 to their number, each once.
-use Rattle.std.proofs.Common.{◌≡◌, ℕ, zero, suc, ◌+◌, ◌-◌, ◌<◌, ◌≤◌, ◌⊎◌, Bool, true, false, eqb, ltb, ◌&&◌, List, [], ◌∷◌, ◌++◌, length, Some, None, refl, sym}
-use Rattle.std.proofs.Common.{ap, ◌∙◌, subst, append_assoc, arith, inl, inr}
-use Rattle.std.specs.Prelude.{IsTrue}
-use Rattle.std.specs.List.{filter, list_any, AllByRecursion}
+use Rattle.std.proofs.Common.{◌≡◌, ℕ, zero, suc, ◌+◌, ◌-◌, ◌<◌, ◌≤◌, ◌⊎◌, Bool, true, false, eqb, ltb, ◌&&◌, List, [], ◌∷◌, ◌++◌, length, Some, None, refl}
+use Rattle.std.proofs.Common.{sym, ap, ◌∙◌, subst, append_assoc, arith, inl, inr}
 use Rattle.std.proofs.lemmas.Bool.{cases_Bool, cases_eq, cases_lt, eq-eqb, eqb-true, ne_eqb, ltb-false, le-ltb, and_from, and_left, and_right, and_parts}
-use Rattle.std.proofs.lemmas.Bool.{or_parts, or_from, both_ways}
-use Rattle.std.proofs.lemmas.List.{append-nil, length-append}
-use Rattle.std.proofs.lemmas.List.Elements.{filter-append}
-use Rattle.std.proofs.lemmas.List.Sums.{length-filter}
-use Rattle.sci_history.specs.declared.entry.Entry.{Entry}
-use Rattle.sci_history.specs.Placed.{is_making, makes, maker_count, in_order}
+use Rattle.std.proofs.lemmas.{Bool.{or_parts, or_from, both_ways}, List.{append-nil, length-append}}
+use Rattle.std.proofs.lemmas.List.{Elements.{filter-append}, Sums.{length-filter}}
+use Rattle.std.specs.{Prelude.{IsTrue}, List.{filter, list_any, AllByRecursion}}
+use Rattle.sci_history.specs.{declared.entry.Entry.{Entry}, Placed.{is_making, makes, maker_count, in_order}}
 use Rattle.sci_history.specs.Lawful.{HasWholeVersions}
 use Rattle.sci_history.specs.Audit.{first_failing, is_version_twice, is_version_missing, first_twice, first_missing}
 use Rattle.sci_history.proofs.Order.{HasKeysBelow, filter_yes, filter_no, filter_none, all_weaker, all_both, all-filter, all-passes, length-in_order}

@@ -1,28 +1,21 @@
 -- A line's audit finds no fault exactly if the line is lawful.
-use Rattle.std.proofs.Common.{◌≡◌, ℕ, zero, suc, ◌<◌, ◌≤◌, true, false, List, [], ◌∷◌, ◌++◌, length, take, Option, Some, None, refl, sym, ap, ◌∙◌, subst, arith}
-use Rattle.std.proofs.Common.{inl, inr}
-use Rattle.std.specs.Prelude.{AllPairs}
-use Rattle.std.specs.List.{filter, flat_map, AllByRecursion}
-use Rattle.std.proofs.lemmas.Bool.{cases_lt, cases_eq, eq-eqb, ne_eqb}
-use Rattle.std.proofs.lemmas.List.{append-nil, take_all, ext_get_or}
-use Rattle.std.proofs.lemmas.List.Concat.{flat_map-append}
-use Rattle.std.proofs.lemmas.List.Elements.{filter-append, recursion_from_All}
-use Rattle.std.proofs.Math.Seq.{take-suc}
-use Rattle.sci_words.specs.declared.limits.TheConstants.{MAX_NODES}
-use Rattle.sci_words.specs.declared.stamped.Stamped.{Stamped}
-use Rattle.sci_history.specs.declared.entry.Entry.{Entry}
-use Rattle.sci_history.specs.declared.verdict.FaultKind.{FaultKind}
+use Rattle.std.proofs.Common.{◌≡◌, ℕ, zero, suc, ◌<◌, ◌≤◌, true, false, List, [], ◌∷◌, ◌++◌, length, take, Option, Some, None, refl, sym, ap, ◌∙◌, subst}
+use Rattle.std.proofs.{Common.{arith, inl, inr}, lemmas.Bool.{cases_lt, cases_eq, eq-eqb, ne_eqb}}
+use Rattle.std.proofs.lemmas.List.{append-nil, take_all, ext_get_or, Concat.{flat_map-append}}
+use Rattle.std.proofs.{lemmas.List.Elements.{filter-append, recursion_from_All}, Math.Seq.{take-suc}}
+use Rattle.std.specs.{Prelude.{AllPairs}, List.{filter, flat_map, AllByRecursion}}
+use Rattle.sci_words.specs.declared.{limits.TheConstants.{MAX_NODES}, stamped.Stamped.{Stamped}}
+use Rattle.sci_history.specs.declared.{entry.Entry.{Entry}, verdict.FaultKind.{FaultKind}}
 use Rattle.sci_history.specs.declared.verdict.FaultKind.TheVariants.{VersionTwice, VersionMissing, WrongReply, OutOfOrder, LastDiffers}
 use Rattle.sci_history.specs.Placed.{log_of, AreOwn, is_of_node, is_on_line, maker_count, on_line, by_version, placed_entries}
 use Rattle.sci_history.specs.Lawful.{IsLawfulLine}
 use Rattle.sci_history.specs.Audit.{first_twice, first_missing, first_wrong, first_disordered, words_after, HasNoFault, IsLineFault, Names}
 use Rattle.sci_history.proofs.Order.{IsInOrder, IsInOrder-filter, filter_all, filter_none, filter-filter, all_weaker, all-append, all-filter}
-use Rattle.sci_history.proofs.Placement.{place, filter-placed, all-by_node_and_serial}
-use Rattle.sci_history.proofs.Lawfulness.{lawful_line}
+use Rattle.sci_history.proofs.{Placement.{place, filter-placed, all-by_node_and_serial}, Lawfulness.{lawful_line}}
 use Rattle.sci_history.proofs.AuditVersions.{whole_versions_found, twice_from_whole, missing_from_whole}
 use Rattle.sci_history.proofs.AuditRuns.{history_found, right_from_run, end_from_run}
-use Rattle.sci_history.proofs.AuditOrders.{Rises, rises_found, places_from_rises, serials_from_rises, pairs_from_rises, rises_from_pairs, ordered_from_rises}
-use Rattle.sci_history.proofs.PlacedOrder.{placed_in_order}
+use Rattle.sci_history.proofs.AuditOrders.{Rises, rises_found, places_from_rises, serials_from_rises, pairs_from_rises, rises_from_pairs}
+use Rattle.sci_history.proofs.{AuditOrders.{ordered_from_rises}, PlacedOrder.{placed_in_order}}
 
 abbrev same_log : List Entry → List Entry
 same_log log = log

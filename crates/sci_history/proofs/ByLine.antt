@@ -1,16 +1,12 @@
 -- Entries that are put into the lists of their lines.
 use Rattle.std.proofs.Common.{◌≡◌, ℕ, ◌+◌, ◌<◌, List, [], ◌∷◌, ◌++◌, length, get_or, set, take, sym, ap, ◌∙◌, append_assoc, arith, inl, inr}
-use Rattle.std.specs.List.{filter, flat_map}
-use Rattle.std.specs.Global.{Vec}
 use Rattle.std.proofs.lemmas.Bool.{cases_eq, eq-eqb, ne_eqb}
 use Rattle.std.proofs.lemmas.List.{append-nil, length-map, map-append, map-set, get_or-map, get_or-set_same, get_or-set_other, take_more}
 use Rattle.std.proofs.lemmas.List.Elements.{filter-append}
+use Rattle.std.specs.{List.{filter, flat_map}, Global.{Vec}}
 use denote.Ref.{Bor}
-use Rattle.sci_history.specs.declared.entry.Entry.{Entry}
-use Rattle.sci_history.specs.Placed.{is_on_line, on_line}
-use Rattle.sci_history.specs.Audit.{entries_of, lists_of}
-use Rattle.sci_history.proofs.Order.{filter_yes, filter_no}
-use Rattle.sci_history.proofs.AuditFinds.{no_entry}
+use Rattle.sci_history.specs.{declared.entry.Entry.{Entry}, Placed.{is_on_line, on_line}, Audit.{entries_of, lists_of}}
+use Rattle.sci_history.proofs.{Order.{filter_yes, filter_no}, AuditFinds.{no_entry}}
 
 abbrev same_log : List Entry → List Entry
 same_log log = log

@@ -1,24 +1,16 @@
 -- What follows from lawfulness for a reader or writer of a line: the words at each version explain all entries.
-use Rattle.std.proofs.Common.{◌≡◌, ◌≢◌, ℕ, zero, suc, ◌+◌, ◌-◌, ◌<◌, ◌≤◌, Bool, true, false, cond, eqb, List, [], ◌∷◌, length, get_or, length-set, refl, sym}
-use Rattle.std.proofs.Common.{ap, ◌∙◌, subst, arith, inl, inr}
-use Rattle.std.specs.Prelude.{IsTrue}
-use Rattle.std.specs.List.{filter, AllByRecursion}
-use Rattle.std.proofs.lemmas.Bool.{cases_Bool, eq-eqb, eqb-true, and_parts}
-use Rattle.std.proofs.lemmas.List.{get_or-set_same, get_or-set_other}
-use Rattle.sci_words.specs.declared.limits.TheConstants.{MAX_NODES, WORDS_PER_LINE}
-use Rattle.sci_words.specs.declared.operation.Act.{Act}
-use Rattle.sci_words.specs.declared.operation.Act.TheVariants.{Load, Store}
-use Rattle.sci_words.specs.declared.operation.Op.{Op}
-use Rattle.sci_words.specs.declared.operation.Reply.TheVariants.{Got}
+use Rattle.std.proofs.Common.{◌≡◌, ◌≢◌, ℕ, zero, suc, ◌+◌, ◌-◌, ◌<◌, ◌≤◌, Bool, true, false, cond, eqb, List, [], ◌∷◌, length, get_or, length-set, refl}
+use Rattle.std.proofs.Common.{sym, ap, ◌∙◌, subst, arith, inl, inr}
+use Rattle.std.proofs.lemmas.{Bool.{cases_Bool, eq-eqb, eqb-true, and_parts}, List.{get_or-set_same, get_or-set_other}}
+use Rattle.std.specs.{Prelude.{IsTrue}, List.{filter, AllByRecursion}}
+use Rattle.sci_words.specs.declared.{limits.TheConstants.{MAX_NODES, WORDS_PER_LINE}, operation.Act.{Act}}
+use Rattle.sci_words.specs.declared.operation.{Act.TheVariants.{Load, Store}, Op.{Op}, Reply.TheVariants.{Got}}
 use Rattle.sci_words.specs.declared.stamped.Stamped.{Stamped}
 use Rattle.sci_words.specs.Operation.{effect_of_act, makes_version as is_making_act}
 use Rattle.sci_words.specs.Stamped.{line_after, zero_line, zero_stamped, reply_of}
-use Rattle.sci_history.specs.declared.entry.Entry.{Entry}
-use Rattle.sci_history.specs.History.{IsHistory, words_at}
-use Rattle.sci_history.specs.Lawful.{IsLawfulLine, Lawful}
-use Rattle.sci_history.specs.Memory.{stamped_at}
-use Rattle.sci_history.specs.Placed.{AreOwn, is_making, makes, placed}
-use Rattle.sci_history.specs.Seen.{IsAmong, DidOn}
+use Rattle.sci_history.specs.{declared.entry.Entry.{Entry}, History.{IsHistory, words_at}}
+use Rattle.sci_history.specs.{Lawful.{IsLawfulLine, Lawful}, Memory.{stamped_at}}
+use Rattle.sci_history.specs.{Placed.{AreOwn, is_making, makes, placed}, Seen.{IsAmong, DidOn}}
 use Rattle.sci_history.proofs.AuditRuns.{history_found, right_from_run, end_from_run}
 use Rattle.sci_history.proofs.Audits.{nodes_on_line, all-by_version}
 use Rattle.sci_history.proofs.Histories.{Agrees, history-agrees, versions-within, makers-after, maker_of}

@@ -1,21 +1,13 @@
 -- No order makes logs sequentially consistent in which there is a cycle: each entry of it would stand before itself.
-use Rattle.std.proofs.Common.{◌≡◌, ℕ, zero, suc, ◌<◌, ◌≤◌, Bool, true, cond, List, [], ◌∷◌, length, get_or, Some, refl, sym, ap, subst, ◌∙◌, arith, inl, inr}
-use Rattle.std.specs.Prelude.{slice_get}
-use Rattle.std.specs.List.{filter, AllByRecursion}
-use Rattle.std.proofs.lemmas.Bool.{cases_Bool, cases_lt, eq-eqb}
-use Rattle.sci_words.specs.declared.stamped.Stamped.{Stamped}
-use Rattle.sci_words.specs.Stamped.{zero_stamped}
-use Rattle.sci_history.specs.declared.entry.Entry.{Entry}
-use Rattle.sci_history.specs.declared.order_verdict.Reason.{Reason}
+use Rattle.std.proofs.Common.{◌≡◌, ℕ, zero, suc, ◌<◌, ◌≤◌, Bool, true, cond, List, [], ◌∷◌, length, get_or, Some, refl, sym, ap, subst, ◌∙◌, arith, inl}
+use Rattle.std.proofs.{Common.{inr}, lemmas.Bool.{cases_Bool, cases_lt, eq-eqb}}
+use Rattle.std.specs.{Prelude.{slice_get}, List.{filter, AllByRecursion}}
+use Rattle.sci_words.specs.{declared.stamped.Stamped.{Stamped}, Stamped.{zero_stamped}}
+use Rattle.sci_history.specs.declared.{entry.Entry.{Entry}, order_verdict.Reason.{Reason}}
 use Rattle.sci_history.specs.declared.order_verdict.Reason.TheVariants.{Logged, ReadsFrom, FromRead, Coherence}
-use Rattle.sci_history.specs.declared.order_verdict.Step.{Step}
-use Rattle.sci_history.specs.Cycle.{IsInLog, ComesAfter, IsChain, IsCycle}
-use Rattle.sci_history.specs.Memory.{stamped_at}
-use Rattle.sci_history.specs.Placed.{is_of_node, is_on_line}
-use Rattle.sci_history.specs.Sequential.{IsSequentialOrder}
-use Rattle.sci_history.proofs.AuditFinds.{no_entry}
-use Rattle.sci_history.proofs.Histories.{places-rise}
-use Rattle.sci_history.proofs.Order.{IsInOrder, filter_yes, filter_no}
+use Rattle.sci_history.specs.{declared.order_verdict.Step.{Step}, Cycle.{IsInLog, ComesAfter, IsChain, IsCycle}}
+use Rattle.sci_history.specs.{Memory.{stamped_at}, Placed.{is_of_node, is_on_line}, Sequential.{IsSequentialOrder}}
+use Rattle.sci_history.proofs.{AuditFinds.{no_entry}, Histories.{places-rise}, Order.{IsInOrder, filter_yes, filter_no}}
 use Rattle.sci_history.proofs.Placement.{place}
 
 -- ---- where an entry that passes a test stands among all

@@ -2,18 +2,12 @@
 use Rattle.std.specs.Global.{Vec}
 use Rattle.std.proofs.Common.{◌≡◌, ℕ, ◌<◌, ◌≤◌, List, [], length, get_or, refl, sym, subst, ◌∙◌, arith, inl, inr}
 use Rattle.std.proofs.lemmas.Bool.{cases_lt}
-use Rattle.sci_words.specs.declared.limits.TheConstants.{MAX_NODES}
-use Rattle.sci_words.specs.declared.stamped.Stamped.{Stamped}
-use Rattle.sci_history.specs.declared.entry.Entry.{Entry}
-use Rattle.sci_history.specs.declared.placing.LineState.{LineState}
-use Rattle.sci_history.specs.Audit.{AreWithin}
-use Rattle.sci_history.specs.Lawful.{Lawful}
-use Rattle.sci_history.specs.Placed.{AreOwn, log_of, on_line}
+use Rattle.sci_words.specs.declared.{limits.TheConstants.{MAX_NODES}, stamped.Stamped.{Stamped}}
+use Rattle.sci_history.specs.{declared.{entry.Entry.{Entry}, placing.LineState.{LineState}}, Audit.{AreWithin}}
+use Rattle.sci_history.specs.{Lawful.{Lawful}, Placed.{AreOwn, log_of, on_line}}
 use Rattle.sci_history.specs.Placing.{AreBlocked, AreOrderable, HasCounts, IsPlacing, IsStuckAt, lists_of_counts, rests_of}
 use Rattle.sci_history.specs.Sequential.{IsSequentialOrder}
-use Rattle.sci_history.proofs.PlaceSteps.{counts_long}
-use Rattle.sci_history.proofs.PlacingEnds.{blocked, placing_done}
-use Rattle.sci_history.proofs.Placings.{front_is}
+use Rattle.sci_history.proofs.{PlaceSteps.{counts_long}, PlacingEnds.{blocked, placing_done}, Placings.{front_is}}
 use Rattle.sci_history.proofs.Rests.{none_at, rest_beyond, rests_long}
 
 pub orderable : (logs : List (List Entry)) (last : List Stamped) (loads : List (Vec ℕ)) → Lawful logs last → AreOwn logs → length logs ≡ MAX_NODES

@@ -1,18 +1,13 @@
 -- What a line's history says of its versions and of the words at each version.
 use Rattle.std.proofs.Common.{◌≡◌, ℕ, suc, ◌+◌, ◌<◌, ◌≤◌, true, false, eqb, List, [], ◌∷◌, length, get_or, set, refl, sym, ap, ◌∙◌, arith, inl, inr}
-use Rattle.std.specs.Prelude.{IsTrue}
-use Rattle.std.specs.List.{filter, AllByRecursion}
 use Rattle.std.proofs.lemmas.Bool.{cases_Bool, cases_lt, eq-eqb, ne_eqb, le-leb, lt-leb, and_from, and_left, and_right}
 use Rattle.std.proofs.lemmas.List.{set-get_or}
-use Rattle.sci_words.specs.declared.operation.Op.{Op}
-use Rattle.sci_words.specs.declared.operation.Act.{Act}
-use Rattle.sci_words.specs.declared.operation.Act.TheVariants.{Load, Store, Lock}
+use Rattle.std.specs.{Prelude.{IsTrue}, List.{filter, AllByRecursion}}
+use Rattle.sci_words.specs.declared.operation.{Op.{Op}, Act.{Act, TheVariants.{Load, Store, Lock}}}
 use Rattle.sci_words.specs.declared.stamped.Stamped.{Stamped}
 use Rattle.sci_words.specs.Operation.{effect_of_act, is_maker, makes_version as is_making_act}
 use Rattle.sci_words.specs.Stamped.{line_after, after, reply_of}
-use Rattle.sci_history.specs.declared.entry.Entry.{Entry}
-use Rattle.sci_history.specs.Placed.{is_making, makes}
-use Rattle.sci_history.specs.History.{IsHistory, words_at}
+use Rattle.sci_history.specs.{declared.entry.Entry.{Entry}, Placed.{is_making, makes}, History.{IsHistory, words_at}}
 use Rattle.sci_history.proofs.Order.{IsInOrder, filter_yes, filter_no, filter_none, all_weaker, all_both}
 use Rattle.sci_history.proofs.Placement.{place}
 

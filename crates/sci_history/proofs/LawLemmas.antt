@@ -1,19 +1,14 @@
 -- Lawful logs have one end, and no load in them is stale.
 use Rattle.std.proofs.Common.{◌≡◌, ℕ, zero, suc, ◌<◌, ◌≤◌, List, [], ◌∷◌, ◌++◌, map, refl, sym, ap, ◌∙◌, subst, arith}
-use Rattle.std.specs.List.{filter, AllByRecursion}
 use Rattle.std.proofs.lemmas.Bool.{and_parts, eqb-true}
-use Rattle.sci_words.specs.declared.limits.TheConstants.{MAX_NODES}
-use Rattle.sci_words.specs.declared.operation.Op.{Op}
-use Rattle.sci_words.specs.declared.operation.Reply.{Reply}
-use Rattle.sci_words.specs.declared.stamped.Stamped.{Stamped}
-use Rattle.sci_words.specs.Stamped.{zero_stamped, reply_of}
-use Rattle.sci_history.specs.declared.entry.Entry.{Entry}
-use Rattle.sci_history.specs.Memory.{IsRun, line_at, memory_after}
+use Rattle.std.specs.List.{filter, AllByRecursion}
+use Rattle.sci_words.specs.declared.{limits.TheConstants.{MAX_NODES}, operation.{Op.{Op}, Reply.{Reply}}}
+use Rattle.sci_words.specs.{declared.stamped.Stamped.{Stamped}, Stamped.{zero_stamped, reply_of}}
+use Rattle.sci_history.specs.{declared.entry.Entry.{Entry}, Memory.{IsRun, line_at, memory_after}}
 use Rattle.sci_history.specs.Placed.{log_of, is_of_node, is_on_line, makes, reads, on_line, placed, by_node_and_serial, by_version}
 use Rattle.sci_history.specs.Lawful.{IsLawfulLine}
 use Rattle.sci_history.proofs.Order.{IsInOrder, IsInOrder-filter, IsInOrder-same, all_weaker, all-append, all-passes}
-use Rattle.sci_history.proofs.Placement.{all-by_node_and_serial, by_node_and_serial-none}
-use Rattle.sci_history.proofs.LineRuns.{line_run-end}
+use Rattle.sci_history.proofs.{Placement.{all-by_node_and_serial, by_node_and_serial-none}, LineRuns.{line_run-end}}
 use Rattle.sci_history.proofs.Runs.{same_stamped}
 
 -- ---- one end

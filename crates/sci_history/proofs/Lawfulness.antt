@@ -1,23 +1,17 @@
 -- Logs of which each line has a history are lawful.
 use Rattle.std.proofs.Common.{◌≡◌, ℕ, suc, ◌<◌, ◌≤◌, Bool, true, List, [], ◌∷◌, length, map, refl, sym, ap, ◌∙◌, arith}
-use Rattle.std.specs.Prelude.{IsTrue, count_by}
-use Rattle.std.specs.List.{filter, AllByRecursion}
-use Rattle.std.proofs.lemmas.Bool.{and_right, ne_eqb, cases_Bool, and_left, eqb-true}
-use Rattle.std.proofs.lemmas.List.Sums.{length-filter}
-use Rattle.sci_words.specs.declared.limits.TheConstants.{MAX_NODES}
-use Rattle.sci_words.specs.declared.stamped.Stamped.{Stamped}
+use Rattle.std.proofs.lemmas.{Bool.{and_right, ne_eqb, cases_Bool, and_left, eqb-true}, List.Sums.{length-filter}}
+use Rattle.std.specs.{Prelude.{IsTrue, count_by}, List.{filter, AllByRecursion}}
+use Rattle.sci_words.specs.declared.{limits.TheConstants.{MAX_NODES}, stamped.Stamped.{Stamped}}
 use Rattle.sci_words.specs.Stamped.{zero_line, zero_stamped}
-use Rattle.sci_history.specs.declared.entry.Entry.{Entry}
-use Rattle.sci_history.specs.Memory.{IsLineRun}
+use Rattle.sci_history.specs.{declared.entry.Entry.{Entry}, Memory.{IsLineRun}}
 use Rattle.sci_history.specs.Placed.{log_of, is_of_node, is_on_line, is_making, makes, maker_count, on_line, pair_of, in_order, by_version}
-use Rattle.sci_history.specs.Lawful.{HasWholeVersions, IsLawfulLine}
-use Rattle.sci_history.specs.History.{IsHistory, HasHistory, words_at}
-use Rattle.sci_history.proofs.Order.{IsInOrder, IsInOrder-filter, filter-in_order, in_order-ordered, in_order_same_key, length-in_order, all_weaker, all-filter}
-use Rattle.sci_history.proofs.Order.{all-passes, all-in_order, filter_none}
+use Rattle.sci_history.specs.{Lawful.{HasWholeVersions, IsLawfulLine}, History.{IsHistory, HasHistory, words_at}}
+use Rattle.sci_history.proofs.Order.{IsInOrder, IsInOrder-filter, filter-in_order, in_order-ordered, in_order_same_key, length-in_order, all_weaker}
+use Rattle.sci_history.proofs.Order.{all-filter, all-passes, all-in_order, filter_none}
 use Rattle.sci_history.proofs.Placement.{place, in_order_from_rising, on_line-logs, filter-placed}
 use Rattle.sci_history.proofs.Histories.{Agrees, versions-within, makers-after, makers-counted, places-rise, maker_of, words_at-end, words_at-start}
-use Rattle.sci_history.proofs.Histories.{history-agrees}
-use Rattle.sci_history.proofs.LineRuns.{Explains, versions_run}
+use Rattle.sci_history.proofs.{Histories.{history-agrees}, LineRuns.{Explains, versions_run}}
 
 -- a history's entries, node by node
 abbrev pub by_node : List Entry → List Entry

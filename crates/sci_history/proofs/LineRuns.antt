@@ -1,14 +1,10 @@
 -- Runs over one line: put together, taken apart, and those that placed entries are.
 use Rattle.std.proofs.Common.{◌≡◌, ℕ, zero, suc, ◌<◌, ◌≤◌, true, List, [], ◌∷◌, ◌++◌, map, refl, sym, ◌∙◌, subst, arith}
+use Rattle.std.proofs.lemmas.{Bool.{and_parts, eqb-true, not-true}, List.{map-append}}
 use Rattle.std.specs.List.{filter, AllByRecursion}
-use Rattle.std.proofs.lemmas.Bool.{and_parts, eqb-true, not-true}
-use Rattle.std.proofs.lemmas.List.{map-append}
-use Rattle.sci_words.specs.declared.limits.TheConstants.{MAX_NODES}
-use Rattle.sci_words.specs.declared.operation.Op.{Op}
-use Rattle.sci_words.specs.declared.operation.Reply.{Reply}
+use Rattle.sci_words.specs.declared.{limits.TheConstants.{MAX_NODES}, operation.{Op.{Op}, Reply.{Reply}}}
 use Rattle.sci_words.specs.Stamped.{line_after}
-use Rattle.sci_history.specs.declared.entry.Entry.{Entry}
-use Rattle.sci_history.specs.Memory.{IsLineRun}
+use Rattle.sci_history.specs.{declared.entry.Entry.{Entry}, Memory.{IsLineRun}}
 use Rattle.sci_history.specs.Placed.{makes, reads, pair_of, by_node_and_serial, by_version}
 use Rattle.sci_history.proofs.Order.{all_both, all-filter, all-passes}
 use Rattle.sci_history.proofs.Placement.{all-by_node_and_serial, by_node_and_serial-one, by_node_and_serial-none}

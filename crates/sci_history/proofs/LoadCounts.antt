@@ -1,20 +1,13 @@
 -- The number of loads at each version among the first entries.
-use Rattle.std.proofs.Common.{◌≡◌, ℕ, ◌+◌, ◌<◌, ◌≤◌, true, false, List, [], ◌∷◌, ◌++◌, length, get_or, set, take, refl, sym, ap, ◌∙◌, arith, inl}
-use Rattle.std.proofs.Common.{inr}
-use Rattle.std.specs.Global.{Vec}
-use Rattle.std.specs.Prelude.{count_by}
-use Rattle.std.proofs.Math.Seq.{get_or-append_seam}
-use Rattle.std.proofs.lemmas.Bool.{cases_eq, eq-eqb, ne_eqb}
+use Rattle.std.proofs.Common.{◌≡◌, ℕ, ◌+◌, ◌<◌, ◌≤◌, true, false, List, [], ◌∷◌, ◌++◌, length, get_or, set, take, refl, sym, ap, ◌∙◌, arith, inl, inr}
+use Rattle.std.proofs.{Math.Seq.{get_or-append_seam}, lemmas.Bool.{cases_eq, eq-eqb, ne_eqb}}
 use Rattle.std.proofs.lemmas.List.{get_or_append_left, map-append, length-map, length-set, length-take, get_or-set_same, get_or-set_other}
 use Rattle.std.proofs.lemmas.List.Sums.{count_by-le-length}
+use Rattle.std.specs.{Global.{Vec}, Prelude.{count_by}}
 use denote.Ref.{Bor}
-use Rattle.sci_history.specs.declared.entry.Entry.{Entry}
-use Rattle.sci_history.specs.Audit.{entries_of}
-use Rattle.sci_history.specs.Placed.{is_making, on_line, reads}
+use Rattle.sci_history.specs.{declared.entry.Entry.{Entry}, Audit.{entries_of}, Placed.{is_making, on_line, reads}}
 use Rattle.sci_history.specs.Placing.{HasCounts, lists_of_counts}
-use Rattle.sci_history.proofs.AuditFinds.{entry_at, take_entries_more}
-use Rattle.sci_history.proofs.Oracles.{count_push}
-use Rattle.sci_history.proofs.Placings.{once}
+use Rattle.sci_history.proofs.{AuditFinds.{entry_at, take_entries_more}, Oracles.{count_push}, Placings.{once}}
 
 pub record HasCounted (counts : List ℕ) (refs : List (Bor Entry)) (n makers : ℕ) : Type 0 where
   pub long : length counts ≡ makers + 1

@@ -1,23 +1,17 @@
 -- A memory that logs each operation as it does it has the oracle's logs and last contents.
-use Rattle.std.proofs.Common.{◌≡◌, ℕ, zero, suc, ◌+◌, ◌<◌, ◌≤◌, Bool, cond, eqb, List, [], ◌∷◌, ◌++◌, length, get_or, set, take, drop, replicate, refl, sym, ap}
-use Rattle.std.proofs.Common.{◌∙◌, arith, inl, inr}
-use Rattle.std.specs.Prelude.{count_by, All}
-use Rattle.std.specs.List.{AllByRecursion}
-use Rattle.std.proofs.lemmas.Bool.{cases_eq, eq-eqb, ne_eqb}
+use Rattle.std.proofs.Common.{◌≡◌, ℕ, zero, suc, ◌+◌, ◌<◌, ◌≤◌, Bool, cond, eqb, List, [], ◌∷◌, ◌++◌, length, get_or, set, take, drop, replicate, refl}
+use Rattle.std.proofs.{Common.{sym, ap, ◌∙◌, arith, inl, inr}, lemmas.Bool.{cases_eq, eq-eqb, ne_eqb}}
 use Rattle.std.proofs.lemmas.List.{length-set, length-append, length-replicate, get_or-set_same, get_or-set_other, take-append-drop}
 use Rattle.std.proofs.lemmas.List.Elements.{recursion_from_All, All-take}
 use Rattle.std.proofs.lemmas.List.Sums.{length-filter, count_by-le-length, count_by_more_yes, sum_by-append}
 use Rattle.std.proofs.lemmas.List.FromFn.{fill_by_all, get_or-map-range_with_len, length-map-range_with_len}
-use Rattle.sci_words.specs.declared.limits.TheConstants.{MAX_NODES}
-use Rattle.sci_words.specs.declared.operation.Op.{Op}
-use Rattle.sci_words.specs.declared.stamped.Stamped.{Stamped}
-use Rattle.sci_words.specs.Operation.{is_maker}
-use Rattle.sci_words.specs.Stamped.{after, zero_stamped, reply_of}
+use Rattle.std.specs.{Prelude.{count_by, All}, List.{AllByRecursion}}
+use Rattle.sci_words.specs.declared.{limits.TheConstants.{MAX_NODES}, operation.Op.{Op}, stamped.Stamped.{Stamped}}
+use Rattle.sci_words.specs.{Operation.{is_maker}, Stamped.{after, zero_stamped, reply_of}}
 use Rattle.sci_history.specs.declared.entry.Entry.{Entry}
-use Rattle.sci_history.specs.Memory.{line_at, stamped_at, words_of_lines, contents_after}
-use Rattle.sci_history.specs.Placed.{log_of, is_of_node}
-use Rattle.sci_history.specs.Oracle.{Issue, IsInRange, makes_on, memory_of, entry_after, done_after, oracle_entries, logs_by_node, contents_left, oracle_logs}
-use Rattle.sci_history.specs.Oracle.{oracle_last}
+use Rattle.sci_history.specs.{Memory.{line_at, stamped_at, words_of_lines, contents_after}, Placed.{log_of, is_of_node}}
+use Rattle.sci_history.specs.Oracle.{Issue, IsInRange, makes_on, memory_of, entry_after, done_after, oracle_entries, logs_by_node, contents_left}
+use Rattle.sci_history.specs.Oracle.{oracle_logs, oracle_last}
 use Rattle.sci_history.proofs.Runs.{line_at-words_of_lines, same_stamped}
 use Rattle.sci_history.proofs.Oracles.{Traced, IsNext, stamped_of, traced_none, traced_all, filter_push_yes, filter_push_no, count_push, log_of-logs_of}
 use Rattle.sci_history.proofs.Oracles.{line_at-zero, own_stamped, other_stamped}

@@ -1,30 +1,21 @@
 -- A script's log on one memory is lawful.
-use Rattle.std.proofs.Common.{◌≡◌, ◌≢◌, ℕ, zero, suc, ◌+◌, ◌<◌, ◌≤◌, Bool, true, false, cond, List, [], ◌∷◌, ◌++◌, length, refl, sym, ap, ◌∙◌, subst, arith}
-use Rattle.std.proofs.Common.{inl, inr}
-use Rattle.std.specs.Prelude.{AllPairs, count_by}
-use Rattle.std.specs.List.{filter, AllByRecursion}
-use Rattle.std.proofs.lemmas.Bool.{cases_Bool, cases_eq, cases_lt, eq-eqb, ne_eqb, and_left}
+use Rattle.std.proofs.Common.{◌≡◌, ◌≢◌, ℕ, zero, suc, ◌+◌, ◌<◌, ◌≤◌, Bool, true, false, cond, List, [], ◌∷◌, ◌++◌, length, refl, sym, ap, ◌∙◌, subst}
+use Rattle.std.proofs.{Common.{arith, inl, inr}, lemmas.Bool.{cases_Bool, cases_eq, cases_lt, eq-eqb, ne_eqb, and_left}}
 use Rattle.std.proofs.lemmas.List.{append-nil, map-append, length-set, get_or-set_same, get_or-set_other, get_or_past, length-replicate}
-use Rattle.std.proofs.lemmas.List.Elements.{filter-append, All-from_recursion}
-use Rattle.std.proofs.lemmas.List.Sums.{sum_by_push, length-filter}
+use Rattle.std.proofs.lemmas.List.{Elements.{filter-append, All-from_recursion}, Sums.{sum_by_push, length-filter}}
 use Rattle.std.proofs.lemmas.List.FromFn.{get_or-map-range_with_len, length-map-range_with_len}
-use Rattle.std.proofs.lemmas.List.Quantifiers.{all_pairs_push}
-use Rattle.std.proofs.lemmas.List.Kept.{AllPairs-filter}
-use Rattle.sci_words.specs.declared.limits.TheConstants.{MAX_NODES}
-use Rattle.sci_words.specs.declared.operation.Op.{Op}
-use Rattle.sci_words.specs.declared.stamped.Stamped.{Stamped}
-use Rattle.sci_words.specs.Operation.{is_maker}
-use Rattle.sci_words.specs.Stamped.{line_after, after, zero_line, zero_stamped, reply_of}
+use Rattle.std.proofs.lemmas.List.{Quantifiers.{all_pairs_push}, Kept.{AllPairs-filter}}
+use Rattle.std.specs.{Prelude.{AllPairs, count_by}, List.{filter, AllByRecursion}}
+use Rattle.sci_words.specs.declared.{limits.TheConstants.{MAX_NODES}, operation.Op.{Op}, stamped.Stamped.{Stamped}}
+use Rattle.sci_words.specs.{Operation.{is_maker}, Stamped.{line_after, after, zero_line, zero_stamped, reply_of}}
 use Rattle.sci_history.specs.declared.entry.Entry.{Entry}
 use Rattle.sci_history.specs.Memory.{zero_memory, line_at, memory_after, memory_after_all, stamped_at}
-use Rattle.sci_history.specs.Placed.{log_of, is_of_node, is_on_line, is_making}
-use Rattle.sci_history.specs.Lawful.{Lawful}
+use Rattle.sci_history.specs.{Placed.{log_of, is_of_node, is_on_line, is_making}, Lawful.{Lawful}}
 use Rattle.sci_history.specs.History.{IsHistory, HasHistory}
-use Rattle.sci_history.specs.Oracle.{Issue, IsInRange, makes_on, memory_of, entry_after, done_after, oracle_entries, logs_by_node, contents_left, oracle_logs}
-use Rattle.sci_history.specs.Oracle.{oracle_last}
+use Rattle.sci_history.specs.Oracle.{Issue, IsInRange, makes_on, memory_of, entry_after, done_after, oracle_entries, logs_by_node, contents_left}
+use Rattle.sci_history.specs.Oracle.{oracle_logs, oracle_last}
 use Rattle.sci_history.proofs.Order.{all_weaker, all-append, all-filter, filter-filter, filter_none, filter_yes, filter_no}
-use Rattle.sci_history.proofs.Lawfulness.{lawful_line}
-use Rattle.sci_history.proofs.Runs.{same_stamped}
+use Rattle.sci_history.proofs.{Lawfulness.{lawful_line}, Runs.{same_stamped}}
 
 -- ---- one entry more
 

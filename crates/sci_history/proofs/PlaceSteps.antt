@@ -1,21 +1,18 @@
 -- The first entry of a log that is left, as the code reads it.
-use Rattle.std.proofs.Common.{◌≡◌, ℕ, zero, suc, ◌+◌, ◌<◌, ◌≤◌, true, false, List, [], ◌∷◌, ◌++◌, length, get_or, set, drop, replicate, refl, sym, ap, subst}
-use Rattle.std.proofs.Common.{◌∙◌, arith, inl, inr}
+use Rattle.std.proofs.Common.{◌≡◌, ℕ, zero, suc, ◌+◌, ◌<◌, ◌≤◌, true, false, List, [], ◌∷◌, ◌++◌, length, get_or, set, drop, replicate, refl, sym, ap}
+use Rattle.std.proofs.Common.{subst, ◌∙◌, arith, inl, inr}
 use Rattle.std.specs.Global.{Vec}
 use denote.Ref.{Bor}
 use Rattle.std.proofs.lemmas.List.{map-append, get_or-map, length-map, get_or-set_same, get_or-set_other}
 use Rattle.std.proofs.lemmas.Bool.{cases_eq, cases_lt}
 use Rattle.std.specs.Prelude.{count_by}
 use Rattle.sci_words.specs.declared.limits.TheConstants.{MAX_NODES, MAX_LINES}
-use Rattle.sci_history.specs.declared.entry.Entry.{Entry}
-use Rattle.sci_history.specs.declared.placing.LineState.{LineState}
-use Rattle.sci_history.specs.Audit.{entries_of}
+use Rattle.sci_history.specs.{declared.{entry.Entry.{Entry}, placing.LineState.{LineState}}, Audit.{entries_of}}
 use Rattle.sci_history.specs.Placed.{log_of, is_making}
 use Rattle.sci_history.specs.Placing.{CanFollow, state_after, state_of, lists_of_counts, rests_of, all_of, IsPlacing, AreOrderable}
 use Rattle.sci_history.proofs.AuditFinds.{no_entry}
 use Rattle.sci_history.proofs.Placings.{IsFront, count-cons, front_is, placing_more, placing_none}
-use Rattle.sci_history.proofs.PlacingEnds.{one_left_at}
-use Rattle.sci_history.proofs.Rests.{front_at, rests_long, rests_set, rests_whole}
+use Rattle.sci_history.proofs.{PlacingEnds.{one_left_at}, Rests.{front_at, rests_long, rests_set, rests_whole}}
 
 pub counts_long : (loads : List (Vec ℕ)) → length (lists_of_counts loads) ≡ length loads
 counts_long loads = length-map loads (λ (list : Vec ℕ). list.items)

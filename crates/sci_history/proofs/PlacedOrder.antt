@@ -1,12 +1,10 @@
 -- Placed entries stand by version, and each maker before the loads at its version.
 use Rattle.std.proofs.Common.{◌≡◌, ℕ, zero, suc, ◌+◌, ◌<◌, ◌≤◌, List, ◌++◌, arith}
-use Rattle.std.specs.List.{filter, AllByRecursion}
 use Rattle.std.proofs.lemmas.Bool.{and_parts, eqb-true, not-true}
-use Rattle.sci_history.specs.declared.entry.Entry.{Entry}
-use Rattle.sci_history.specs.Placed.{makes, reads, by_node_and_serial, by_version}
+use Rattle.std.specs.List.{filter, AllByRecursion}
+use Rattle.sci_history.specs.{declared.entry.Entry.{Entry}, Placed.{makes, reads, by_node_and_serial, by_version}}
 use Rattle.sci_history.proofs.Order.{IsInOrder, IsInOrder-same, all_weaker, all-append, all-passes}
-use Rattle.sci_history.proofs.Placement.{place, all-by_node_and_serial}
-use Rattle.sci_history.proofs.LawLemmas.{IsInOrder-append}
+use Rattle.sci_history.proofs.{Placement.{place, all-by_node_and_serial}, LawLemmas.{IsInOrder-append}}
 
 abbrev makers_at : ℕ → List Entry → List Entry
 makers_at version entries = by_node_and_serial (filter (makes version) entries)

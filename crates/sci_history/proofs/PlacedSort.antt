@@ -1,14 +1,11 @@
 -- Stable sorts by serial, by node, and by version with its maker first, put entries in placed order.
 use Rattle.std.proofs.Common.{◌≡◌, ℕ, zero, suc, ◌+◌, ◌/◌, ◌%◌, ◌<◌, ◌≤◌, Bool, cond, ltb, not, List, refl, sym, ap, ◌∙◌, subst, arith}
-use Rattle.std.specs.Prelude.{All}
-use Rattle.std.specs.List.Sorted.{IsPermutation, IsSortedBy, IsStableBy}
-use Rattle.std.specs.Ordering.{is_lt, nat_cmp, bool_cmp, ordering_then}
 use Rattle.std.proofs.lemmas.Bool.{cases_Bool, cases_order, eq-eqb, ne_eqb, lt-ltb, le-ltb}
 use Rattle.std.proofs.lemmas.List.Elements.{recursion_from_All}
+use Rattle.std.specs.{Prelude.{All}, List.Sorted.{IsPermutation, IsSortedBy, IsStableBy}}
+use Rattle.std.specs.Ordering.{is_lt, nat_cmp, bool_cmp, ordering_then}
 use denote.Ref.{Bor}
-use Rattle.sci_words.specs.declared.limits.TheConstants.{MAX_NODES}
-use Rattle.sci_words.specs.declared.operation.Act.{Act}
-use Rattle.sci_words.specs.declared.operation.Act.TheVariants.{Load, Store}
+use Rattle.sci_words.specs.declared.{limits.TheConstants.{MAX_NODES}, operation.Act.{Act, TheVariants.{Load, Store}}}
 use Rattle.sci_words.specs.declared.operation.Reply.TheVariants.{Stored}
 use Rattle.sci_history.specs.declared.entry.Entry.{Entry}
 use Rattle.sci_history.specs.Placed.{is_making, maker_count, in_order, above_serials, in_serial_order, by_node_and_serial, placed_entries}

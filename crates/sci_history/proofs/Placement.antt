@@ -1,19 +1,16 @@
 -- What stands where among placed entries.
 use Rattle.std.proofs.Common.{◌≡◌, ℕ, zero, suc, ◌+◌, ◌<◌, ◌≤◌, Bool, true, cond, eqb, List, [], ◌∷◌, ◌++◌, length, take, refl, sym, ap, ◌∙◌, append_assoc}
-use Rattle.std.proofs.Common.{arith}
-use Rattle.std.specs.Prelude.{AllPairs}
-use Rattle.std.specs.List.{filter, flat_map, AllByRecursion}
-use Rattle.std.proofs.lemmas.Bool.{cases_Bool, cases_eq, eq-eqb, ne_eqb, eqb-true}
-use Rattle.std.proofs.lemmas.List.{append-nil, take_all}
-use Rattle.std.proofs.lemmas.List.Concat.{flat_map-append}
-use Rattle.std.proofs.Math.Seq.{take-suc}
-use Rattle.std.proofs.lemmas.List.Elements.{filter-append, filter_agree, recursion_from_All}
+use Rattle.std.proofs.{Common.{arith}, lemmas.Bool.{cases_Bool, cases_eq, eq-eqb, ne_eqb, eqb-true}}
+use Rattle.std.proofs.lemmas.List.{append-nil, take_all, Concat.{flat_map-append}}
+use Rattle.std.proofs.{lemmas.List.Elements.{filter-append, filter_agree, recursion_from_All}, Math.Seq.{take-suc}}
+use Rattle.std.specs.{Prelude.{AllPairs}, List.{filter, flat_map, AllByRecursion}}
 use Rattle.sci_words.specs.declared.limits.TheConstants.{MAX_NODES}
 use Rattle.sci_history.specs.declared.entry.Entry.{Entry}
-use Rattle.sci_history.specs.Placed.{log_of, is_of_node, is_on_line, is_making, makes, reads, on_line, in_order, above_serials, by_node_and_serial, by_version}
+use Rattle.sci_history.specs.Placed.{log_of, is_of_node, is_on_line, is_making, makes, reads, on_line, in_order, above_serials, by_node_and_serial}
+use Rattle.sci_history.specs.Placed.{by_version}
 use Rattle.sci_history.proofs.Sorting.{in_order-bound}
-use Rattle.sci_history.proofs.Order.{IsInOrder, HasKeysBelow, filter-filter, filter-in_order, in_order-ordered, in_order_same_key, IsInOrder-filter, all-filter}
-use Rattle.sci_history.proofs.Order.{all-passes, all_weaker, all-in_order}
+use Rattle.sci_history.proofs.Order.{IsInOrder, HasKeysBelow, filter-filter, filter-in_order, in_order-ordered, in_order_same_key, IsInOrder-filter}
+use Rattle.sci_history.proofs.Order.{all-filter, all-passes, all_weaker, all-in_order}
 
 -- ---- pairs
 

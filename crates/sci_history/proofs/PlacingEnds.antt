@@ -1,26 +1,19 @@
 -- When nothing is left, what is placed is an order; when nothing can be placed, each entry waits for another that is left.
 use Rattle.std.proofs.Common.{◌≡◌, ℕ, zero, suc, ◌+◌, ◌<◌, ◌≤◌, Bool, true, false, eqb, List, [], ◌∷◌, ◌++◌, length, Some, None, refl, sym, ap, subst, ◌∙◌}
 use Rattle.std.proofs.Common.{arith, inl, inr}
-use Rattle.std.specs.Prelude.{count_by, ◌&&◌, not, if◌then◌else◌}
-use Rattle.std.specs.List.{filter, AllByRecursion}
 use Rattle.std.proofs.lemmas.Bool.{cases_Bool, cases_lt, eq-eqb, ne_eqb, eqb-true, lt-ltb, and_from, and_right, and_parts}
-use Rattle.std.proofs.lemmas.List.{append-nil, get_or_past}
-use Rattle.std.proofs.lemmas.List.Sums.{length-filter}
-use Rattle.sci_words.specs.declared.limits.TheConstants.{MAX_NODES}
-use Rattle.sci_words.specs.declared.stamped.Stamped.{Stamped}
+use Rattle.std.proofs.lemmas.List.{append-nil, get_or_past, Sums.{length-filter}}
+use Rattle.std.specs.{Prelude.{count_by, ◌&&◌, not, if◌then◌else◌}, List.{filter, AllByRecursion}}
+use Rattle.sci_words.specs.declared.{limits.TheConstants.{MAX_NODES}, stamped.Stamped.{Stamped}}
 use Rattle.sci_words.specs.Stamped.{zero_stamped}
 use Rattle.sci_history.specs.declared.entry.Entry.{Entry}
 use Rattle.sci_history.specs.declared.order_verdict.Reason.TheVariants.{ReadsFrom, FromRead, Coherence}
-use Rattle.sci_history.specs.declared.placing.LineState.{LineState}
-use Rattle.sci_history.specs.Audit.{AreWithin}
-use Rattle.sci_history.specs.History.{IsHistory}
-use Rattle.sci_history.specs.Lawful.{HasWholeVersions, Lawful}
-use Rattle.sci_history.specs.Memory.{stamped_at}
+use Rattle.sci_history.specs.{declared.placing.LineState.{LineState}, Audit.{AreWithin}, History.{IsHistory}}
+use Rattle.sci_history.specs.{Lawful.{HasWholeVersions, Lawful}, Memory.{stamped_at}}
 use Rattle.sci_history.specs.Placed.{log_of, AreOwn, is_of_node, is_on_line, is_making, makes, reads, maker_count, on_line, placed}
 use Rattle.sci_history.specs.Placing.{CanFollow, state_of, all_of, line_reason, IsPlacing}
 use Rattle.sci_history.specs.Sequential.{IsSequentialOrder}
-use Rattle.sci_history.proofs.AuditLines.{none_past}
-use Rattle.sci_history.proofs.Consequences.{placed_history}
+use Rattle.sci_history.proofs.{AuditLines.{none_past}, Consequences.{placed_history}}
 use Rattle.sci_history.proofs.Histories.{versions-within, makers-counted, maker_of, words_at-end}
 use Rattle.sci_history.proofs.Order.{all_weaker, all-append}
 use Rattle.sci_history.proofs.Placings.{once, count-cons, count-filter, taken_on, split_on, line_when, IsFront}

@@ -1,29 +1,21 @@
 -- What one entry more does to what is placed, what is left, and each line.
-use Rattle.std.proofs.Common.{◌≡◌, ℕ, zero, suc, ◌+◌, ◌<◌, ◌≤◌, Bool, true, false, cond, eqb, List, [], ◌∷◌, ◌++◌, append_assoc, length, get_or, set, refl, sym}
-use Rattle.std.proofs.Common.{ap, subst, ◌∙◌, arith, inl, inr}
-use Rattle.std.specs.Prelude.{count_by, ◌&&◌, IsTrue}
-use Rattle.std.specs.List.{filter, sum_by, AllByRecursion}
+use Rattle.std.proofs.Common.{◌≡◌, ℕ, zero, suc, ◌+◌, ◌<◌, ◌≤◌, Bool, true, false, cond, eqb, List, [], ◌∷◌, ◌++◌, append_assoc, length, get_or, set, refl}
+use Rattle.std.proofs.Common.{sym, ap, subst, ◌∙◌, arith, inl, inr}
 use Rattle.std.proofs.lemmas.Bool.{cases_Bool, cases_lt, cases_eq, eq-eqb, ne_eqb}
-use Rattle.std.proofs.lemmas.List.{length-set, get_or-set_same, get_or-set_other}
-use Rattle.std.proofs.lemmas.List.Elements.{recursion_from_All}
+use Rattle.std.proofs.lemmas.List.{length-set, get_or-set_same, get_or-set_other, Elements.{recursion_from_All}}
 use Rattle.std.proofs.lemmas.List.Sums.{sum_by-cons, sum_by-append, sum_by-set}
-use Rattle.sci_words.specs.declared.limits.TheConstants.{MAX_NODES}
-use Rattle.sci_words.specs.declared.stamped.Stamped.{Stamped}
+use Rattle.std.specs.{Prelude.{count_by, ◌&&◌, IsTrue}, List.{filter, sum_by, AllByRecursion}}
+use Rattle.sci_words.specs.declared.{limits.TheConstants.{MAX_NODES}, stamped.Stamped.{Stamped}}
 use Rattle.sci_words.specs.Stamped.{after, reply_of, zero_line, zero_stamped}
-use Rattle.sci_history.specs.declared.entry.Entry.{Entry}
-use Rattle.sci_history.specs.declared.placing.LineState.{LineState}
-use Rattle.sci_history.specs.Audit.{IsWithin}
-use Rattle.sci_history.specs.History.{IsHistory, words_at}
-use Rattle.sci_history.specs.Lawful.{Lawful}
-use Rattle.sci_history.specs.Memory.{stamped_at}
+use Rattle.sci_history.specs.{declared.{entry.Entry.{Entry}, placing.LineState.{LineState}}, Audit.{IsWithin}}
+use Rattle.sci_history.specs.{History.{IsHistory, words_at}, Lawful.{Lawful}, Memory.{stamped_at}}
 use Rattle.sci_history.specs.Placed.{log_of, AreOwn, is_of_node, is_on_line, is_making, reads, maker_count, on_line, placed}
 use Rattle.sci_history.specs.Placing.{CanFollow, state_after, state_of, no_state, all_of, IsPlacedOn, IsPlacing, AreOrderable}
 use Rattle.sci_history.specs.Seen.{IsAmong, DidOn}
 use Rattle.sci_history.proofs.Consequences.{among_all, among_filter, did_placed, placed_history, agreed}
 use Rattle.sci_history.proofs.Histories.{Agrees, version-maker, versions-within, words_at-start}
 use Rattle.sci_history.proofs.Oracles.{filter_push_yes, filter_push_no, count_push}
-use Rattle.sci_history.proofs.Order.{filter_yes, filter_no, all_weaker}
-use Rattle.sci_history.proofs.Runs.{same_stamped}
+use Rattle.sci_history.proofs.{Order.{filter_yes, filter_no, all_weaker}, Runs.{same_stamped}}
 use Rattle.sci_history.proofs.SequentialRuns.{after-load}
 
 -- ---- counts over all logs

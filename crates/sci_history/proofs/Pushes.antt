@@ -1,11 +1,9 @@
 -- What a push to one of several lists leaves, if each list is the part f of an element.
 use Rattle.std.proofs.Common.{◌≡◌, ℕ, ◌<◌, List, [], ◌∷◌, ◌++◌, length, map, get_or, set, ap, arith}
-use Rattle.std.specs.Prelude.{Result, Ok, Err, OnOk, OnErr, All}
-use Rattle.std.proofs.lemmas.Bool.{cases_eq}
-use Rattle.std.proofs.lemmas.List.{get_or-map, set-get_or, get_or-set_same, get_or-set_other}
+use Rattle.std.proofs.lemmas.{Bool.{cases_eq}, List.{get_or-map, set-get_or, get_or-set_same, get_or-set_other}}
 use Rattle.std.proofs.lemmas.List.Elements.{All-same, All-push}
-use Rattle.sci_history.specs.declared.entry.Entry.{Entry}
-use Rattle.sci_history.specs.Placed.{AreOwn}
+use Rattle.std.specs.Prelude.{Result, Ok, Err, OnOk, OnErr, All}
+use Rattle.sci_history.specs.{declared.entry.Entry.{Entry}, Placed.{AreOwn}}
 
 pub pushed : {X Y : Type 0} (f : X → List Y) (xs : List X) (i : ℕ) (d : X) (new : List Y) (y : Y) → i < length xs → new ≡ f (get_or xs i d) ++ y ∷ []
     → set (map f xs) i new ≡ set (map f xs) i (get_or (map f xs) i [] ++ y ∷ [])

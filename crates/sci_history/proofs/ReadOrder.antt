@@ -1,20 +1,15 @@
 -- Entries that stand by node and serial already are left so.
 use Rattle.std.proofs.Common.{◌≡◌, ℕ, suc, ◌+◌, ◌<◌, ◌≤◌, Bool, true, Some, List, [], ◌∷◌, length, get_or, sym, ◌∙◌, subst, arith, inl, inr}
-use Rattle.std.specs.List.{filter, AllByRecursion, IsAllAdjacentAnswer}
-use Rattle.std.specs.Prelude.{All}
+use Rattle.std.proofs.lemmas.{Bool.{cases_eq, eq-eqb, ne_eqb, eqb-true}, List.Elements.{recursion_from_All}}
+use Rattle.std.proofs.lemmas.{Bool.Decides.{nat_tests}, List.{length-map}}
+use Rattle.std.specs.{List.{filter, AllByRecursion, IsAllAdjacentAnswer}, Prelude.{All}}
 use Rattle.std.specs.Ordering.{is_le, is_some_and, nat_cmp, partial_ordering_then}
-use Rattle.std.proofs.lemmas.Bool.{cases_eq, eq-eqb, ne_eqb, eqb-true}
-use Rattle.std.proofs.lemmas.List.Elements.{recursion_from_All}
-use Rattle.std.proofs.lemmas.Bool.Decides.{nat_tests}
-use Rattle.std.proofs.lemmas.List.{length-map}
 use denote.Ref.{Bor}
 use Rattle.sci_words.specs.declared.limits.TheConstants.{MAX_NODES}
 use Rattle.sci_history.specs.declared.entry.Entry.{Entry}
-use Rattle.sci_history.specs.Placed.{is_of_node, in_order, above_serials, by_node_and_serial}
-use Rattle.sci_history.specs.Audit.{entries_of}
+use Rattle.sci_history.specs.{Placed.{is_of_node, in_order, above_serials, by_node_and_serial}, Audit.{entries_of}}
 use Rattle.sci_history.proofs.Order.{IsInOrder, HasKeysBelow, all_weaker, all-filter, all-passes, all_both, filter_yes, filter_no, filter-in_order}
-use Rattle.sci_history.proofs.Order.{in_order_same, in_order-ordered}
-use Rattle.sci_history.proofs.Placement.{above_serials-above}
+use Rattle.sci_history.proofs.{Order.{in_order_same, in_order-ordered}, Placement.{above_serials-above}}
 use Rattle.sci_history.proofs.AuditFinds.{entry_at, entries_at, no_entry, no_ref}
 
 -- the node doesn't fall, nor within a node the serial

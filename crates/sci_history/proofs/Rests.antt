@@ -2,12 +2,9 @@
 use Rattle.std.proofs.Common.{◌≡◌, ℕ, suc, ◌+◌, ◌<◌, ◌≤◌, List, [], ◌∷◌, length, get_or, set, drop, sym, ap, ◌∙◌, arith, inl, inr}
 use Rattle.std.proofs.lemmas.Bool.{cases_eq}
 use Rattle.std.proofs.lemmas.List.{drop_all, ext_get_or, get_or_past, get_or-set_same, get_or-set_other, length-set}
-use Rattle.std.proofs.lemmas.List.FromFn.{get_or-map-range_with_len, length-map-range_with_len}
-use Rattle.std.proofs.Math.Seq.{drop-cons}
+use Rattle.std.proofs.{lemmas.List.FromFn.{get_or-map-range_with_len, length-map-range_with_len}, Math.Seq.{drop-cons}}
 use Rattle.sci_words.specs.declared.limits.TheConstants.{MAX_NODES}
-use Rattle.sci_history.specs.declared.entry.Entry.{Entry}
-use Rattle.sci_history.specs.Placed.{log_of}
-use Rattle.sci_history.specs.Placing.{rests_of}
+use Rattle.sci_history.specs.{declared.entry.Entry.{Entry}, Placed.{log_of}, Placing.{rests_of}}
 use Rattle.sci_history.proofs.AuditFinds.{no_entry}
 
 abbrev rest_from : List (List Entry) → List ℕ → ℕ → List Entry

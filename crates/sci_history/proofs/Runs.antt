@@ -1,8 +1,6 @@
 -- Runs on a memory, and on the words of a memory whose lines have versions.
-use Rattle.std.proofs.Common.{◌≡◌, ℕ, zero, suc, List, [], ◌∷◌, refl, arith}
-use Rattle.std.proofs.lemmas.List.{map-set}
-use Rattle.sci_words.specs.declared.operation.Op.{Op}
-use Rattle.sci_words.specs.declared.stamped.Stamped.{Stamped}
+use Rattle.std.proofs.{Common.{◌≡◌, ℕ, zero, suc, List, [], ◌∷◌, refl, arith}, lemmas.List.{map-set}}
+use Rattle.sci_words.specs.declared.{operation.Op.{Op}, stamped.Stamped.{Stamped}}
 use Rattle.sci_history.specs.Memory.{line_at, stamped_at, words_of_lines, memory_after, contents_after}
 
 pub line_at-words_of_lines : (contents : List Stamped) (line : ℕ) → line_at (words_of_lines contents) line ≡ (stamped_at contents line).line

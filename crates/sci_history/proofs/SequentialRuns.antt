@@ -1,23 +1,15 @@
 -- An order that is each line's history is a run of the whole memory, and makes the logs lawful.
-use Rattle.std.proofs.Common.{◌≡◌, ℕ, zero, suc, ◌<◌, ◌≤◌, false, List, [], ◌∷◌, length, map, replicate, length-set, refl, sym, ap, subst, ◌∙◌, arith}
-use Rattle.std.proofs.Common.{inl, inr}
-use Rattle.std.specs.List.{filter, AllByRecursion, AllPairs}
-use Rattle.std.proofs.lemmas.Bool.{cases_Bool, cases_lt, cases_eq, eq-eqb, ne_eqb}
+use Rattle.std.proofs.Common.{◌≡◌, ℕ, zero, suc, ◌<◌, ◌≤◌, false, List, [], ◌∷◌, length, map, replicate, length-set, refl, sym, ap, subst, ◌∙◌, arith, inl}
+use Rattle.std.proofs.{Common.{inr}, lemmas.Bool.{cases_Bool, cases_lt, cases_eq, eq-eqb, ne_eqb}}
 use Rattle.std.proofs.lemmas.List.{ext_get_or, set_past, get_or-set_same, get_or-set_other, get_or_past, length-replicate}
-use Rattle.sci_words.specs.declared.limits.TheConstants.{MAX_NODES}
-use Rattle.sci_words.specs.declared.operation.Op.{Op}
-use Rattle.sci_words.specs.declared.stamped.Stamped.{Stamped}
-use Rattle.sci_words.specs.Operation.{is_maker}
-use Rattle.sci_words.specs.Stamped.{after, reply_of, zero_stamped}
-use Rattle.sci_history.specs.declared.entry.Entry.{Entry}
-use Rattle.sci_history.specs.History.{IsHistory, HasHistory}
-use Rattle.sci_history.specs.Lawful.{Lawful}
+use Rattle.std.specs.List.{filter, AllByRecursion, AllPairs}
+use Rattle.sci_words.specs.declared.{limits.TheConstants.{MAX_NODES}, operation.Op.{Op}, stamped.Stamped.{Stamped}}
+use Rattle.sci_words.specs.{Operation.{is_maker}, Stamped.{after, reply_of, zero_stamped}}
+use Rattle.sci_history.specs.{declared.entry.Entry.{Entry}, History.{IsHistory, HasHistory}, Lawful.{Lawful}}
 use Rattle.sci_history.specs.Memory.{IsRun, zero_memory, stamped_at, words_of_lines, contents_after}
-use Rattle.sci_history.specs.Placed.{log_of, is_of_node, is_on_line, pair_of}
-use Rattle.sci_history.specs.Sequential.{IsSequentialOrder}
+use Rattle.sci_history.specs.{Placed.{log_of, is_of_node, is_on_line, pair_of}, Sequential.{IsSequentialOrder}}
 use Rattle.sci_history.proofs.Histories.{line_after-load, version-load, version-maker, version-end}
-use Rattle.sci_history.proofs.Lawfulness.{lawful_line}
-use Rattle.sci_history.proofs.Order.{filter_yes, filter_no, filter-filter, all-filter}
+use Rattle.sci_history.proofs.{Lawfulness.{lawful_line}, Order.{filter_yes, filter_no, filter-filter, all-filter}}
 use Rattle.sci_history.proofs.Runs.{line_at-words_of_lines, words_of_lines-contents_after, same_stamped}
 
 -- ---- runs

@@ -1,14 +1,10 @@
 -- Logs put in serial order: what stays, and what stands where.
 use Rattle.std.proofs.Common.{◌≡◌, ℕ, ◌<◌, Bool, List, [], length, get_or, filter, refl, sym, ap, ◌∙◌, arith}
-use Rattle.std.specs.Prelude.{All}
-use Rattle.std.proofs.lemmas.List.{ext_get_or, length-map}
+use Rattle.std.proofs.lemmas.List.{ext_get_or, length-map, Elements.{All-from_recursion, recursion_from_All}}
 use Rattle.std.proofs.Math.ListN.{get_or-map}
-use Rattle.std.proofs.lemmas.List.Elements.{All-from_recursion, recursion_from_All}
-use Rattle.sci_words.specs.declared.limits.TheConstants.{MAX_NODES}
-use Rattle.sci_history.specs.declared.entry.Entry.{Entry}
-use Rattle.sci_words.specs.declared.stamped.Stamped.{Stamped}
-use Rattle.sci_history.specs.Audit.{AreWithin, IsWithin}
-use Rattle.sci_history.specs.Lawful.{Lawful}
+use Rattle.std.specs.Prelude.{All}
+use Rattle.sci_words.specs.declared.{limits.TheConstants.{MAX_NODES}, stamped.Stamped.{Stamped}}
+use Rattle.sci_history.specs.{declared.entry.Entry.{Entry}, Audit.{AreWithin, IsWithin}, Lawful.{Lawful}}
 use Rattle.sci_history.specs.Placed.{AreOwn, in_serial_order, log_of, is_on_line, on_line, placed, above_serials, in_order}
 use Rattle.sci_history.specs.Sequential.{AreInProgramOrder, by_serial}
 use Rattle.sci_history.proofs.Order.{IsInOrder, all-filter, all-in_order, filter-in_order, in_order-ordered}

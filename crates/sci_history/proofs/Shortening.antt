@@ -1,20 +1,16 @@
 -- A round of some entries of a round, in which no entry comes after another than the next one.
 -- The part that is kept is the shortest whose last entry comes after its first, so none comes after one before it but these.
 -- From each entry the way goes on to the last one of the part that it comes after, so none comes after one further on.
-use Rattle.std.proofs.Common.{◌≡◌, ℕ, zero, suc, ◌+◌, ◌-◌, ◌<◌, ◌≤◌, ◌⊎◌, List, [], ◌∷◌, ◌++◌, length, get_or, Some, refl, sym, ap, subst, ◌∙◌, arith, inl, inr}
-use Rattle.std.specs.Prelude.{slice_get}
-use Rattle.std.specs.List.{AllByRecursion}
-use Rattle.std.proofs.lemmas.Bool.{cases_lt, cases_eq}
-use Rattle.std.proofs.lemmas.List.{length-append}
+use Rattle.std.proofs.Common.{◌≡◌, ℕ, zero, suc, ◌+◌, ◌-◌, ◌<◌, ◌≤◌, ◌⊎◌, List, [], ◌∷◌, ◌++◌, length, get_or, Some, refl, sym, ap, subst, ◌∙◌, arith, inl}
+use Rattle.std.proofs.{Common.{inr}, lemmas.{Bool.{cases_lt, cases_eq}, List.{length-append}}}
 use Rattle.std.proofs.lemmas.Option.{get_or_from_slice_get, slice_get_within}
-use Rattle.sci_history.specs.declared.entry.Entry.{Entry}
-use Rattle.sci_history.specs.declared.order_verdict.Reason.{Reason}
+use Rattle.std.specs.{Prelude.{slice_get}, List.{AllByRecursion}}
+use Rattle.sci_history.specs.declared.{entry.Entry.{Entry}, order_verdict.Reason.{Reason}}
 use Rattle.sci_history.specs.declared.order_verdict.Reason.TheVariants.{Logged, ReadsFrom, FromRead, Coherence}
 use Rattle.sci_history.specs.declared.order_verdict.Step.{Step}
 use Rattle.sci_history.specs.Cycle.{ComesAfter, IsChain, IsCycle, IsInLog, IsRound}
 use Rattle.sci_history.specs.Shortcuts.{AreOf, ComesAfterAt, IsBareRoundOf, IsFree, IsFreeWithin}
-use Rattle.sci_history.proofs.AuditFinds.{no_entry}
-use Rattle.sci_history.proofs.Waits.{chain_joined}
+use Rattle.sci_history.proofs.{AuditFinds.{no_entry}, Waits.{chain_joined}}
 
 abbrev pub no_step : Step
 no_step = record { entry = no_entry; place = 0; reason = Logged }

@@ -1,11 +1,10 @@
 -- A stable sort by a number puts a list in that order.
 use Rattle.std.proofs.Common.{◌≡◌, ℕ, zero, suc, ◌+◌, ◌<◌, ◌≤◌, Bool, false, eqb, ltb, not, ◌&&◌, List, [], ◌∷◌, map, get_or, refl, sym, ap, ◌∙◌, arith}
-use Rattle.std.specs.List.{filter}
-use Rattle.std.specs.List.Sorted.{IsPermutation, IsSortedBy, IsStableBy, IsNonDecreasingBy, ties}
 use Rattle.std.proofs.lemmas.Bool.{cases_Bool, cases_order, eq-eqb, ne_eqb, lt-ltb, le-ltb, ltb-false}
 use Rattle.std.proofs.lemmas.List.{append-nil, map-append}
 use Rattle.std.proofs.lemmas.List.Elements.{All-from_recursion, recursion_from_All, filter_agree}
 use Rattle.std.proofs.lemmas.List.Sorted.{IsNonDecreasingBy-from_all_adjacent, All-permutation}
+use Rattle.std.specs.List.{filter, Sorted.{IsPermutation, IsSortedBy, IsStableBy, IsNonDecreasingBy, ties}}
 use Rattle.sci_history.specs.Placed.{in_order}
 use Rattle.sci_history.proofs.Order.{IsInOrder, HasKeysBelow, filter_yes, filter_no, filter_none, all_weaker, in_order_same, in_order-ordered}
 

@@ -1,20 +1,14 @@
 -- What an entry that is left first waits for, and the steps from one to the next.
 use Rattle.std.proofs.Common.{◌≡◌, ℕ, zero, suc, ◌+◌, ◌<◌, ◌≤◌, Bool, true, false, eqb, ltb, List, [], ◌∷◌, ◌++◌, length, get_or, drop, Option, Some, None}
-use Rattle.std.proofs.Common.{refl, sym, ap, subst, ◌∙◌, arith, inl, inr}
-use Rattle.std.specs.Prelude.{slice_get, if◌then◌else◌}
-use Rattle.std.specs.List.{AllByRecursion}
-use Rattle.std.proofs.lemmas.Bool.{cases_lt, eqb-true, ltb-true}
+use Rattle.std.proofs.{Common.{refl, sym, ap, subst, ◌∙◌, arith, inl, inr}, lemmas.Bool.{cases_lt, eqb-true, ltb-true}}
+use Rattle.std.specs.{Prelude.{slice_get, if◌then◌else◌}, List.{AllByRecursion}}
 use Rattle.sci_words.specs.declared.limits.TheConstants.{MAX_NODES}
-use Rattle.sci_history.specs.declared.entry.Entry.{Entry}
-use Rattle.sci_history.specs.declared.order_verdict.Reason.{Reason}
+use Rattle.sci_history.specs.declared.{entry.Entry.{Entry}, order_verdict.Reason.{Reason}}
 use Rattle.sci_history.specs.declared.order_verdict.Reason.TheVariants.{Logged, ReadsFrom, FromRead, Coherence}
-use Rattle.sci_history.specs.declared.order_verdict.Step.{Step}
-use Rattle.sci_history.specs.Cycle.{ComesAfter, IsChain}
+use Rattle.sci_history.specs.{declared.order_verdict.Step.{Step}, Cycle.{ComesAfter, IsChain}}
 use Rattle.sci_history.specs.Placed.{AreOwn, log_of, is_making}
 use Rattle.sci_history.specs.Placing.{line_reason, rests_of, AreBlocked, IsBlocker, IsFirstLeft, LeadsTo}
-use Rattle.sci_history.proofs.AuditFinds.{no_entry}
-use Rattle.sci_history.proofs.Cycles.{got}
-use Rattle.sci_history.proofs.Rests.{front_at, rest_at, rest_beyond}
+use Rattle.sci_history.proofs.{AuditFinds.{no_entry}, Cycles.{got}, Rests.{front_at, rest_at, rest_beyond}}
 
 -- ---- what is left of a log
 

@@ -1,19 +1,14 @@
 -- From one entry that is left first to another: the steps come back to a node where they were.
 use Rattle.std.proofs.Common.{◌≡◌, ℕ, zero, suc, ◌+◌, ◌-◌, ◌*◌, ◌<◌, ◌≤◌, List, [], ◌∷◌, ◌++◌, length, get_or, set, take, drop, replicate, Option, Some}
-use Rattle.std.proofs.Common.{None, refl, sym, ap, subst, ◌∙◌, arith}
-use Rattle.std.specs.Prelude.{IfSome, count_by, is_some}
-use Rattle.std.specs.List.{AllByRecursion}
-use Rattle.std.proofs.lemmas.Bool.{cases_eq}
+use Rattle.std.proofs.{Common.{None, refl, sym, ap, subst, ◌∙◌, arith}, lemmas.Bool.{cases_eq}}
 use Rattle.std.proofs.lemmas.List.{length-append, length-drop, take_all, get_or-set_same, get_or-set_other}
 use Rattle.std.proofs.lemmas.List.Sums.{sum_by-set, count_by-le-length}
+use Rattle.std.specs.{Prelude.{IfSome, count_by, is_some}, List.{AllByRecursion}}
 use Rattle.sci_words.specs.declared.limits.TheConstants.{MAX_NODES}
-use Rattle.sci_history.specs.declared.entry.Entry.{Entry}
-use Rattle.sci_history.specs.declared.order_verdict.Step.{Step}
-use Rattle.sci_history.specs.Cycle.{IsInLog, IsChain, IsRound, IsCycle}
-use Rattle.sci_history.specs.Placed.{log_of}
+use Rattle.sci_history.specs.declared.{entry.Entry.{Entry}, order_verdict.Step.{Step}}
+use Rattle.sci_history.specs.{Cycle.{IsInLog, IsChain, IsRound, IsCycle}, Placed.{log_of}}
 use Rattle.sci_history.specs.Placing.{IsFirstLeft, LeadsTo}
-use Rattle.sci_history.proofs.Order.{all-append}
-use Rattle.sci_history.proofs.Waits.{chain_joined, chain_dropped}
+use Rattle.sci_history.proofs.{Order.{all-append}, Waits.{chain_joined, chain_dropped}}
 
 -- the steps from a place on begin with the entry of this node that is left first
 pub record IsStarted (logs : List (List Entry)) (next : List ℕ) (steps : List Step) (node start : ℕ) : Type 0 where

@@ -1,24 +1,17 @@
 -- What an audit reports: the first rule that logs and last contents break, and where.
-use Rattle.std.specs.Prelude.{◌≡◌, ℕ, ◌<◌, ◌==◌, ◌&&◌, ◌||◌, not, nat_lt, nat_le, Bool, true, false, List, [], ◌∷◌, ◌++◌, length, filter, map, Option, Some}
-use Rattle.std.specs.Prelude.{None, if◌then◌else◌, slice_index_or}
-use Rattle.std.specs.List.{All, list_any}
+use Rattle.std.specs.Prelude.{◌≡◌, ℕ, ◌<◌, ◌==◌, ◌&&◌, ◌||◌, not, nat_lt, nat_le, Bool, true, false, List, [], ◌∷◌, ◌++◌, length, filter, map, Option}
+use Rattle.std.specs.{Prelude.{Some, None, if◌then◌else◌, slice_index_or}, List.{All, list_any}}
 use denote.Ref.{Bor}
 use Rattle.std.specs.Global.{Vec}
-use Rattle.sci_words.specs.declared.limits.TheConstants.{MAX_NODES, WORDS_PER_LINE}
-use Rattle.sci_words.specs.declared.operation.Op.{Op}
-use Rattle.sci_words.specs.declared.operation.Reply.{Reply}
-use Rattle.sci_words.specs.declared.operation.Reply.TheVariants.{Stored, Got}
-use Rattle.sci_words.specs.declared.stamped.Stamped.{Stamped}
+use Rattle.sci_words.specs.declared.{limits.TheConstants.{MAX_NODES, WORDS_PER_LINE}, operation.Op.{Op}}
+use Rattle.sci_words.specs.declared.{operation.Reply.{Reply, TheVariants.{Stored, Got}}, stamped.Stamped.{Stamped}}
 use Rattle.sci_words.specs.Stamped.{line_after, zero_line, reply_of}
-use Rattle.sci_history.specs.declared.entry.Entry.{Entry}
-use Rattle.sci_history.specs.declared.verdict.FaultKind.{FaultKind}
+use Rattle.sci_history.specs.declared.{entry.Entry.{Entry}, verdict.FaultKind.{FaultKind}}
 use Rattle.sci_history.specs.declared.verdict.FaultKind.TheVariants.{VersionTwice, VersionMissing, WrongReply, OutOfOrder, LastDiffers}
-use Rattle.sci_history.specs.declared.verdict.Verdict.{Verdict}
-use Rattle.sci_history.specs.declared.faults.LineFault.{LineFault}
-use Rattle.sci_history.specs.declared.verdict.Verdict.TheVariants as verdicts
-use Rattle.sci_history.specs.Memory.{stamped_at}
+use Rattle.sci_history.specs.{declared.{verdict.Verdict.{Verdict}, faults.LineFault.{LineFault}}, Memory.{stamped_at}}
 use Rattle.sci_history.specs.Placed.{log_of, is_of_node, is_making, makes, maker_count, on_line, placed_entries}
 use Rattle.sci_history.specs.Lawful.{IsLawfulLine, Lawful}
+use Rattle.sci_history.specs.declared.verdict.Verdict.TheVariants as verdicts
 
 -- the first of some entries that fails a test, which looks at the entries before it too
 abbrev pub first_failing : (List Entry → Entry → Bool) → List Entry → List Entry → Option Entry

@@ -1,18 +1,12 @@
 -- Cycles of entries, each of which comes after the next one in every order that makes logs sequentially consistent.
 use Rattle.std.specs.Prelude.{◌≡◌, ◌<◌, ◌≤◌, ◌+◌, ◌*◌, ◌⊎◌, ℕ, true, false, List, [], ◌∷◌, Some, slice_get, length}
 use Rattle.std.specs.List.{AllByRecursion}
-use Rattle.sci_words.specs.declared.limits.TheConstants.{MAX_NODES}
-use Rattle.sci_words.specs.declared.stamped.Stamped.{Stamped}
-use Rattle.sci_history.specs.declared.entry.Entry.{Entry}
-use Rattle.sci_history.specs.declared.order_verdict.OrderVerdict.{OrderVerdict}
-use Rattle.sci_history.specs.declared.order_verdict.OrderVerdict.TheVariants.{Fault, Order, Cycle}
-use Rattle.sci_history.specs.declared.order_verdict.Reason.{Reason}
+use Rattle.sci_words.specs.declared.{limits.TheConstants.{MAX_NODES}, stamped.Stamped.{Stamped}}
+use Rattle.sci_history.specs.declared.{entry.Entry.{Entry}, order_verdict.OrderVerdict.{OrderVerdict}}
+use Rattle.sci_history.specs.declared.order_verdict.{OrderVerdict.TheVariants.{Fault, Order, Cycle}, Reason.{Reason}}
 use Rattle.sci_history.specs.declared.order_verdict.Reason.TheVariants.{Logged, ReadsFrom, FromRead, Coherence}
-use Rattle.sci_history.specs.declared.order_verdict.Step.{Step}
-use Rattle.sci_history.specs.Audit.{IsFault, entries_of}
-use Rattle.sci_history.specs.Lawful.{Lawful}
-use Rattle.sci_history.specs.Placed.{log_of, is_making}
-use Rattle.sci_history.specs.Sequential.{IsSequentialOrder}
+use Rattle.sci_history.specs.{declared.order_verdict.Step.{Step}, Audit.{IsFault, entries_of}, Lawful.{Lawful}}
+use Rattle.sci_history.specs.{Placed.{log_of, is_making}, Sequential.{IsSequentialOrder}}
 
 -- the entry stands at its place in its node's log
 abbrev pub IsInLog : List (List Entry) → Step → Type 0

@@ -1,11 +1,9 @@
 -- Operations that took effect on one line one after another.
 use Rattle.std.specs.Prelude.{◌≡◌, ℕ, ◌<◌, nat_le, if◌then◌else◌, List, [], ◌∷◌, filter, AllPairs}
 use Rattle.std.specs.List.{AllByRecursion}
-use Rattle.sci_words.specs.declared.limits.TheConstants.{MAX_NODES}
-use Rattle.sci_words.specs.declared.stamped.Stamped.{Stamped}
+use Rattle.sci_words.specs.declared.{limits.TheConstants.{MAX_NODES}, stamped.Stamped.{Stamped}}
 use Rattle.sci_words.specs.Stamped.{after, line_after, zero_stamped, reply_of}
-use Rattle.sci_history.specs.declared.entry.Entry.{Entry}
-use Rattle.sci_history.specs.Placed.{log_of, is_of_node, is_on_line}
+use Rattle.sci_history.specs.{declared.entry.Entry.{Entry}, Placed.{log_of, is_of_node, is_on_line}}
 
 -- Entries are a line's history from one stamped line to another: each reply is that of the line so far, and each
 -- version is the one that the line has after the operation.

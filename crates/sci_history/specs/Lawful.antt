@@ -1,11 +1,7 @@
 -- What makes logs lawful: for each line, a memory of one thread explains them.
-use Rattle.std.specs.Prelude.{◌≡◌, ℕ, ◌<◌, ◌≤◌, IsTrue, List, filter, count_by, map, AllPairs}
-use Rattle.std.specs.List.{AllByRecursion}
-use Rattle.sci_words.specs.declared.limits.TheConstants.{MAX_NODES}
-use Rattle.sci_words.specs.declared.stamped.Stamped.{Stamped}
-use Rattle.sci_words.specs.Stamped.{zero_line}
-use Rattle.sci_history.specs.declared.entry.Entry.{Entry}
-use Rattle.sci_history.specs.Memory.{IsLineRun, stamped_at}
+use Rattle.std.specs.{Prelude.{◌≡◌, ℕ, ◌<◌, ◌≤◌, IsTrue, List, filter, count_by, map, AllPairs}, List.{AllByRecursion}}
+use Rattle.sci_words.specs.{declared.{limits.TheConstants.{MAX_NODES}, stamped.Stamped.{Stamped}}, Stamped.{zero_line}}
+use Rattle.sci_history.specs.{declared.entry.Entry.{Entry}, Memory.{IsLineRun, stamped_at}}
 use Rattle.sci_history.specs.Placed.{log_of, is_of_node, is_on_line, is_making, makes, maker_count, on_line, placed, pair_of}
 
 -- The versions of the makers among a line's entries are 1 to their number, each once, and no load has a version

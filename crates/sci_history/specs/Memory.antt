@@ -1,8 +1,6 @@
 -- A memory of one thread, and the runs of operations on it.
 use Rattle.std.specs.Prelude.{◌≡◌, ℕ, List, [], ◌∷◌, map, replicate, slice_index_or, slice_set}
-use Rattle.sci_words.specs.declared.operation.Op.{Op}
-use Rattle.sci_words.specs.declared.operation.Reply.{Reply}
-use Rattle.sci_words.specs.declared.stamped.Stamped.{Stamped}
+use Rattle.sci_words.specs.declared.{operation.{Op.{Op}, Reply.{Reply}}, stamped.Stamped.{Stamped}}
 use Rattle.sci_words.specs.Stamped.{line_after, after, reply_of, zero_line, zero_stamped}
 
 -- a memory is a list of lines, each a list of eight words; the zero memory has 0 everywhere

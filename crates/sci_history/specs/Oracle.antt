@@ -1,13 +1,9 @@
 -- The log of one memory of one thread that does operations in the order given.
 use Rattle.std.specs.Prelude.{ℕ, ◌+◌, ◌<◌, ◌&&◌, Bool, if◌then◌else◌, List, [], ◌∷◌, ◌++◌, filter, count_by, map}
 use Rattle.std.specs.List.{range_with_len}
-use Rattle.sci_words.specs.Stamped.{reply_of}
-use Rattle.sci_words.specs.declared.limits.TheConstants.{MAX_NODES, WORDS_PER_LINE}
-use Rattle.sci_words.specs.declared.operation.Op.{Op}
-use Rattle.sci_words.specs.declared.stamped.Stamped.{Stamped}
-use Rattle.sci_words.specs.Operation.{is_maker}
-use Rattle.sci_history.specs.declared.entry.Entry.{Entry}
-use Rattle.sci_history.specs.Memory.{zero_memory, line_at, memory_after_all}
+use Rattle.sci_words.specs.{Stamped.{reply_of}, declared.limits.TheConstants.{MAX_NODES, WORDS_PER_LINE}}
+use Rattle.sci_words.specs.{declared.{operation.Op.{Op}, stamped.Stamped.{Stamped}}, Operation.{is_maker}}
+use Rattle.sci_history.specs.{declared.entry.Entry.{Entry}, Memory.{zero_memory, line_at, memory_after_all}}
 use Rattle.sci_history.specs.Placed.{is_of_node, is_on_line, is_making}
 
 -- an issue is a node and the operation that its processor issues

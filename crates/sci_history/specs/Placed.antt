@@ -1,10 +1,7 @@
 -- Entries in the order of their versions.
-use Rattle.std.specs.Prelude.{◌≡◌, ℕ, zero, suc, ◌+◌, ◌==◌, ◌&&◌, not, Bool, List, [], ◌∷◌, ◌++◌, filter, count_by, max}
+use Rattle.std.specs.Prelude.{◌≡◌, ℕ, zero, suc, ◌+◌, ◌==◌, ◌&&◌, not, Bool, List, [], ◌∷◌, ◌++◌, filter, count_by, max, slice_index_or}
 use Rattle.std.specs.List.{flat_map, All}
-use Rattle.std.specs.Prelude.{slice_index_or}
-use Rattle.sci_words.specs.declared.limits.TheConstants.{MAX_NODES}
-use Rattle.sci_words.specs.declared.operation.Op.{Op}
-use Rattle.sci_words.specs.declared.operation.Reply.{Reply}
+use Rattle.sci_words.specs.declared.{limits.TheConstants.{MAX_NODES}, operation.{Op.{Op}, Reply.{Reply}}}
 use Rattle.sci_words.specs.Operation.{is_maker}
 use Rattle.sci_history.specs.declared.entry.Entry.{Entry}
 

@@ -1,20 +1,13 @@
 -- Entries that are placed one after another, each when all that has to come before it on its line is placed.
 use Rattle.std.specs.Prelude.{◌≡◌, ◌+◌, ◌-◌, ◌<◌, ◌≤◌, ℕ, true, false, Bool, if◌then◌else◌, List, [], ◌∷◌, ◌++◌, length, filter, count_by, map, drop}
-use Rattle.std.specs.Prelude.{slice_index_or, slice_get, Option, Some, None, nat_lt, ◌==◌}
-use Rattle.std.specs.Global.{Vec}
+use Rattle.std.specs.{Prelude.{slice_index_or, slice_get, Option, Some, None, nat_lt, ◌==◌}, Global.{Vec}}
 use Rattle.std.specs.List.{AllByRecursion, flat_map, range_with_len}
-use Rattle.sci_words.specs.declared.limits.TheConstants.{MAX_NODES}
-use Rattle.sci_words.specs.declared.stamped.Stamped.{Stamped}
+use Rattle.sci_words.specs.declared.{limits.TheConstants.{MAX_NODES}, stamped.Stamped.{Stamped}}
 use Rattle.sci_words.specs.Stamped.{zero_line, zero_stamped}
-use Rattle.sci_history.specs.declared.entry.Entry.{Entry}
-use Rattle.sci_history.specs.declared.order_verdict.Reason.{Reason}
-use Rattle.sci_history.specs.declared.order_verdict.Reason.TheVariants.{ReadsFrom, FromRead, Coherence}
-use Rattle.sci_history.specs.declared.order_verdict.Step.{Step}
-use Rattle.sci_history.specs.declared.placing.LineState.{LineState}
-use Rattle.sci_history.specs.Cycle.{IsInLog, IsChain}
-use Rattle.sci_history.specs.Audit.{AreWithin}
-use Rattle.sci_history.specs.History.{IsHistory, words_at}
-use Rattle.sci_history.specs.Lawful.{Lawful}
+use Rattle.sci_history.specs.declared.{entry.Entry.{Entry}, order_verdict.Reason.{Reason}}
+use Rattle.sci_history.specs.declared.order_verdict.{Reason.TheVariants.{ReadsFrom, FromRead, Coherence}, Step.{Step}}
+use Rattle.sci_history.specs.{declared.placing.LineState.{LineState}, Cycle.{IsInLog, IsChain}, Audit.{AreWithin}}
+use Rattle.sci_history.specs.{History.{IsHistory, words_at}, Lawful.{Lawful}}
 use Rattle.sci_history.specs.Placed.{AreOwn, log_of, is_of_node, is_on_line, is_making, reads, maker_count, on_line, placed}
 
 -- ---- lines

@@ -1,11 +1,8 @@
 -- Sequential consistency of logs: one order of all entries that one memory of one thread explains (L. Lamport, "How to
 -- Make a Multiprocessor Computer That Correctly Executes Multiprocess Programs", 1979).
 use Rattle.std.specs.Prelude.{◌≡◌, ◌<◌, ℕ, List, filter, AllPairs, map}
-use Rattle.sci_words.specs.declared.stamped.Stamped.{Stamped}
-use Rattle.sci_words.specs.Stamped.{zero_stamped}
-use Rattle.sci_history.specs.declared.entry.Entry.{Entry}
-use Rattle.sci_history.specs.History.{IsHistory}
-use Rattle.sci_history.specs.Memory.{stamped_at}
+use Rattle.sci_words.specs.{declared.stamped.Stamped.{Stamped}, Stamped.{zero_stamped}}
+use Rattle.sci_history.specs.{declared.entry.Entry.{Entry}, History.{IsHistory}, Memory.{stamped_at}}
 use Rattle.sci_history.specs.Placed.{in_serial_order, log_of, is_of_node, is_on_line}
 
 -- An order of all entries of the logs: each node's entries stand in it as in the node's log, and those on each line are

@@ -1,7 +1,6 @@
 -- Which entries of a cycle come after which, beside the next one.
 use Rattle.std.specs.Prelude.{◌≡◌, ◌<◌, ◌≤◌, ◌+◌, ℕ, List, Some, length, slice_get}
-use Rattle.sci_history.specs.declared.order_verdict.Reason.{Reason}
-use Rattle.sci_history.specs.declared.order_verdict.Step.{Step}
+use Rattle.sci_history.specs.declared.order_verdict.{Reason.{Reason}, Step.{Step}}
 use Rattle.sci_history.specs.Cycle.{ComesAfter, HasNoShortcut, IsRound}
 
 -- one entry doesn't come after another, for any reason

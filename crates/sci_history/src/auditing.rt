@@ -1,8 +1,7 @@
 //! The audit of logs: whether they are lawful, or the first rule that they break.
 
 ghost use Rattle.std.specs.Prelude.{◌≡◌, ◌↔◌, IfOk, length};
-ghost use Rattle.sci_history.specs.Audit.{AreFound, AreWithin, IsVerdict};
-ghost use Rattle.sci_history.specs.Lawful.{Lawful};
+ghost use Rattle.sci_history.specs.{Audit.{AreFound, AreWithin, IsVerdict}, Lawful.{Lawful}};
 
 use crate::by_line::by_line;
 use crate::faults::{LineFault, line_fault};

@@ -1,9 +1,8 @@
 //! Entries by their lines.
 
 ghost use Rattle.std.specs.Prelude.{◌≡◌, ◌<◌, ◌++◌, ℕ, All, OnOk, IfOk, length, filter, slice_index_or, []};
-ghost use Rattle.sci_history.specs.Audit.{AreWithin, IsWithin, lists_of};
+ghost use Rattle.sci_history.specs.{Audit.{AreWithin, IsWithin, lists_of}, Placed.{AreOwn, is_on_line, on_line}};
 ghost use Rattle.sci_words.specs.declared.limits.TheConstants.{MAX_NODES};
-ghost use Rattle.sci_history.specs.Placed.{AreOwn, is_on_line, on_line};
 
 use crate::entry::Entry;
 use crate::logs::Logs;

@@ -3,7 +3,8 @@
 ghost use Rattle.std.specs.Prelude.{◌≡◌, ◌≤◌, ◌<◌, [], true, None, Some, length, not, All, IfOk, IfErr};
 ghost use Rattle.std.specs.Option.{option_copied};
 ghost use Rattle.sci_words.specs.declared.limits.TheConstants.{MAX_NODES, WORDS_PER_LINE};
-ghost use Rattle.sci_history.specs.Audit.{AreKnown, IsFound, breaks_order as breaks_order_of, entries_of, first_disordered, first_failing, first_twice, first_wrong, is_placed_before, is_reply_wrong, is_version_missing, same_reply, words_after};
+ghost use Rattle.sci_history.specs.Audit.{AreKnown, IsFound, breaks_order as breaks_order_of, entries_of, first_disordered, first_failing, first_twice};
+ghost use Rattle.sci_history.specs.Audit.{first_wrong, is_placed_before, is_reply_wrong, is_version_missing, same_reply, words_after};
 ghost use Rattle.sci_history.specs.Placed.{by_node_and_serial as by_node_and_serial_of, maker_count, placed_entries};
 
 use crate::entry::Entry;

@@ -1,8 +1,7 @@
 //! The contents of all lines at one moment.
 
 ghost use Rattle.std.specs.Prelude.{◌≡◌, ◌≤◌, ◌<◌, length, replicate, slice_set};
-ghost use Rattle.sci_words.specs.declared.limits.TheConstants.{MAX_LINES};
-ghost use Rattle.sci_words.specs.Stamped.{zero_stamped};
+ghost use Rattle.sci_words.specs.{declared.limits.TheConstants.{MAX_LINES}, Stamped.{zero_stamped}};
 ghost use Rattle.sci_history.specs.Memory.{stamped_at};
 
 use sci_words::{Line, MAX_LINES, Stamped};
@@ -19,8 +18,7 @@ pub struct Last {
 
 impl Model for Last {
     ghost use Rattle.std.specs.Prelude.{◌≡◌, ◌≤◌, List, length, take};
-    ghost use Rattle.sci_words.specs.declared.stamped.Stamped.{Stamped};
-    ghost use Rattle.sci_words.specs.declared.limits.TheConstants.{MAX_LINES};
+    ghost use Rattle.sci_words.specs.declared.{stamped.Stamped.{Stamped}, limits.TheConstants.{MAX_LINES}};
 
     ghost Value = { List Stamped };
 

@@ -3,19 +3,12 @@
 
 ghost use Rattle.std.specs.Prelude.{true, ◌≡◌, ◌≤◌, ◌<◌, ◌↔◌, ◌∷◌, ◌++◌, [], List, ℕ, Option, map, filter, length, AllPairs};
 ghost use Rattle.std.specs.List.{AllByRecursion, flat_map};
-ghost use Rattle.sci_words.specs.declared.limits.TheConstants.{MAX_NODES, WORDS_PER_LINE};
-ghost use Rattle.sci_words.specs.declared.operation.Act.{Act};
-ghost use Rattle.sci_words.specs.declared.operation.Op.{Op};
-ghost use Rattle.sci_words.specs.declared.operation.Reply.{Reply};
-ghost use Rattle.sci_words.specs.declared.stamped.Stamped.{Stamped};
+ghost use Rattle.sci_words.specs.declared.{limits.TheConstants.{MAX_NODES, WORDS_PER_LINE}, operation.Act.{Act}};
+ghost use Rattle.sci_words.specs.declared.{operation.{Op.{Op}, Reply.{Reply}}, stamped.Stamped.{Stamped}};
 ghost use Rattle.sci_words.specs.Stamped.{zero_stamped};
-ghost use Rattle.sci_history.specs.declared.entry.Entry.{Entry};
-ghost use Rattle.sci_history.specs.declared.verdict.FaultKind.{FaultKind};
-ghost use Rattle.sci_history.specs.Audit.{AreWithin, HasNoFault, IsLineFault};
-ghost use Rattle.sci_history.specs.Cycle.{IsCycle};
-ghost use Rattle.sci_history.specs.History.{HasHistory};
-ghost use Rattle.sci_history.specs.declared.order_verdict.Step.{Step};
-ghost use Rattle.sci_history.specs.Lawful.{IsLawfulLine, Lawful};
+ghost use Rattle.sci_history.specs.declared.{entry.Entry.{Entry}, verdict.FaultKind.{FaultKind}};
+ghost use Rattle.sci_history.specs.{declared.order_verdict.Step.{Step}, Audit.{AreWithin, HasNoFault, IsLineFault}};
+ghost use Rattle.sci_history.specs.{Cycle.{IsCycle}, History.{HasHistory}, Lawful.{IsLawfulLine, Lawful}};
 ghost use Rattle.sci_history.specs.Memory.{IsRun, stamped_at, words_of_lines, zero_memory};
 ghost use Rattle.sci_history.specs.Oracle.{IsInRange, Issue, oracle_last, oracle_logs};
 ghost use Rattle.sci_history.specs.Placed.{AreOwn, is_making, is_of_node, is_on_line, log_of, on_line, pair_of};

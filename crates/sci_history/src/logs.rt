@@ -32,8 +32,7 @@ pub struct Logs {
 impl Model for Logs {
     ghost use Rattle.std.specs.Prelude.{◌≡◌, List, length, map};
     ghost use Rattle.sci_words.specs.declared.limits.TheConstants.{MAX_NODES};
-    ghost use Rattle.sci_history.specs.declared.entry.Entry.{Entry};
-    ghost use Rattle.sci_history.specs.Placed.{AreOwn};
+    ghost use Rattle.sci_history.specs.{declared.entry.Entry.{Entry}, Placed.{AreOwn}};
 
     ghost Value = { List (List Entry) };
 

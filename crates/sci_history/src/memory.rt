@@ -2,8 +2,7 @@
 
 ghost use Rattle.std.specs.Prelude.{◌≡◌, ◌≤◌, ◌<◌, ◌∷◌, [], ◌+◌, length, replicate, map, if◌then◌else◌};
 ghost use Rattle.sci_words.specs.declared.limits.TheConstants.{MAX_LINES, WORDS_PER_LINE};
-ghost use Rattle.sci_words.specs.Operation.{IsMaker, is_maker};
-ghost use Rattle.sci_words.specs.Stamped.{zero_stamped};
+ghost use Rattle.sci_words.specs.{Operation.{IsMaker, is_maker}, Stamped.{zero_stamped}};
 ghost use Rattle.sci_history.specs.Memory.{IsRun, contents_after, stamped_at, words_of_lines};
 
 use crate::last::Last;

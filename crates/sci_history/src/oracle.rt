@@ -2,8 +2,7 @@
 
 ghost use Rattle.std.specs.Prelude.{◌≡◌, ◌≤◌, ◌<◌, ◌==◌, ℕ, All, IfOk, count_by};
 ghost use Rattle.sci_words.specs.declared.limits.TheConstants.{MAX_LINES, MAX_OPERATIONS};
-ghost use Rattle.sci_history.specs.Lawful.{Lawful};
-ghost use Rattle.sci_history.specs.Oracle.{IsInRange, oracle_last, oracle_logs};
+ghost use Rattle.sci_history.specs.{Lawful.{Lawful}, Oracle.{IsInRange, oracle_last, oracle_logs}};
 
 use crate::entry::Entry;
 use crate::last::Last;

@@ -1,9 +1,7 @@
 //! One order of all entries that one memory of one thread explains, or why there is none.
 
 ghost use Rattle.std.specs.Prelude.{◌≡◌, ◌<◌, ◌↔◌, IfOk, length};
-ghost use Rattle.sci_history.specs.Audit.{AreWithin};
-ghost use Rattle.sci_history.specs.Cycle.{IsOrderVerdict, IsOrdered};
-ghost use Rattle.sci_history.specs.Lawful.{Lawful};
+ghost use Rattle.sci_history.specs.{Audit.{AreWithin}, Cycle.{IsOrderVerdict, IsOrdered}, Lawful.{Lawful}};
 ghost use Rattle.sci_history.specs.Sequential.{IsSequentiallyConsistent};
 
 use crate::faults::LineFault;

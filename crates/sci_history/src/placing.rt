@@ -2,9 +2,7 @@
 
 ghost use Rattle.std.specs.Prelude.{true, false, ◌≡◌, ◌≤◌, ◌<◌, ◌+◌, ◌^◌, ◌↔◌, ℕ, All, IsTrue, IfOk, OnOk, length, slice_index_or, []};
 ghost use Rattle.sci_words.specs.declared.limits.TheConstants.{MAX_LINES, MAX_NODES};
-ghost use Rattle.sci_history.specs.Audit.{AreWithin, entries_of};
-ghost use Rattle.sci_history.specs.Placed.{is_making, maker_count};
-ghost use Rattle.sci_history.specs.Judged.{IsJudged};
+ghost use Rattle.sci_history.specs.{Audit.{AreWithin, entries_of}, Placed.{is_making, maker_count}, Judged.{IsJudged}};
 ghost use Rattle.sci_history.specs.Placing.{AreOrderable, CanFollow, HasCounts, IsPlacing, IsStuckAt, lists_of_counts, rests_of, state_after};
 
 use crate::by_line::by_line;

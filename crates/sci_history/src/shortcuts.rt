@@ -1,8 +1,7 @@
 //! Cycles without a shortcut: no entry comes after another of the cycle than the next one.
 
 ghost use Rattle.std.specs.Prelude.{◌≡◌, ◌<◌, ◌≤◌, ◌-◌, ℕ, IfOk, IfSome, None, Some, length, slice_get};
-ghost use Rattle.sci_history.specs.declared.order_verdict.Step.{Step};
-ghost use Rattle.sci_history.specs.Cycle.{ComesAfter, IsRound};
+ghost use Rattle.sci_history.specs.{declared.order_verdict.Step.{Step}, Cycle.{ComesAfter, IsRound}};
 ghost use Rattle.sci_history.specs.Shortcuts.{ComesAfterAt, IsBareRoundOf, IsFree, IsFreeWithin};
 
 use crate::order_verdict::{Reason, Step, reason_after};

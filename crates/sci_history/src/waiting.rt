@@ -3,10 +3,8 @@
 ghost use Rattle.std.specs.Prelude.{◌≡◌, ◌≤◌, ◌<◌, ◌*◌, ◌++◌, ℕ, true, IfSome, IfOk, Some, None, List, length, slice_get, slice_index_or};
 ghost use Rattle.std.specs.List.{AllByRecursion};
 ghost use Rattle.sci_words.specs.declared.limits.TheConstants.{MAX_NODES};
-ghost use Rattle.sci_history.specs.declared.entry.Entry.{Entry};
-ghost use Rattle.sci_history.specs.declared.order_verdict.Step.{Step};
-ghost use Rattle.sci_history.specs.Cycle.{HasNoShortcut, IsCycle};
-ghost use Rattle.sci_history.specs.Placed.{log_of};
+ghost use Rattle.sci_history.specs.declared.{entry.Entry.{Entry}, order_verdict.Step.{Step}};
+ghost use Rattle.sci_history.specs.{Cycle.{HasNoShortcut, IsCycle}, Placed.{log_of}};
 ghost use Rattle.sci_history.specs.Placing.{AreBlocked, IsBlocker, LeadsTo, line_reason, rests_of};
 
 use crate::entry::Entry;

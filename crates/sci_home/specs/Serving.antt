@@ -2,12 +2,10 @@
 -- memory (HOME, FRESH, GONE), that the home keeps the identifier of the list's head, and how a list grows. The rest is
 -- this project's profile, as each definition says.
 use Rattle.std.specs.Prelude.{ℕ, Bool, true, false, IsTrue, ◌==◌, if◌then◌else◌, List, codes, Option, Some, None}
-use Rattle.sci_words.specs.declared.stamped.Stamped.{Stamped}
-use Rattle.sci_words.specs.Stamped.{zero_stamped}
+use Rattle.sci_words.specs.{declared.stamped.Stamped.{Stamped}, Stamped.{zero_stamped}}
 use Rattle.sci_packets.specs.declared.body.Body.{Body}
 use Rattle.sci_packets.specs.declared.body.Body.TheVariants.{Mread, Fread, Claim, Clear, Wback, Mdata, Mgone, Fdata, Wbok, Wbno}
-use Rattle.sci_home.specs.declared.state.HomeState.{HomeState}
-use Rattle.sci_home.specs.declared.state.HomeState.TheVariants.{Home, Fresh, Gone}
+use Rattle.sci_home.specs.declared.state.HomeState.{HomeState, TheVariants.{Home, Fresh, Gone}}
 
 -- the home of a line that nobody has touched: HOME, with zero words at version 0 (the profile)
 abbrev pub opening_home : HomeState

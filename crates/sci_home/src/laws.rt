@@ -1,10 +1,8 @@
 //! Laws of the home's table, each the contract of a function that does nothing.
 
 ghost use Rattle.std.specs.Prelude.{◌≡◌, ℕ, Some, IfSome};
-ghost use Rattle.sci_packets.specs.declared.body.Body.{Body};
-ghost use Rattle.sci_packets.specs.declared.body.Body.TheVariants.{Mread, Fread, Wbok, Wbno};
-ghost use Rattle.sci_home.specs.declared.state.HomeState.{HomeState};
-ghost use Rattle.sci_home.specs.Serving.{home_serving, head_of};
+ghost use Rattle.sci_packets.specs.declared.body.Body.{Body, TheVariants.{Mread, Fread, Wbok, Wbno}};
+ghost use Rattle.sci_home.specs.{declared.state.HomeState.{HomeState}, Serving.{home_serving, head_of}};
 
 /// A reader becomes the head of the list.
 pub fn a_reader_becomes_the_head()

@@ -1,34 +1,25 @@
 -- Each kind of step keeps the rule, and tells its seat what it should.
-use Rattle.std.proofs.Common.{◌≡◌, ◌≢◌, ℕ, ◌+◌, ◌%◌, ◌<◌, inl, inr, Bool, true, false, if◌then◌else◌, eqb, List, [], ◌∷◌, length, get_or, set, refl}
-use Rattle.std.proofs.Common.{sym, ap, subst, ◌∙◌, arith}
-use Rattle.std.specs.Prelude.{map, not}
+use Rattle.std.proofs.Common.{◌≡◌, ◌≢◌, ℕ, ◌+◌, ◌%◌, ◌<◌, inl, inr, Bool, true, false, if◌then◌else◌, eqb, List, [], ◌∷◌, length, get_or, set, refl, sym}
+use Rattle.std.proofs.Common.{ap, subst, ◌∙◌, arith}
 use Rattle.std.proofs.lemmas.Bool.{and_parts, and_left, both_ways, not-true, eq-eqb, eqb-true, ne_eqb, cases_lt}
 use Rattle.std.proofs.lemmas.List.{set-get_or}
+use Rattle.std.specs.Prelude.{map, not}
 use mathlib.Core.Option.{some, none}
 use lib.ListN.{get_elem?}
 use Rattle.atomic_table.specs.Table.{State, Me, step, keeps, Allows}
 use Rattle.atomic_table.proofs.Lists.{set_here}
 use Rattle.sci_packets.specs.declared.packet.Packet.{Packet}
-use Rattle.sci_core.specs.Size.{Size}
-use Rattle.sci_core.specs.Node.{NodeOf}
+use Rattle.sci_core.specs.{Size.{Size}, Node.{NodeOf}, Core.{Core, lane_at, run}, Reached.{IsReached}}
 use Rattle.sci_words.specs.declared.event.Event.{Event}
 use Rattle.sci_cache.specs.Cache.{Letter, letter_of}
-use Rattle.sci_core.specs.Core.{Core, lane_at, run}
-use Rattle.sci_core.specs.Reached.{IsReached}
 use Rattle.sci_core.proofs.Step.Stepping.{if_false}
-use Rattle.sci_lanes.specs.declared.view.Outbound.{Outbound}
-use Rattle.sci_lanes.specs.declared.view.Inbound.{Inbound}
-use Rattle.sci_lanes.specs.declared.view.Part.{Part}
-use Rattle.sci_lanes.specs.declared.view.View.{View}
+use Rattle.sci_lanes.specs.declared.view.{Outbound.{Outbound}, Inbound.{Inbound}, Part.{Part}, View.{View}}
 use Rattle.sci_lanes.specs.Cells.{cell_place, lane_count, sender_of, receiver_of, word_at}
 use Rattle.sci_lanes.specs.Shown.{AreEnabled, Fits, ShowsLane, Whole, nodes_of, me_of, single, informed, outbound_at, inbound_at, IsKnown, Shows, IsKept}
 use Rattle.sci_lanes.specs.Knowing.{has_sent_more, is_sending, is_receiving, looked_out, looked_in, looked, with_lane_known}
-use Rattle.sci_lanes.specs.Telling.{IsShown, IsSameNode, Tells, size_in}
-use Rattle.sci_lanes.specs.Plays.{lane_in, number_in, index_in, Looks}
-use Rattle.sci_lanes.proofs.Words.{same_cell}
-use Rattle.sci_lanes.proofs.LaneSteps.{first_full, out_looked, in_looked, sender_finds_empty}
-use Rattle.sci_lanes.proofs.Keeping.{no_further, within}
-use Rattle.sci_lanes.proofs.Turning.{IsTurn, turned_whole, lane_step}
+use Rattle.sci_lanes.specs.{Telling.{IsShown, IsSameNode, Tells, size_in}, Plays.{lane_in, number_in, index_in, Looks}}
+use Rattle.sci_lanes.proofs.{Words.{same_cell}, LaneSteps.{first_full, out_looked, in_looked, sender_finds_empty}}
+use Rattle.sci_lanes.proofs.{Keeping.{no_further, within}, Turning.{IsTurn, turned_whole, lane_step}}
 use Rattle.sci_lanes.proofs.Facts.{lane_length, known_part, shown}
 
 -- ---- places of words

@@ -1,33 +1,25 @@
 -- What the calls of an end need and tell.
 use Rattle.std.proofs.Common.{◌≡◌, ℕ, ◌/◌, ◌%◌, ◌<◌, List, [], ◌∷◌, length, get_or, Option, Some, None, refl, sym, ap, subst, ◌∙◌, true, arith}
-use Rattle.std.specs.Prelude.{is_some, slice_get, Result, Ok, Err}
 use Rattle.std.proofs.lemmas.List.{get_or_read}
-use Rattle.sci_words.specs.declared.event.Event.{Event}
-use Rattle.sci_words.specs.declared.event.Event.TheVariants as event
-use Rattle.sci_packets.specs.declared.packet.Packet.{Packet}
-use Rattle.sci_packets.specs.Spelling.{SpellsInWords}
+use Rattle.std.specs.Prelude.{is_some, slice_get, Result, Ok, Err}
+use Rattle.sci_words.specs.declared.{event.Event.{Event}, operation.Op.{Op}}
+use Rattle.sci_packets.specs.{declared.packet.Packet.{Packet}, Spelling.{SpellsInWords}}
 use Rattle.sci_packets.proofs.Whole.{one_by_words}
-use Rattle.sci_cache.specs.Cache.{Letter, letter_of, line_of}
-use Rattle.sci_cache.specs.State.{waits}
-use Rattle.sci_core.specs.declared.lane.LaneKind.{LaneKind}
-use Rattle.sci_core.specs.declared.lane.LaneKind.TheVariants.{Requests, Answers}
-use Rattle.sci_words.specs.declared.operation.Op.{Op}
+use Rattle.sci_cache.specs.{Cache.{Letter, letter_of, line_of}, State.{waits}}
+use Rattle.sci_core.specs.declared.lane.LaneKind.{LaneKind, TheVariants.{Requests, Answers}}
 use Rattle.sci_core.specs.Node.{NodeOf, IsForNode, IsServable, lines_of, node_issuing}
 use Rattle.sci_core.specs.Core.{Core, node_at, lane_at, lane_of, lane_place, Side, Takes, changes, side}
 use Rattle.sci_core.specs.Reached.{IsReached}
-use Rattle.sci_core.proofs.Step.Applied.{servable, acceptable}
-use Rattle.sci_core.proofs.Tidy.Enabled.{request_enabled}
+use Rattle.sci_core.proofs.{Step.Applied.{servable, acceptable}, Tidy.Enabled.{request_enabled}}
 use Rattle.sci_core.proofs.WellFormed.WellFormedSteps.{reached_well}
-use Rattle.sci_lanes.specs.declared.cell.CellId.{CellId}
-use Rattle.sci_lanes.specs.declared.view.Part.{Part}
-use Rattle.sci_lanes.specs.Cells.{lane_count, receiver_of}
+use Rattle.sci_lanes.specs.{declared.{cell.CellId.{CellId}, view.Part.{Part}}, Cells.{lane_count, receiver_of}}
 use Rattle.sci_lanes.specs.Shown.{informed, me_of, outbound_at, inbound_at}
 use Rattle.sci_lanes.specs.Telling.{IsFront, IsFull, IsShown, IsSending, IsTaking, SomeLineWaits}
-use Rattle.sci_lanes.specs.Ends.{nodes_in, lane_at_cell, IsNextToSend, IsNextToTake, MayPublish, MayFree, MayBeat, node_after, taken_by, MayBeGiven, FitsInside}
-use Rattle.sci_lanes.proofs.Seats.{IsInLane, takes_in, shown_nodes}
-use Rattle.sci_lanes.proofs.Events.{sent_place, takes_what}
-use Rattle.sci_lanes.proofs.LaneSteps.{words_some as words_some_of}
-use Rattle.sci_lanes.proofs.Inside.{inbox_within}
+use Rattle.sci_lanes.specs.Ends.{nodes_in, lane_at_cell, IsNextToSend, IsNextToTake, MayPublish, MayFree, MayBeat, node_after, taken_by, MayBeGiven}
+use Rattle.sci_lanes.specs.Ends.{FitsInside}
+use Rattle.sci_lanes.proofs.{Seats.{IsInLane, takes_in, shown_nodes}, Events.{sent_place, takes_what}}
+use Rattle.sci_lanes.proofs.{LaneSteps.{words_some as words_some_of}, Inside.{inbox_within}}
+use Rattle.sci_words.specs.declared.event.Event.TheVariants as event
 
 -- ---- the next cells
 

@@ -3,17 +3,12 @@ use Rattle.std.proofs.Common.{◌≡◌, ℕ, ◌+◌, ◌%◌, ◌<◌, ◌≤�
 use Rattle.std.proofs.lemmas.List.{set-get_or}
 use mathlib.Core.Option.{none}
 use Rattle.atomic_table.specs.Table.{step, Allows}
-use Rattle.sci_core.specs.Size.{Size}
-use Rattle.sci_core.specs.Core.{lane_at}
-use Rattle.sci_lanes.specs.declared.view.Outbound.{Outbound}
-use Rattle.sci_lanes.specs.declared.view.Inbound.{Inbound}
-use Rattle.sci_lanes.specs.declared.view.Part.{Part}
+use Rattle.sci_core.specs.{Size.{Size}, Core.{lane_at}}
+use Rattle.sci_lanes.specs.declared.view.{Outbound.{Outbound}, Inbound.{Inbound}, Part.{Part}}
 use Rattle.sci_lanes.specs.Cells.{cell_place, lane_count, sender_of, receiver_of}
 use Rattle.sci_lanes.specs.Shown.{Fits, ShowsLane, Whole, nodes_of, me_of, single, informed, outbound_at, inbound_at, IsKept}
-use Rattle.sci_lanes.specs.Knowing.{filled_out, filled, read_in, read}
-use Rattle.sci_lanes.specs.Plays.{Fills, Reads}
-use Rattle.sci_lanes.proofs.Words.{same_cell, place_within}
-use Rattle.sci_lanes.proofs.LaneSteps.{out_filled, in_read}
+use Rattle.sci_lanes.specs.{Knowing.{filled_out, filled, read_in, read}, Plays.{Fills, Reads}}
+use Rattle.sci_lanes.proofs.{Words.{same_cell, place_within}, LaneSteps.{out_filled, in_read}}
 use Rattle.sci_lanes.proofs.Allowed.{lane_found, index_found, lane_goes, Goes, Owes, allows, of_whole, tells, still}
 
 -- what is known where a word of a part's next cell is filled

@@ -1,42 +1,34 @@
 -- Publishing, freeing and beating are events of the machine, and keep the rule.
 use Rattle.std.proofs.Common.{◌≡◌, ◌≢◌, ℕ, suc, ◌+◌, ◌*◌, ◌%◌, ◌^◌, ◌<◌, List, [], ◌∷◌, ◌++◌, length, get_or, set, map, Option, None, Some, refl, sym, ap}
 use Rattle.std.proofs.Common.{subst, ◌∙◌, arith, mul_assoc}
-use Rattle.std.specs.Prelude.{IsSome, unwrap_or}
-use Rattle.std.proofs.lemmas.List.{append-nil, append_assoc}
-use Rattle.std.proofs.lemmas.List.{get_or-set_same, get_or-set_other, map_push}
+use Rattle.std.proofs.lemmas.List.{append-nil, append_assoc, get_or-set_same, get_or-set_other, map_push}
 use Rattle.std.proofs.lemmas.List.Sums.{fold_push}
+use Rattle.std.specs.Prelude.{IsSome, unwrap_or}
 use mathlib.Core.Option.{none}
 use Rattle.atomic_table.specs.Table.{step, Allows}
 use Rattle.sci_words.specs.declared.event.Event.{Event}
-use Rattle.sci_packets.specs.declared.packet.Packet.{Packet}
-use Rattle.sci_packets.specs.Spelling.{IsPacket, words_of}
+use Rattle.sci_packets.specs.{declared.packet.Packet.{Packet}, Spelling.{IsPacket, words_of}}
 use Rattle.sci_packets.proofs.Whole.{one_by_words}
 use Rattle.sci_cache.specs.Cache.{Letter, letter_of}
-use Rattle.sci_core.specs.Size.{Size}
-use Rattle.sci_core.specs.declared.lane.LaneKind.{LaneKind}
+use Rattle.sci_core.specs.{Size.{Size}, declared.lane.LaneKind.{LaneKind, TheVariants.{Requests, Answers}}}
 use Rattle.sci_core.specs.Node.{NodeOf, no_node, node_accepting, node_refusing, node_serving}
 use Rattle.sci_core.specs.Core.{Core, node_at, with_node, with_lane, lane_at, lane_of, lane_place, side, node_of, sent_by, taken_as, taken_from, IsEnabled}
-use Rattle.sci_core.specs.Core.{stepping, step as machine_step, opening, run}
+use Rattle.sci_core.specs.Core.{stepping, step as machine_step, opening, run, Side, Takes, changes, performs, sends}
 use Rattle.sci_core.specs.Reached.{IsReached}
 use Rattle.sci_core.proofs.Step.Places.{place_below, place_from, place_to}
 use Rattle.sci_core.proofs.Step.Stepping.{stepping_changed, stepping_sent, stepping_takes}
 use Rattle.sci_core.proofs.WellFormed.WellFormedSteps.{reached_well, reached_stepping}
-use Rattle.sci_lanes.specs.declared.view.Outbound.{Outbound}
-use Rattle.sci_lanes.specs.declared.view.Inbound.{Inbound}
-use Rattle.sci_lanes.specs.declared.view.Part.{Part}
+use Rattle.sci_lanes.specs.declared.view.{Outbound.{Outbound}, Inbound.{Inbound}, Part.{Part}}
 use Rattle.sci_lanes.specs.Cells.{cell_place, own_place, lane_count, sender_of, receiver_of, word_at}
 use Rattle.sci_lanes.specs.Shown.{AreEnabled, Fits, ShowsLane, Whole, nodes_of, me_of, single, informed, outbound_at, inbound_at, IsKnown, IsKept}
 use Rattle.sci_lanes.specs.Knowing.{published_out, published, freed_in, freed, with_node_known}
-use Rattle.sci_words.specs.declared.event.Event.TheVariants as event_is
-use Rattle.sci_core.specs.Core.{Side, Takes, changes, performs, sends}
-use Rattle.sci_core.specs.declared.lane.LaneKind.TheVariants.{Requests, Answers}
 use Rattle.sci_lanes.specs.Telling.{IsMade, IsSending, IsTaken, IsTaking, IsBeating, lane_taken}
 use Rattle.sci_lanes.specs.Plays.{Publishes, Frees, Beats}
 use Rattle.sci_lanes.proofs.Words.{same_cell, place_within, own_apart, stored_else}
 use Rattle.sci_lanes.proofs.LaneSteps.{agreeing, out_published, in_freed, words_some}
-use Rattle.sci_lanes.proofs.Keeping.{step_shows, one_further, seen_all}
-use Rattle.sci_lanes.proofs.Facts.{known_part}
+use Rattle.sci_lanes.proofs.{Keeping.{step_shows, one_further, seen_all}, Facts.{known_part}}
 use Rattle.sci_lanes.proofs.Allowed.{lane_found, size_known, leads_here, goes, lane_goes, Goes, Owes, allows, tells}
+use Rattle.sci_words.specs.declared.event.Event.TheVariants as event_is
 
 -- ---- places of lanes
 

@@ -1,35 +1,22 @@
 -- The state that is gathered is the one that the table shows.
 use Rattle.std.proofs.Common.{◌≡◌, ℕ, ◌%◌, ◌<◌, inl, inr, List, [], length, get_or, Some, refl, sym, ap, subst, ◌∙◌, arith}
-use Rattle.std.specs.Prelude.{Vec, slice_get}
-use Rattle.std.proofs.Math.Nat.{mod-lt}
-use Rattle.std.proofs.lemmas.Bool.{cases_lt}
-use Rattle.std.proofs.lemmas.List.{ext_get_or, get_or_past}
+use Rattle.std.proofs.{Math.Nat.{mod-lt}, lemmas.{Bool.{cases_lt}, List.{ext_get_or, get_or_past}}}
 use Rattle.std.proofs.lemmas.Option.{slice_get-get_or}
-use Rattle.sci_words.specs.declared.extent.Extent.{Extent}
-use Rattle.sci_words.specs.declared.limits.TheConstants.{MAX_NODES}
-use Rattle.sci_words.specs.declared.stamped.Stamped.{Stamped}
-use Rattle.sci_history.specs.declared.entry.Entry.{Entry}
-use Rattle.sci_history.specs.Placed.{log_of}
+use Rattle.std.specs.Prelude.{Vec, slice_get}
+use Rattle.sci_words.specs.declared.{extent.Extent.{Extent}, limits.TheConstants.{MAX_NODES}, stamped.Stamped.{Stamped}}
+use Rattle.sci_history.specs.{declared.entry.Entry.{Entry}, Placed.{log_of}}
 use Rattle.sci_cache.specs.Cache.{Letter}
-use Rattle.sci_core.specs.Size.{Size, IsSize, size_of}
-use Rattle.sci_core.specs.Node.{NodeOf, no_node}
-use Rattle.sci_core.specs.Core.{Core, core_of, node_at, lane_at, run}
-use Rattle.sci_core.specs.Reached.{IsReached}
-use Rattle.sci_core.specs.Outcome.{logs_of}
+use Rattle.sci_core.specs.{Size.{Size, IsSize, size_of}, Node.{NodeOf, no_node}}
+use Rattle.sci_core.specs.{Core.{Core, core_of, node_at, lane_at, run}, Reached.{IsReached}, Outcome.{logs_of}}
 use Rattle.sci_core.specs.Sharing.{last_of}
 use Rattle.sci_core.proofs.WellFormed.WellFormedSteps.{is_size, reached_well}
 use Rattle.sci_core.proofs.ReachedLaws.{log_at, log_beyond, schedule_log}
-use Rattle.sci_lanes.specs.declared.view.Part.{Part}
-use Rattle.sci_lanes.specs.Cells.{lane_count, receiver_of, word_count}
-use Rattle.sci_lanes.specs.Shown.{AreEnabled, Fits, nodes_of, me_of, IsKnown, IsSeen}
-use Rattle.sci_lanes.specs.Telling.{no_part, size_in}
+use Rattle.sci_lanes.specs.{declared.view.Part.{Part}, Cells.{lane_count, receiver_of, word_count}}
+use Rattle.sci_lanes.specs.{Shown.{AreEnabled, Fits, nodes_of, me_of, IsKnown, IsSeen}, Telling.{no_part, size_in}}
 use Rattle.sci_lanes.specs.Ends.{EndOf, LanesOf}
-use Rattle.sci_lanes.specs.Gathering.{IsOf, AreAll, AreGathered, AreJoined, AreKept, AreLanes, AreMadeBy, HasNodes, HaveInboxTurns, HaveLogs}
-use Rattle.sci_lanes.specs.Gathering.{IsLedTo, IsStateOf}
-use Rattle.sci_lanes.specs.Gathering.{IsReadOff, TakesFrom}
-use Rattle.sci_lanes.proofs.Keeping.{all_at}
-use Rattle.sci_lanes.proofs.Events.{count_is}
-use Rattle.sci_lanes.proofs.Allowed.{size_known}
+use Rattle.sci_lanes.specs.Gathering.{IsOf, AreAll, AreGathered, AreJoined, AreKept, AreLanes, AreMadeBy, HasNodes, HaveInboxTurns, HaveLogs, IsLedTo}
+use Rattle.sci_lanes.specs.Gathering.{IsStateOf, IsReadOff, TakesFrom}
+use Rattle.sci_lanes.proofs.{Keeping.{all_at}, Events.{count_is}, Allowed.{size_known}}
 
 module _ {Z : Type 0} where
   -- every node is among the parts that were joined

@@ -1,22 +1,16 @@
 -- Joining the ends and reading the words: each step keeps the rule.
 use Rattle.std.proofs.Common.{◌≡◌, ℕ, ◌+◌, ◌<◌, inl, inr, List, [], ◌∷◌, ◌++◌, length, get_or, set, refl, sym, ap, subst, ◌∙◌, arith}
-use Rattle.std.specs.Prelude.{slice_get}
-use Rattle.std.specs.List.{AllByRecursion}
 use Rattle.std.proofs.lemmas.List.{set-get_or}
+use Rattle.std.specs.{Prelude.{slice_get}, List.{AllByRecursion}}
 use mathlib.Core.Option.{some, none, some-injective}
 use lib.ListN.{get_elem?, length-append}
 use Rattle.atomic_table.specs.Table.{Joins, Allows, State, step, keeps}
 use Rattle.atomic_table.proofs.Lists.{at_set, set_here}
-use Rattle.sci_core.specs.Size.{Size}
-use Rattle.sci_core.specs.Core.{run}
-use Rattle.sci_lanes.specs.declared.view.View.{View}
-use Rattle.sci_lanes.specs.Cells.{word_count}
+use Rattle.sci_core.specs.{Size.{Size}, Core.{run}}
+use Rattle.sci_lanes.specs.{declared.view.View.{View}, Cells.{word_count}}
 use Rattle.sci_lanes.specs.Shown.{AreEnabled, Whole, nodes_of, IsKnown, HasRead, IsCovered, Shows, IsKept}
-use Rattle.sci_lanes.specs.Ends.{no_view}
-use Rattle.sci_lanes.specs.Gathering.{Gathers, HasNodes, both_views, read_more}
-use Rattle.sci_lanes.proofs.Words.{one_more}
-use Rattle.sci_lanes.proofs.Keeping.{all_at, within}
-use Rattle.sci_lanes.proofs.Sharing.{joins, kept_owned}
+use Rattle.sci_lanes.specs.{Ends.{no_view}, Gathering.{Gathers, HasNodes, both_views, read_more}}
+use Rattle.sci_lanes.proofs.{Words.{one_more}, Keeping.{all_at, within}, Sharing.{joins, kept_owned}}
 
 -- ---- joining
 

@@ -1,22 +1,16 @@
 -- How the fields of an end fit together after each call.
-use Rattle.std.proofs.Common.{◌≡◌, ◌≢◌, ℕ, ◌+◌, ◌*◌, ◌/◌, ◌%◌, ◌<◌, inl, inr, Bool, true, false, if◌then◌else◌, List, length, get_or, set, refl, sym, ap, subst}
-use Rattle.std.proofs.Common.{◌∙◌, arith}
-use Rattle.std.proofs.lemmas.Bool.{cases_eq}
-use Rattle.std.proofs.Math.Nat.{div-lt_iff_lt-mul, div-add-mod}
-use Rattle.std.proofs.Common.{mul_assoc}
+use Rattle.std.proofs.Common.{◌≡◌, ◌≢◌, ℕ, ◌+◌, ◌*◌, ◌/◌, ◌%◌, ◌<◌, inl, inr, Bool, true, false, if◌then◌else◌, List, length, get_or, set, refl, sym, ap}
+use Rattle.std.proofs.{Common.{subst, ◌∙◌, arith, mul_assoc}, lemmas.Bool.{cases_eq}}
 use Rattle.std.proofs.lemmas.List.{length-set, get_or-set_same, get_or-set_other}
+use Rattle.std.proofs.Math.Nat.{div-lt_iff_lt-mul, div-add-mod}
 use Rattle.sci_core.specs.Node.{NodeOf}
-use Rattle.sci_lanes.specs.declared.cell.CellId.{CellId}
-use Rattle.sci_lanes.specs.declared.view.Outbound.{Outbound}
-use Rattle.sci_lanes.specs.declared.view.Inbound.{Inbound}
-use Rattle.sci_lanes.specs.declared.view.Part.{Part}
+use Rattle.sci_lanes.specs.declared.{cell.CellId.{CellId}, view.{Outbound.{Outbound}, Inbound.{Inbound}, Part.{Part}}}
 use Rattle.sci_lanes.specs.Cells.{lane_count, receiver_of, lane_number}
-use Rattle.sci_words.specs.declared.event.Event.{Event}
 use Rattle.sci_lanes.specs.Shown.{me_of, informed, no_outbound, no_inbound, outbound_at, inbound_at}
-use Rattle.sci_lanes.specs.Knowing.{has_sent_more, with_lane_known, looked_in, looked_out, looked, is_sending, is_receiving, filled, filled_out, read, read_in}
-use Rattle.sci_lanes.specs.Knowing.{published, published_out, freed, freed_in}
-use Rattle.sci_lanes.specs.Telling.{IsShown, IsSameNode}
+use Rattle.sci_lanes.specs.Knowing.{has_sent_more, with_lane_known, looked_in, looked_out, looked, is_sending, is_receiving, filled, filled_out, read}
+use Rattle.sci_lanes.specs.{Knowing.{read_in, published, published_out, freed, freed_in}, Telling.{IsShown, IsSameNode}}
 use Rattle.sci_lanes.specs.Ends.{nodes_in, lane_at_cell, FitsInside}
+use Rattle.sci_words.specs.declared.event.Event.{Event}
 use Rattle.sci_lanes.proofs.Seats.{IsInLane}
 
 -- ---- places of inboxes

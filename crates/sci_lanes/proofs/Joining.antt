@@ -1,15 +1,10 @@
 -- Joining the ends, one after another in the order of their nodes.
-use Rattle.std.proofs.Common.{◌≡◌, ℕ, zero, suc, ◌+◌, ◌<◌, ◌≤◌, ◌⊎◌, inl, inr, List, [], ◌∷◌, ◌++◌, length, get_or, Some, refl, sym, ap, subst, ◌∙◌, arith, map}
-use Rattle.std.specs.Prelude.{Vec, slice_get}
-use Rattle.std.specs.List.{remove}
-use Rattle.std.proofs.lemmas.Bool.{cases_lt}
-use Rattle.std.proofs.lemmas.List.{length_push, get_or_append_left, get_or_push}
+use Rattle.std.proofs.Common.{◌≡◌, ℕ, zero, suc, ◌+◌, ◌<◌, ◌≤◌, ◌⊎◌, inl, inr, List, [], ◌∷◌, ◌++◌, length, get_or, Some, refl, sym, ap, subst, ◌∙◌, arith}
+use Rattle.std.proofs.{Common.{map}, lemmas.{Bool.{cases_lt}, List.{length_push, get_or_append_left, get_or_push}}}
+use Rattle.std.specs.{Prelude.{Vec, slice_get}, List.{remove}}
 use Rattle.atomic_table.specs.Seated.{TableId}
 use Rattle.sci_core.specs.Node.{NodeOf, no_node}
-use Rattle.sci_lanes.specs.declared.view.Part.{Part}
-use Rattle.sci_lanes.specs.Shown.{me_of}
-use Rattle.sci_lanes.specs.Telling.{no_part}
-use Rattle.sci_lanes.specs.Ends.{EndOf, nodes_in}
+use Rattle.sci_lanes.specs.{declared.view.Part.{Part}, Shown.{me_of}, Telling.{no_part}, Ends.{EndOf, nodes_in}}
 use Rattle.sci_lanes.specs.Gathering.{HasEndOf, HasTurns, IsJoinedAt, AreJoined, AreKept}
 use Rattle.sci_core.proofs.Basics.Options.{same_some}
 

@@ -1,17 +1,14 @@
 -- What keeps words and views showing a state.
 use Rattle.std.proofs.Common.{◌≡◌, ◌≢◌, ℕ, zero, suc, ◌<◌, inl, inr, eqb, if◌then◌else◌, List, [], ◌∷◌, ◌++◌, length, set, Some, refl, sym, ap, subst, ◌∙◌}
-use Rattle.std.proofs.Common.{arith, eq-eqb, ne_eqb}
-use Rattle.std.specs.Prelude.{slice_get}
-use Rattle.std.specs.List.{AllByRecursion}
-use Rattle.std.proofs.lemmas.Bool.{cases_eq}
+use Rattle.std.proofs.{Common.{arith, eq-eqb, ne_eqb}, lemmas.Bool.{cases_eq}}
 use Rattle.std.proofs.lemmas.List.{append-nil, append_assoc, length-set}
+use Rattle.std.specs.{Prelude.{slice_get}, List.{AllByRecursion}}
 use Rattle.sci_words.specs.declared.event.Event.{Event}
 use mathlib.Core.Option.{some, some-injective, some-ne-none}
 use lib.ListN.{get_elem?}
 use Rattle.atomic_table.proofs.Lists.{at_set, set_here, set_else}
 use Rattle.sci_core.specs.Core.{node_at, node_of, lane_at}
-use Rattle.sci_lanes.specs.declared.view.Part.{Part}
-use Rattle.sci_lanes.specs.declared.view.View.{View}
+use Rattle.sci_lanes.specs.declared.view.{Part.{Part}, View.{View}}
 use Rattle.sci_lanes.specs.Cells.{lane_count, sender_of, receiver_of, word_count}
 use Rattle.sci_lanes.specs.Shown.{Whole, nodes_of, me_of, single, ShowsLane, IsKnown, IsSeen, HasRead, IsCovered, Shows}
 use Rattle.sci_core.proofs.Basics.Options.{same_some}

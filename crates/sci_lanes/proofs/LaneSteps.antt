@@ -1,16 +1,12 @@
 -- What each kind of step does to the words of a lane and to what its ends know of it.
 use Rattle.std.proofs.Common.{◌≡◌, ◌≢◌, ℕ, zero, suc, ◌+◌, ◌-◌, ◌<◌, ◌≤◌, inl, inr, Bool, true, false, eqb, List, [], ◌∷◌, ◌++◌, length, get_or, set, take}
 use Rattle.std.proofs.Common.{Some, refl, sym, ap, subst, ◌∙◌, arith}
-use Rattle.std.specs.Prelude.{slice_get}
 use Rattle.std.proofs.lemmas.Bool.{cases_lt, eqb-true, eqb-false, ne_eqb}
-use Rattle.std.proofs.lemmas.List.{length-take-le, length_push, get_or-take}
-use Rattle.std.proofs.lemmas.Option.{slice_get_within}
-use Rattle.sci_packets.specs.declared.packet.Packet.{Packet}
-use Rattle.sci_packets.specs.Spelling.{IsPacket, words_of}
+use Rattle.std.proofs.lemmas.{List.{length-take-le, length_push, get_or-take}, Option.{slice_get_within}}
+use Rattle.std.specs.Prelude.{slice_get}
+use Rattle.sci_packets.specs.{declared.packet.Packet.{Packet}, Spelling.{IsPacket, words_of}}
 use Rattle.sci_packets.proofs.WordLaws.{few_words, first_word-above}
-use Rattle.sci_lanes.specs.declared.view.Outbound.{Outbound}
-use Rattle.sci_lanes.specs.declared.view.Inbound.{Inbound}
-use Rattle.sci_lanes.specs.Cells.{cell_place, word_at}
+use Rattle.sci_lanes.specs.{declared.view.{Outbound.{Outbound}, Inbound.{Inbound}}, Cells.{cell_place, word_at}}
 use Rattle.sci_lanes.specs.Shown.{Fits}
 use Rattle.sci_lanes.specs.Knowing.{looked_out, looked_in, filled_out, read_in, published_out, freed_in, found_first}
 use Rattle.sci_lanes.proofs.Words.{one_more, other_lane, other_cell, other_index, same_cell, stored_else, stored_here, at_end}

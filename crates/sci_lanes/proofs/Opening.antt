@@ -1,32 +1,21 @@
 -- The table at the beginning, and its ends.
-use Rattle.std.proofs.Common.{◌≡◌, ◌≢◌, ℕ, zero, suc, ◌+◌, ◌-◌, ◌*◌, ◌/◌, ◌%◌, ◌<◌, ◌≤◌, ◌⊎◌, inl, inr, List, [], ◌∷◌, ◌++◌, length, get_or, map, take, drop}
-use Rattle.std.proofs.Common.{replicate, Some, None, refl, sym, ap, subst, ◌∙◌, arith}
-use Rattle.std.specs.Prelude.{slice_get}
-use Rattle.std.specs.List.{AllByRecursion, range_with_len}
-use Rattle.std.proofs.lemmas.Bool.{cases_lt}
+use Rattle.std.proofs.Common.{◌≡◌, ◌≢◌, ℕ, zero, suc, ◌+◌, ◌-◌, ◌*◌, ◌/◌, ◌%◌, ◌<◌, ◌≤◌, ◌⊎◌, inl, inr, List, [], ◌∷◌, ◌++◌, length, get_or, map, take}
+use Rattle.std.proofs.{Common.{drop, replicate, Some, None, refl, sym, ap, subst, ◌∙◌, arith}, lemmas.Bool.{cases_lt}}
 use Rattle.std.proofs.lemmas.List.{get_or-replicate, get_or_past, length-replicate}
 use Rattle.std.proofs.lemmas.List.FromFn.{get_or-map-range_with_len, map-range_with_len_more}
+use Rattle.std.specs.{Prelude.{slice_get}, List.{AllByRecursion, range_with_len}}
 use mathlib.Core.Option.{some, some-injective, some-ne-none}
 use lib.ListN.{get_elem?}
-use Rattle.atomic_table.specs.Table.{Splits, opening as opening_state}
-use Rattle.sci_cache.specs.Cache.{Letter}
-use Rattle.atomic_table.specs.Table.{Me}
-use Rattle.atomic_table.specs.Seated.{TableId}
-use Rattle.sci_words.specs.declared.extent.Extent.{Extent}
-use Rattle.sci_words.specs.declared.limits.TheConstants.{MAX_OPERATIONS}
-use Rattle.sci_cache.specs.Line.{untouched}
-use Rattle.sci_core.specs.Size.{Size, size_of, IsMachineSize}
-use Rattle.sci_core.specs.Node.{NodeOf, opening_node, no_node}
-use Rattle.sci_core.specs.Core.{node_at, lane_at, opening}
-use Rattle.sci_core.specs.Reached.{IsReached}
-use Rattle.sci_lanes.specs.declared.view.Part.{Part}
-use Rattle.sci_lanes.specs.declared.view.View.{View}
-use Rattle.sci_lanes.specs.Cells.{cell_place, lane_count, word_count}
+use Rattle.atomic_table.specs.{Table.{Splits, opening as opening_state, Me}, Seated.{TableId}}
+use Rattle.sci_cache.specs.{Cache.{Letter}, Line.{untouched}}
+use Rattle.sci_words.specs.declared.{extent.Extent.{Extent}, limits.TheConstants.{MAX_OPERATIONS}}
+use Rattle.sci_core.specs.{Size.{Size, size_of, IsMachineSize}, Node.{NodeOf, opening_node, no_node}}
+use Rattle.sci_core.specs.{Core.{node_at, lane_at, opening}, Reached.{IsReached}}
+use Rattle.sci_lanes.specs.{declared.view.{Part.{Part}, View.{View}}, Cells.{cell_place, lane_count, word_count}}
 use Rattle.sci_lanes.specs.Shown.{Fits, Whole, me_of, no_outbound, no_inbound, single, opening_part, first_view, IsKnown, HasRead, IsKept}
 use Rattle.sci_lanes.specs.Telling.{IsShown, part_of, size_in}
 use Rattle.sci_lanes.specs.Ends.{FitsInside, rest_view, no_view, first_off, first_only, EndOf, IsSeated, opening_ends}
-use Rattle.sci_lanes.proofs.Keeping.{read_none, seen_all}
-use Rattle.sci_lanes.proofs.Sharing.{splits}
+use Rattle.sci_lanes.proofs.{Keeping.{read_none, seen_all}, Sharing.{splits}}
 
 reached_opening : (size : Size) → IsMachineSize size → IsReached (opening size)
 reached_opening size ok = record { size = ok; schedule = []; leads = refl }

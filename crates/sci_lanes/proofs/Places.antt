@@ -1,17 +1,13 @@
 -- Where the next cells to take from begin.
-use Rattle.std.proofs.Common.{◌≡◌, ℕ, ◌+◌, ◌*◌, ◌/◌, ◌%◌, ◌<◌, inl, inr, List, [], ◌∷◌, ◌++◌, length, get_or, set, sym, ap, subst, ◌∙◌, arith}
+use Rattle.std.proofs.Common.{◌≡◌, ℕ, ◌+◌, ◌*◌, ◌/◌, ◌%◌, ◌<◌, inl, inr, List, [], ◌∷◌, ◌++◌, length, get_or, set, sym, ap, subst, ◌∙◌, arith, mul_comm}
 use Rattle.std.proofs.lemmas.Bool.{cases_eq, cases_lt}
-use Rattle.std.proofs.Math.Nat.{div-add-mod}
-use Rattle.std.proofs.Common.{mul_comm}
 use Rattle.std.proofs.lemmas.List.{length-set, length_push, get_or-set_same, get_or-set_other, get_or_append_left, get_or_push}
+use Rattle.std.proofs.Math.Nat.{div-add-mod}
 use Rattle.sci_core.specs.Node.{NodeOf}
-use Rattle.sci_lanes.specs.declared.cell.CellId.{CellId}
-use Rattle.sci_lanes.specs.declared.view.Part.{Part}
-use Rattle.sci_lanes.specs.Cells.{cell_place, receiver_of, lane_number, lane_count}
-use Rattle.sci_lanes.specs.Shown.{inbound_at}
+use Rattle.sci_lanes.specs.declared.{cell.CellId.{CellId}, view.Part.{Part}}
+use Rattle.sci_lanes.specs.{Cells.{cell_place, receiver_of, lane_number, lane_count}, Shown.{inbound_at}}
 use Rattle.sci_lanes.specs.Ends.{ArePlaces, FitsInside, IsNextToTake, lane_at_cell}
-use Rattle.sci_lanes.proofs.Inside.{inbox_within}
-use Rattle.sci_lanes.proofs.Seats.{takes_in}
+use Rattle.sci_lanes.proofs.{Inside.{inbox_within}, Seats.{takes_in}}
 
 -- ---- the first places
 

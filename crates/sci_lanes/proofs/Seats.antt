@@ -2,26 +2,19 @@
 use Rattle.std.proofs.Common.{◌≡◌, ℕ, List, ◌+◌, ◌%◌, ◌^◌, ◌<◌, ◌⊎◌, inl, inr, true, [], sym, ap, subst, ◌∙◌, arith}
 use Rattle.std.proofs.lemmas.Bool.{and_from, eq-eqb}
 use mathlib.Core.Option.{none}
-use Rattle.atomic_table.specs.Table.{Me, step, Allows}
-use Rattle.atomic_table.specs.Seated.{TableId}
-use Rattle.sci_words.specs.declared.extent.Extent.{Extent}
-use Rattle.sci_core.specs.Size.{size_of}
-use Rattle.sci_core.specs.Node.{NodeOf}
+use Rattle.atomic_table.specs.{Table.{Me, step, Allows}, Seated.{TableId}}
+use Rattle.sci_words.specs.declared.{extent.Extent.{Extent}, event.Event.{Event}}
+use Rattle.sci_core.specs.{Size.{size_of}, Node.{NodeOf}}
 use Rattle.sci_core.proofs.WellFormed.WellFormedSteps.{reached_well}
-use Rattle.sci_lanes.specs.declared.cell.CellId.{CellId}
-use Rattle.sci_lanes.specs.declared.view.Part.{Part}
-use Rattle.sci_lanes.specs.declared.view.View.{View}
+use Rattle.sci_lanes.specs.declared.{cell.CellId.{CellId}, view.{Part.{Part}, View.{View}}}
 use Rattle.sci_lanes.specs.Cells.{cell_place, own_place, lane_count, sender_of, receiver_of, lane_number, word_count}
-use Rattle.sci_words.specs.declared.event.Event.{Event}
 use Rattle.sci_lanes.specs.Shown.{me_of, single, informed, inbound_at, outbound_at, IsKept}
 use Rattle.sci_lanes.specs.Knowing.{is_receiving, is_sending}
 use Rattle.sci_lanes.specs.Telling.{part_of, IsShown, IsSending, IsTaking, IsBeating, Tells}
 use Rattle.sci_lanes.specs.Plays.{lane_in, number_in, index_in, LooksAt, Looks, Fills, Reads, Publishes, Frees, Beats}
 use Rattle.sci_lanes.specs.Ends.{EndOf, with_part, nodes_in, lane_at_cell, IsNextToSend, IsNextToTake, MayFill, MayRead, IsSeated}
-use Rattle.sci_lanes.proofs.Words.{place_within}
-use Rattle.sci_lanes.proofs.Allowed.{lane_found, number_found, index_found, looks}
-use Rattle.sci_lanes.proofs.Ends.{fills, reads}
-use Rattle.sci_lanes.proofs.Events.{sent_place, publishes, frees, beats}
+use Rattle.sci_lanes.proofs.{Words.{place_within}, Allowed.{lane_found, number_found, index_found, looks}}
+use Rattle.sci_lanes.proofs.{Ends.{fills, reads}, Events.{sent_place, publishes, frees, beats}}
 
 -- ---- cells
 

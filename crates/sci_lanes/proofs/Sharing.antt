@@ -1,20 +1,15 @@
 -- Splitting a seat, and joining two, keeps words and views showing the same state.
 use Rattle.std.proofs.Common.{◌≡◌, ◌≢◌, ℕ, zero, suc, ◌<◌, ◌⊎◌, inl, inr, eqb, if◌then◌else◌, List, [], ◌∷◌, ◌++◌, length, set, Some, refl, sym, ap, subst}
-use Rattle.std.proofs.Common.{◌∙◌, arith, eq-eqb, ne_eqb}
-use Rattle.std.specs.Prelude.{slice_get}
-use Rattle.std.specs.List.{AllByRecursion}
-use Rattle.std.proofs.lemmas.Bool.{cases_eq}
-use Rattle.std.proofs.lemmas.List.{length-set}
+use Rattle.std.proofs.{Common.{◌∙◌, arith, eq-eqb, ne_eqb}, lemmas.{Bool.{cases_eq}, List.{length-set}}}
+use Rattle.std.specs.{Prelude.{slice_get}, List.{AllByRecursion}}
 use mathlib.Core.Option.{some, some-injective, some-ne-none}
 use lib.ListN.{get_elem?}
 use Rattle.atomic_table.specs.Table.{State, Splits, Joins}
 use Rattle.atomic_table.proofs.Lists.{at_set, set_here, set_else, at_longer, at_last}
 use Rattle.sci_core.specs.Size.{Size}
-use Rattle.sci_lanes.specs.declared.view.Part.{Part}
-use Rattle.sci_lanes.specs.declared.view.View.{View}
+use Rattle.sci_lanes.specs.declared.view.{Part.{Part}, View.{View}}
 use Rattle.sci_lanes.specs.Shown.{Whole, nodes_of, me_of, single, IsKnown, HasRead, IsCovered, Shows, IsKept}
-use Rattle.sci_lanes.proofs.Keeping.{get_left, get_right, changed_at, changed_here, changed_else, read_none, read_nothing}
-use Rattle.sci_lanes.proofs.Keeping.{within, covered_still}
+use Rattle.sci_lanes.proofs.Keeping.{get_left, get_right, changed_at, changed_here, changed_else, read_none, read_nothing, within, covered_still}
 use Rattle.sci_core.proofs.Basics.Options.{same_some}
 use Rattle.sci_history.proofs.Order.{all_weaker, all-append}
 

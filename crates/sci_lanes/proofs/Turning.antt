@@ -1,17 +1,12 @@
 -- A step on one lane keeps words and views showing a state.
 use Rattle.std.proofs.Common.{◌≡◌, ◌≢◌, ℕ, ◌+◌, ◌<◌, inl, inr, List, length, get_or, set, refl, sym, ap, subst, ◌∙◌, arith}
-use Rattle.std.proofs.lemmas.Bool.{cases_eq}
-use Rattle.std.proofs.lemmas.Bool.Decides.{nat_tests}
+use Rattle.std.proofs.lemmas.Bool.{cases_eq, Decides.{nat_tests}}
 use Rattle.std.proofs.lemmas.List.{length-set, get_or-set_same, get_or-set_other}
 use mathlib.Core.Option.{some}
 use lib.ListN.{get_elem?}
 use Rattle.sci_words.specs.declared.event.Event.{Event}
-use Rattle.sci_core.specs.Node.{NodeOf}
-use Rattle.sci_core.specs.Core.{Core, node_at, lane_at}
-use Rattle.sci_lanes.specs.declared.view.Outbound.{Outbound}
-use Rattle.sci_lanes.specs.declared.view.Inbound.{Inbound}
-use Rattle.sci_lanes.specs.declared.view.Part.{Part}
-use Rattle.sci_lanes.specs.declared.view.View.{View}
+use Rattle.sci_core.specs.{Node.{NodeOf}, Core.{Core, node_at, lane_at}}
+use Rattle.sci_lanes.specs.declared.view.{Outbound.{Outbound}, Inbound.{Inbound}, Part.{Part}, View.{View}}
 use Rattle.sci_lanes.specs.Cells.{cell_place, lane_count, sender_of, receiver_of}
 use Rattle.sci_lanes.specs.Shown.{Whole, nodes_of, me_of, single, informed, no_outbound, no_inbound, ShowsLane, IsKnown, Shows}
 use Rattle.sci_lanes.specs.Knowing.{with_lane_known}

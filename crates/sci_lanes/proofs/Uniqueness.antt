@@ -1,23 +1,16 @@
 -- Words and views show one state.
 use Rattle.std.proofs.Common.{◌≡◌, ℕ, suc, ◌+◌, ◌*◌, ◌/◌, ◌<◌, List, [], ◌∷◌, length, map, Some, refl, sym, ap, subst, ◌∙◌, arith}
+use Rattle.std.proofs.{Math.Nat.{mod-lt}, lemmas.List.{ext_get_or}}
 use Rattle.std.specs.Prelude.{slice_get}
-use Rattle.std.proofs.Math.Nat.{mod-lt}
-use Rattle.std.proofs.lemmas.List.{ext_get_or}
 use Rattle.sci_packets.specs.declared.packet.Packet.{Packet}
 use Rattle.sci_packets.proofs.Whole.{one_by_words}
 use Rattle.sci_cache.specs.Cache.{letter_of}
-use Rattle.sci_core.specs.Node.{no_node}
-use Rattle.sci_core.specs.Core.{node_at, lane_at}
-use Rattle.sci_core.specs.Reached.{IsReached}
+use Rattle.sci_core.specs.{Node.{no_node}, Core.{node_at, lane_at}, Reached.{IsReached}}
 use Rattle.sci_core.proofs.WellFormed.WellFormedSteps.{reached_well}
-use Rattle.sci_lanes.specs.declared.view.Outbound.{Outbound}
-use Rattle.sci_lanes.specs.declared.view.Inbound.{Inbound}
-use Rattle.sci_lanes.specs.declared.view.Part.{Part}
-use Rattle.sci_lanes.specs.declared.view.View.{View}
+use Rattle.sci_lanes.specs.declared.view.{Outbound.{Outbound}, Inbound.{Inbound}, Part.{Part}, View.{View}}
 use Rattle.sci_lanes.specs.Cells.{lane_count, sender_of, receiver_of, word_at}
 use Rattle.sci_lanes.specs.Shown.{Fits, Whole, nodes_of, me_of, IsKnown, Shows}
-use Rattle.sci_lanes.proofs.Keeping.{all_at}
-use Rattle.sci_lanes.proofs.Events.{count_is}
+use Rattle.sci_lanes.proofs.{Keeping.{all_at}, Events.{count_is}}
 
 -- ---- packets
 

@@ -1,8 +1,7 @@
 -- Where the words of the table stand: four cells of eleven words for each lane, and one own word for each node.
 use Rattle.std.specs.Prelude.{ℕ, ◌+◌, ◌*◌, ◌/◌, ◌%◌, List, slice_index}
 use Rattle.sci_core.specs.Core.{lane_place}
-use Rattle.sci_lanes.specs.declared.cell.CellId.{CellId}
-use Rattle.sci_lanes.specs.declared.cell.TheConstants.{CELL_WORDS}
+use Rattle.sci_lanes.specs.declared.cell.{CellId.{CellId}, TheConstants.{CELL_WORDS}}
 use Rattle.sci_words.specs.declared.limits.TheConstants.{LANE_CELLS}
 
 -- ---- lanes, by their number among those of all pairs of nodes

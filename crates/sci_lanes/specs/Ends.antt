@@ -1,30 +1,21 @@
 -- An end of the lanes, as its owner sees it, and what each of its calls needs.
 use Rattle.std.specs.List.{range_with_len}
 use Rattle.std.specs.Prelude.{◌≡◌, ℕ, ◌+◌, ◌-◌, ◌*◌, ◌/◌, ◌%◌, ◌<◌, ◌≤◌, true, List, [], length, slice_index, map, take, drop, Option, None, Some, ◌∷◌}
-use Rattle.atomic_table.specs.Table.{Me}
-use Rattle.atomic_table.specs.Seated.{TableId}
-use Rattle.sci_words.specs.declared.extent.Extent.{Extent}
-use Rattle.sci_words.specs.declared.event.Event.{Event}
-use Rattle.sci_words.specs.declared.event.Event.TheVariants.{Issue, Perform, Serve, Refuse, Accept}
-use Rattle.sci_packets.specs.declared.packet.Packet.{Packet}
-use Rattle.sci_packets.specs.Spelling.{SpellsInWords}
+use Rattle.atomic_table.specs.{Table.{Me}, Seated.{TableId}}
+use Rattle.sci_words.specs.declared.{extent.Extent.{Extent}, event.Event.{Event}}
+use Rattle.sci_words.specs.declared.{event.Event.TheVariants.{Issue, Perform, Serve, Refuse, Accept}, operation.Op.{Op}}
+use Rattle.sci_words.specs.declared.limits.TheConstants.{LANE_CELLS}
+use Rattle.sci_packets.specs.{declared.packet.Packet.{Packet}, Spelling.{SpellsInWords}}
 use Rattle.sci_cache.specs.Cache.{Letter, letter_of}
-use Rattle.sci_core.specs.Size.{Size, size_of}
-use Rattle.sci_words.specs.declared.operation.Op.{Op}
-use Rattle.sci_history.specs.declared.entry.Entry.{Entry}
-use Rattle.sci_core.specs.Node.{NodeOf, IsForNode, IsServable, node_issuing, node_performing}
-use Rattle.sci_core.specs.Work.{IsIssued, IsLogged}
-use Rattle.sci_core.specs.Core.{Side, Changes, Sends, Takes, side, node_of}
-use Rattle.sci_lanes.specs.declared.cell.CellId.{CellId}
-use Rattle.sci_lanes.specs.declared.cell.TheConstants.{CELL_WORDS}
-use Rattle.sci_lanes.specs.declared.view.Part.{Part}
-use Rattle.sci_lanes.specs.declared.view.View.{View}
+use Rattle.sci_core.specs.{Size.{Size, size_of}, Node.{NodeOf, IsForNode, IsServable, node_issuing, node_performing}}
+use Rattle.sci_core.specs.{Work.{IsIssued, IsLogged}, Core.{Side, Changes, Sends, Takes, side, node_of}}
 use Rattle.sci_core.specs.declared.lane.LaneKind.{LaneKind}
+use Rattle.sci_history.specs.declared.entry.Entry.{Entry}
+use Rattle.sci_lanes.specs.declared.{cell.{CellId.{CellId}, TheConstants.{CELL_WORDS}}, view.{Part.{Part}, View.{View}}}
 use Rattle.sci_lanes.specs.Cells.{cell_place, lane_count, receiver_of, lane_number, word_count}
 use Rattle.sci_lanes.specs.Shown.{outbound_at, inbound_at, me_of, single, informed, IsSeen, opening_part}
 use Rattle.sci_lanes.specs.Knowing.{looked, filled, read, published, freed, with_node_known}
 use Rattle.sci_lanes.specs.Telling.{part_of, size_in, IsMade, IsShown}
-use Rattle.sci_words.specs.declared.limits.TheConstants.{LANE_CELLS}
 
 -- which table it is of, and what it knows
 pub record EndOf : Type 0 where

@@ -1,33 +1,19 @@
 -- Gathering: all ends are joined, and the state that their lanes show is read.
-use Rattle.std.specs.Prelude.{◌≡◌, ℕ, ◌+◌, ◌*◌, ◌/◌, ◌%◌, ◌<◌, ◌≤◌, ◌⊎◌, List, [], ◌∷◌, ◌++◌, filter, length, map, slice_get, slice_index, slice_index_or, Some}
-use Rattle.std.specs.Prelude.{Vec, vec_len, vec_capacity}
-use Rattle.std.specs.List.{AllByRecursion}
+use Rattle.std.specs.Prelude.{◌≡◌, ℕ, ◌+◌, ◌*◌, ◌/◌, ◌%◌, ◌<◌, ◌≤◌, ◌⊎◌, List, [], ◌∷◌, ◌++◌, filter, length, map, slice_get, slice_index, slice_index_or}
+use Rattle.std.specs.{Prelude.{Some, Vec, vec_len, vec_capacity}, List.{AllByRecursion}}
 use Rattle.std.specs.VecDeque.{deque_len, deque_capacity}
 use Rattle.atomic_table.specs.Table.{Me, Step}
-use Rattle.sci_history.specs.declared.entry.Entry.{Entry}
-use Rattle.sci_history.specs.Placed.{is_of_node, log_of}
-use Rattle.sci_words.specs.declared.stamped.Stamped.{Stamped}
-use Rattle.sci_words.specs.declared.event.Event.{Event}
-use Rattle.sci_packets.specs.declared.packet.Packet.{Packet}
-use Rattle.sci_packets.specs.Spelling.{IsPacket, words_of}
-use Rattle.sci_cache.specs.Cache.{Letter, letter_of}
-use Rattle.sci_core.specs.Size.{Size}
-use Rattle.sci_core.specs.Node.{NodeOf, no_node}
-use Rattle.sci_core.specs.Core.{Core, node_at, lane_at, run}
-use Rattle.sci_core.specs.Done.{done}
-use Rattle.sci_core.specs.Reached.{IsReached}
-use Rattle.sci_core.specs.Outcome.{logs_of}
-use Rattle.sci_core.specs.Sharing.{last_of}
-use Rattle.sci_lanes.specs.declared.gather.Room.{Room}
-use Rattle.sci_lanes.specs.declared.view.Inbound.{Inbound}
-use Rattle.sci_lanes.specs.declared.view.Outbound.{Outbound}
-use Rattle.sci_lanes.specs.declared.view.Part.{Part}
-use Rattle.sci_lanes.specs.declared.view.View.{View}
-use Rattle.sci_lanes.specs.Cells.{lane_count, receiver_of, word_count}
-use Rattle.sci_lanes.specs.Shown.{Fits, ShowsLane, Whole, nodes_of, me_of, inbound_at, AreEnabled, IsKnown, IsSeen, HasRead}
-use Rattle.sci_lanes.specs.Telling.{no_part, size_in}
-use Rattle.sci_lanes.specs.Ends.{EndOf, LanesOf}
+use Rattle.sci_history.specs.{declared.entry.Entry.{Entry}, Placed.{is_of_node, log_of}}
+use Rattle.sci_words.specs.declared.{stamped.Stamped.{Stamped}, event.Event.{Event}}
 use Rattle.sci_words.specs.declared.limits.TheConstants.{LANE_CELLS, MAX_NODES}
+use Rattle.sci_packets.specs.{declared.packet.Packet.{Packet}, Spelling.{IsPacket, words_of}}
+use Rattle.sci_cache.specs.Cache.{Letter, letter_of}
+use Rattle.sci_core.specs.{Size.{Size}, Node.{NodeOf, no_node}, Core.{Core, node_at, lane_at, run}, Done.{done}}
+use Rattle.sci_core.specs.{Reached.{IsReached}, Outcome.{logs_of}, Sharing.{last_of}}
+use Rattle.sci_lanes.specs.declared.{gather.Room.{Room}, view.{Inbound.{Inbound}, Outbound.{Outbound}, Part.{Part}}}
+use Rattle.sci_lanes.specs.{declared.view.View.{View}, Cells.{lane_count, receiver_of, word_count}}
+use Rattle.sci_lanes.specs.Shown.{Fits, ShowsLane, Whole, nodes_of, me_of, inbound_at, AreEnabled, IsKnown, IsSeen, HasRead}
+use Rattle.sci_lanes.specs.{Telling.{no_part, size_in}, Ends.{EndOf, LanesOf}}
 
 -- ---- the ends that are given
 

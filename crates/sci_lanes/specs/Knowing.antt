@@ -1,11 +1,8 @@
 -- What each kind of step does to what a part knows.
 use Rattle.std.specs.Prelude.{ℕ, ◌+◌, ◌-◌, ◌%◌, Bool, false, not, ◌==◌, ◌&&◌, if◌then◌else◌, List, [], ◌∷◌, ◌++◌, take, slice_set}
 use Rattle.sci_core.specs.Node.{NodeOf}
-use Rattle.sci_lanes.specs.declared.view.Outbound.{Outbound}
-use Rattle.sci_lanes.specs.declared.view.Inbound.{Inbound}
-use Rattle.sci_lanes.specs.declared.view.Part.{Part}
-use Rattle.sci_lanes.specs.Cells.{sender_of, receiver_of}
-use Rattle.sci_lanes.specs.Shown.{outbound_at, inbound_at, me_of}
+use Rattle.sci_lanes.specs.declared.view.{Outbound.{Outbound}, Inbound.{Inbound}, Part.{Part}}
+use Rattle.sci_lanes.specs.{Cells.{sender_of, receiver_of}, Shown.{outbound_at, inbound_at, me_of}}
 use Rattle.sci_words.specs.declared.limits.TheConstants.{LANE_CELLS}
 
 -- ---- one end of a lane

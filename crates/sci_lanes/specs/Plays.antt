@@ -2,16 +2,11 @@
 -- number in the cell.
 use Rattle.std.specs.Prelude.{◌*◌, ◌≡◌, ◌≢◌, ℕ, ◌/◌, ◌%◌, true, []}
 use Rattle.atomic_table.specs.Table.{Me, Step}
-use Rattle.sci_words.specs.declared.event.Event.{Event}
-use Rattle.sci_core.specs.Core.{lane_at}
-use Rattle.sci_core.specs.Node.{NodeOf}
-use Rattle.sci_lanes.specs.declared.view.Part.{Part}
-use Rattle.sci_lanes.specs.declared.view.View.{View}
+use Rattle.sci_words.specs.declared.{event.Event.{Event}, limits.TheConstants.{LANE_CELLS}}
+use Rattle.sci_core.specs.{Core.{lane_at}, Node.{NodeOf}}
+use Rattle.sci_lanes.specs.declared.{view.{Part.{Part}, View.{View}}, cell.TheConstants.{CELL_WORDS}}
 use Rattle.sci_lanes.specs.Knowing.{is_receiving, is_sending, looked, filled, read, published, freed, with_node_known}
-use Rattle.sci_lanes.specs.Shown.{IsSeen, informed}
-use Rattle.sci_lanes.specs.Telling.{part_of, state_of, Tells, IsFull, IsMade, IsTaken}
-use Rattle.sci_lanes.specs.declared.cell.TheConstants.{CELL_WORDS}
-use Rattle.sci_words.specs.declared.limits.TheConstants.{LANE_CELLS}
+use Rattle.sci_lanes.specs.{Shown.{IsSeen, informed}, Telling.{part_of, state_of, Tells, IsFull, IsMade, IsTaken}}
 
 abbrev pub lane_in : ℕ → ℕ
 lane_in place = place / (LANE_CELLS * CELL_WORDS)

@@ -1,25 +1,17 @@
 -- What words and views show: the state of a machine.
-use Rattle.std.specs.Prelude.{◌≡◌, ◌≢◌, ◌++◌, ℕ, suc, ◌+◌, ◌<◌, ◌≤◌, true, false, List, [], ◌∷◌, map, length, replicate, slice_index, slice_index_or, slice_get}
-use Rattle.std.specs.Prelude.{Some}
-use Rattle.std.specs.List.{AllByRecursion, range_with_len}
+use Rattle.std.specs.Prelude.{◌≡◌, ◌≢◌, ◌++◌, ℕ, suc, ◌+◌, ◌<◌, ◌≤◌, true, false, List, [], ◌∷◌, map, length, replicate, slice_index, slice_index_or}
+use Rattle.std.specs.{Prelude.{slice_get, Some}, List.{AllByRecursion, range_with_len}}
 use mathlib.Core.Option.{some}
 use lib.ListN.{get_elem?}
 use Rattle.atomic_table.specs.Table.{State}
-use Rattle.sci_words.specs.declared.event.Event.{Event}
-use Rattle.sci_packets.specs.declared.packet.Packet.{Packet}
-use Rattle.sci_packets.specs.Spelling.{IsPacket, words_of}
+use Rattle.sci_words.specs.declared.{event.Event.{Event}, limits.TheConstants.{LANE_CELLS}}
+use Rattle.sci_packets.specs.{declared.packet.Packet.{Packet}, Spelling.{IsPacket, words_of}}
 use Rattle.sci_cache.specs.Cache.{Letter, letter_of}
-use Rattle.sci_core.specs.Size.{Size}
-use Rattle.sci_core.specs.Node.{opening_node}
-use Rattle.sci_core.specs.Core.{Core, IsEnabled, node_at, node_of, lane_at, run}
+use Rattle.sci_core.specs.{Size.{Size}, Node.{opening_node}, Core.{Core, IsEnabled, node_at, node_of, lane_at, run}}
 use Rattle.sci_core.specs.Reached.{IsReached}
-use Rattle.sci_lanes.specs.declared.view.Outbound.{Outbound}
-use Rattle.sci_lanes.specs.declared.view.Inbound.{Inbound}
-use Rattle.sci_lanes.specs.declared.view.Part.{Part}
-use Rattle.sci_lanes.specs.declared.view.View.{View}
-use Rattle.sci_lanes.specs.Cells.{lane_count, sender_of, receiver_of, word_at, word_count}
+use Rattle.sci_lanes.specs.declared.view.{Outbound.{Outbound}, Inbound.{Inbound}, Part.{Part}, View.{View}}
 use Rattle.sci_lanes.specs.declared.cell.TheConstants.{CELL_WORDS}
-use Rattle.sci_words.specs.declared.limits.TheConstants.{LANE_CELLS}
+use Rattle.sci_lanes.specs.Cells.{lane_count, sender_of, receiver_of, word_at, word_count}
 
 -- ---- what a part knows of a lane
 

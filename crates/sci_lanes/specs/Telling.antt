@@ -1,23 +1,16 @@
 -- What a part of a state tells of it, and what a step needs.
 use Rattle.std.specs.Prelude.{◌≡◌, ℕ, ◌+◌, ◌<◌, ◌≤◌, true, List, [], ◌∷◌, ◌++◌, length, slice_index, slice_index_or, Option, Some}
 use Rattle.atomic_table.specs.Table.{Me}
-use Rattle.sci_words.specs.declared.event.Event.{Event}
-use Rattle.sci_packets.specs.declared.packet.Packet.{Packet}
-use Rattle.sci_packets.specs.Spelling.{IsPacket, SpellsInWords, words_of}
-use Rattle.sci_cache.specs.Cache.{Letter, letter_of, line_of}
-use Rattle.sci_cache.specs.State.{waits}
-use Rattle.sci_words.specs.declared.event.Event.TheVariants.{Serve, Refuse, Accept}
-use Rattle.sci_core.specs.declared.lane.LaneKind.{LaneKind}
-use Rattle.sci_core.specs.declared.lane.LaneKind.TheVariants.{Requests, Answers}
-use Rattle.sci_core.specs.Size.{Size}
+use Rattle.sci_words.specs.declared.event.Event.{Event, TheVariants.{Serve, Refuse, Accept}}
+use Rattle.sci_words.specs.declared.limits.TheConstants.{LANE_CELLS}
+use Rattle.sci_packets.specs.{declared.packet.Packet.{Packet}, Spelling.{IsPacket, SpellsInWords, words_of}}
+use Rattle.sci_cache.specs.{Cache.{Letter, letter_of, line_of}, State.{waits}}
+use Rattle.sci_core.specs.{declared.lane.LaneKind.{LaneKind, TheVariants.{Requests, Answers}}, Size.{Size}}
 use Rattle.sci_core.specs.Node.{NodeOf, lines_of, no_node}
 use Rattle.sci_core.specs.Core.{Core, Sends, Takes, Changes, side, node_of, node_at, lane_at, lane_of, lane_place, run, stepping}
 use Rattle.sci_core.specs.Reached.{IsReached}
-use Rattle.sci_lanes.specs.declared.view.Part.{Part}
-use Rattle.sci_lanes.specs.declared.view.View.{View}
-use Rattle.sci_lanes.specs.Cells.{lane_count, sender_of, receiver_of}
+use Rattle.sci_lanes.specs.{declared.view.{Part.{Part}, View.{View}}, Cells.{lane_count, sender_of, receiver_of}}
 use Rattle.sci_lanes.specs.Shown.{outbound_at, inbound_at, me_of, single, informed, AreEnabled, AreOfOthers}
-use Rattle.sci_words.specs.declared.limits.TheConstants.{LANE_CELLS}
 
 -- the part of a view that has one alone
 abbrev pub no_part : Part

@@ -1,8 +1,7 @@
 //! The cells of the table.
 
 ghost use Rattle.std.specs.Prelude.{◌≡◌, ◌+◌, ◌*◌, ◌/◌, ◌<◌, ◌≤◌, IfOk, replicate};
-ghost use Rattle.sci_lanes.specs.Cells.{cell_place, lane_number, own_place};
-ghost use Rattle.sci_lanes.specs.declared.cell.TheConstants.{CELL_WORDS};
+ghost use Rattle.sci_lanes.specs.{Cells.{cell_place, lane_number, own_place}, declared.cell.TheConstants.{CELL_WORDS}};
 ghost use Rattle.sci_lanes.specs.Ends.{ArePlaces};
 
 use sci_core::LaneKind;

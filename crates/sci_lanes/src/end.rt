@@ -69,19 +69,15 @@ impl Model for LaneEnd {
 impl LaneEnd {
     ghost use Rattle.std.specs.Prelude.{◌≡◌, ◌≢◌, ◌<◌, ◌≤◌, ◌*◌, ◌⊎◌, [], IfOk, IfSome, Some, None, length, replicate};
     ghost use Rattle.sci_words.specs.declared.limits.TheConstants.{LANE_CELLS};
-    ghost use Rattle.sci_lanes.specs.Cells.{lane_count};
+    ghost use Rattle.sci_lanes.specs.{Cells.{lane_count}, Shown.{inbound_at, IsSeen, me_of}, Gathering.{HasTurns}};
+    ghost use Rattle.sci_lanes.specs.Telling.{IsMade, IsSameNode, IsShown, IsTaken, SomeLineWaits, state_of};
+    ghost use Rattle.sci_lanes.specs.Ends.{FitsInside, HasIssued, HasPerformed, IsNextToSend, IsNextToTake, LooksFor, MayBeat, MayFill, MayFree};
+    ghost use Rattle.sci_lanes.specs.Ends.{MayPublish, MayRead, after_event, beaten, filled_at, freed_at, informed_at, lane_at_cell, looked_at, nodes_in};
+    ghost use Rattle.sci_lanes.specs.Ends.{published_at, read_at, taken_by};
     ghost use Rattle.sci_packets.specs.Spelling.{SpellsInWords};
     ghost use Rattle.sci_cache.specs.Cache.{letter_of};
-    ghost use Rattle.sci_core.specs.declared.lane.LaneKind.TheVariants.{Requests};
-    ghost use Rattle.sci_core.specs.Core.{lane_of, side};
+    ghost use Rattle.sci_core.specs.{declared.lane.LaneKind.TheVariants.{Requests}, Core.{lane_of, side}};
     ghost use Rattle.sci_core.specs.Node.{node_issuing, node_performing};
-    ghost use Rattle.sci_lanes.specs.Shown.{inbound_at, IsSeen, me_of};
-    ghost use Rattle.sci_lanes.specs.Gathering.{HasTurns};
-    ghost use Rattle.sci_lanes.specs.Telling.{IsMade, IsSameNode, IsShown, IsTaken, SomeLineWaits, state_of};
-    ghost use Rattle.sci_lanes.specs.Ends.{FitsInside, HasIssued, HasPerformed, IsNextToSend, IsNextToTake, LooksFor, MayBeat, MayFill};
-    ghost use Rattle.sci_lanes.specs.Ends.{MayFree, MayPublish, MayRead, after_event, beaten};
-    ghost use Rattle.sci_lanes.specs.Ends.{filled_at, freed_at, informed_at, lane_at_cell, looked_at, nodes_in};
-    ghost use Rattle.sci_lanes.specs.Ends.{published_at, read_at, taken_by};
 
     /// The end of a node in a machine of so many nodes, in which nothing was done yet. Refused if memory is.
     pub(crate) fn new(

@@ -24,9 +24,7 @@ pub enum FinishFault {
 
 impl Lanes {
     ghost use Rattle.std.specs.Prelude.{◌≡◌, IfErr, IfOk, length, map};
-    ghost use Rattle.sci_history.specs.Audit.{AreWithin};
-    ghost use Rattle.sci_history.specs.Lawful.{Lawful};
-    ghost use Rattle.sci_history.specs.Sequential.{IsSequentiallyConsistent};
+    ghost use Rattle.sci_history.specs.{Audit.{AreWithin}, Lawful.{Lawful}, Sequential.{IsSequentiallyConsistent}};
     ghost use Rattle.sci_lanes.specs.declared.gather.FinishFault.TheVariants.{Memory, Missing};
     ghost use Rattle.sci_lanes.specs.Gathering.{AreAll, AreGathered, AreOf, HaveLogs, IsFresh, IsStateOf};
 
@@ -109,21 +107,18 @@ impl Lanes {
     }
 }
 
-ghost use Rattle.std.specs.Prelude.{◌≡◌, ◌≢◌, ℕ, ◌+◌, ◌*◌, ◌%◌, ◌<◌, ◌≤◌, true, false, [], ◌∷◌, ◌++◌, List, length, map, None, Some, IfOk, IfSome, slice_get, slice_index};
-ghost use Rattle.std.specs.List.{AllByRecursion};
+ghost use Rattle.std.specs.Prelude.{◌≡◌, ◌≢◌, ℕ, ◌+◌, ◌*◌, ◌%◌, ◌<◌, ◌≤◌, true, false, [], ◌∷◌, ◌++◌, List, length, map, None, Some, IfOk, IfSome};
+ghost use Rattle.std.specs.{Prelude.{slice_get, slice_index}, List.{AllByRecursion}};
 ghost use Rattle.std.specs.VecDeque.{deque_capacity, deque_len};
 ghost use Rattle.sci_words.specs.declared.limits.TheConstants.{LANE_CELLS, MAX_NODES};
 ghost use Rattle.sci_packets.specs.declared.packet.Packet.{Packet};
 ghost use Rattle.sci_cache.specs.Cache.{letter_of};
 ghost use Rattle.sci_core.specs.Size.{size_of};
-ghost use Rattle.sci_lanes.specs.declared.cell.TheConstants.{CELL_WORDS};
-ghost use Rattle.sci_lanes.specs.declared.view.Inbound.{Inbound};
-ghost use Rattle.sci_lanes.specs.declared.view.Outbound.{Outbound};
-ghost use Rattle.sci_lanes.specs.Cells.{lane_count, word_count};
-ghost use Rattle.sci_lanes.specs.Shown.{Fits, me_of};
-ghost use Rattle.sci_lanes.specs.Ends.{EndOf, no_view, nodes_in};
-ghost use Rattle.sci_lanes.specs.Gathering.{AreAll, AreJoined, AreKept, AreLanes, HasEndOf};
-ghost use Rattle.sci_lanes.specs.Gathering.{HasFour, HasNodes, HasRoom, HaveInboxTurns, IsFresh, IsPacketAt, IsReadOff};
+ghost use Rattle.sci_lanes.specs.declared.{cell.TheConstants.{CELL_WORDS}, view.Inbound.{Inbound}};
+ghost use Rattle.sci_lanes.specs.{declared.view.Outbound.{Outbound}, Cells.{lane_count, word_count}};
+ghost use Rattle.sci_lanes.specs.{Shown.{Fits, me_of}, Ends.{EndOf, no_view, nodes_in}};
+ghost use Rattle.sci_lanes.specs.Gathering.{AreAll, AreJoined, AreKept, AreLanes, HasEndOf, HasFour, HasNodes, HasRoom, HaveInboxTurns, IsFresh};
+ghost use Rattle.sci_lanes.specs.Gathering.{IsPacketAt, IsReadOff};
 
 /// Memory for a gathering, all of it made before the first end is joined.
 struct Room {

@@ -75,13 +75,10 @@ impl Lanes {
     }
 }
 
-ghost use Rattle.std.specs.Prelude.{◌≡◌, ◌≤◌, ◌<◌, ◌+◌, IfOk, []};
-ghost use Rattle.std.specs.Arc.{arc_value};
+ghost use Rattle.std.specs.{Prelude.{◌≡◌, ◌≤◌, ◌<◌, ◌+◌, IfOk, []}, Arc.{arc_value}};
 ghost use Rattle.sci_words.specs.declared.limits.TheConstants.{MAX_OPERATIONS};
 ghost use Rattle.sci_core.specs.Size.{size_of};
-ghost use Rattle.sci_lanes.specs.Cells.{word_count};
-ghost use Rattle.sci_lanes.specs.Shown.{opening_part};
-ghost use Rattle.sci_lanes.specs.Ends.{rest_view};
+ghost use Rattle.sci_lanes.specs.{Cells.{word_count}, Shown.{opening_part}, Ends.{rest_view}};
 
 /// Takes a node off a seat that has this node and those after it, and makes its end.
 fn split_off(

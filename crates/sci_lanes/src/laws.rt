@@ -2,8 +2,7 @@
 
 ghost use Rattle.std.specs.Prelude.{◌≡◌, ℕ, List};
 ghost use Rattle.sci_core.specs.Reached.{IsReached};
-ghost use Rattle.sci_lanes.specs.Shown.{Shows, Whole};
-ghost use Rattle.sci_lanes.specs.declared.view.View.{View};
+ghost use Rattle.sci_lanes.specs.{Shown.{Shows, Whole}, declared.view.View.{View}};
 
 /// Words and views show one state: whatever two states of a machine's size they show, the two are the same.
 pub fn words_show_one_state()

@@ -1,7 +1,6 @@
 //! The rule of the table, and what each kind of step tells.
 
-ghost use Rattle.sci_words.specs.declared.event.Event.{Event};
-ghost use Rattle.sci_words.specs.declared.event.Event.TheVariants.{Reply};
+ghost use Rattle.sci_words.specs.declared.event.Event.{Event, TheVariants.{Reply}};
 ghost use Rattle.sci_core.specs.Node.{NodeOf, no_node};
 
 use crate::view::View;
@@ -41,8 +40,7 @@ impl Split<View> for First {
 pub(crate) struct Both;
 
 impl Join<View> for Both {
-    ghost use Rattle.sci_lanes.specs.Gathering.{both_views};
-    ghost use Rattle.sci_lanes.specs.Ends.{no_view};
+    ghost use Rattle.sci_lanes.specs.{Gathering.{both_views}, Ends.{no_view}};
 
     ghost both = { both_views };
 

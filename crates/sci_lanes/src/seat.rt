@@ -18,8 +18,7 @@ pub(crate) struct NodeSeat {
 
 impl Model for NodeSeat {
     ghost use Rattle.std.specs.Arc.{arc_value};
-    ghost use Rattle.sci_lanes.specs.Ends.{EndOf, IsSeated};
-    ghost use Rattle.sci_lanes.specs.Telling.{part_of};
+    ghost use Rattle.sci_lanes.specs.{Ends.{EndOf, IsSeated}, Telling.{part_of}};
 
     ghost Value = { EndOf };
 
@@ -30,16 +29,13 @@ impl Model for NodeSeat {
 }
 
 impl NodeSeat {
-    ghost use Rattle.std.specs.Prelude.{◌≡◌, ◌≢◌, ◌+◌, ◌⊎◌, []};
-    ghost use Rattle.std.specs.Arc.{arc_value};
-    ghost use Rattle.sci_lanes.specs.Cells.{cell_place, lane_number};
-    ghost use Rattle.sci_lanes.specs.Gathering.{joined_with};
+    ghost use Rattle.std.specs.{Prelude.{◌≡◌, ◌≢◌, ◌+◌, ◌⊎◌, []}, Arc.{arc_value}};
+    ghost use Rattle.sci_lanes.specs.{Cells.{cell_place, lane_number}, Gathering.{joined_with}};
     ghost use Rattle.sci_lanes.specs.Shown.{informed, IsSeen, me_of};
     ghost use Rattle.sci_lanes.specs.Telling.{IsBeating, IsFull, IsMade, IsSameNode, IsSending, IsShown, IsTaken, IsTaking, part_of, state_of};
+    ghost use Rattle.sci_lanes.specs.Ends.{IsNextToSend, IsNextToTake, IsSeated, MayFill, MayRead, beaten, filled_at, freed_at, informed_at, lane_at_cell};
+    ghost use Rattle.sci_lanes.specs.Ends.{looked_at, nodes_in, published_at, read_at};
     ghost use Rattle.sci_core.specs.Core.{lane_at};
-    ghost use Rattle.sci_lanes.specs.Ends.{IsNextToSend, IsNextToTake, IsSeated, MayFill, MayRead, beaten};
-    ghost use Rattle.sci_lanes.specs.Ends.{filled_at, freed_at, informed_at, lane_at_cell, looked_at, nodes_in};
-    ghost use Rattle.sci_lanes.specs.Ends.{published_at, read_at};
 
     /// A seat that has one node, at its table.
     pub(crate) fn new(table: Arc<LaneTable>, seat: Seat<(), View>) -> NodeSeat

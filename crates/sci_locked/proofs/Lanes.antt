@@ -1,20 +1,15 @@
 -- How long the lanes are after an event of a node, and what is at their front.
 use Rattle.std.proofs.Common.{◌≡◌, ◌≤◌, ◌<◌, ◌⊎◌, ℕ, Bool, true, false, if◌then◌else◌, arith, List, [], ◌∷◌, ◌++◌, length, get_or, set, Option, Some, None}
-use Rattle.std.proofs.Common.{refl, sym, ap, subst, ◌∙◌, inl, inr}
-use Rattle.std.specs.Prelude.{nat_lt, slice_get}
-use Rattle.std.specs.List.{AllByRecursion}
-use Rattle.std.proofs.lemmas.Bool.{cases_eq, cases_lt}
-use Rattle.std.proofs.lemmas.Grind.{get_or-set_at}
-use Rattle.std.proofs.lemmas.List.{get_or-set_other, length_push, set_past}
+use Rattle.std.proofs.{Common.{refl, sym, ap, subst, ◌∙◌, inl, inr}, lemmas.Bool.{cases_eq, cases_lt}}
+use Rattle.std.proofs.lemmas.{Grind.{get_or-set_at}, List.{get_or-set_other, length_push, set_past}}
+use Rattle.std.specs.{Prelude.{nat_lt, slice_get}, List.{AllByRecursion}}
 use Rattle.sci_words.specs.declared.event.Event.{Event}
 use Rattle.sci_cache.specs.Cache.{Letter}
 use Rattle.sci_core.specs.declared.lane.LaneKind.{LaneKind}
-use Rattle.sci_core.specs.Core.{Core, Sends, Takes, lane_at, lane_of, lane_place, node_at, node_of, sent_by, side, stepping, taken_as, taken_from, with_lane}
-use Rattle.sci_core.specs.Core.{with_node}
-use Rattle.sci_core.specs.Node.{NodeOf}
+use Rattle.sci_core.specs.Core.{Core, Sends, Takes, lane_at, lane_of, lane_place, node_at, node_of, sent_by, side, stepping, taken_as, taken_from}
+use Rattle.sci_core.specs.{Core.{with_lane, with_node}, Node.{NodeOf}}
 use Rattle.sci_turn.specs.Posts.{IsFront, IsMade, IsStill, IsTaken, MayTakeFront, OthersLead}
-use Rattle.sci_turn.proofs.Stills.{still_itself}
-use Rattle.sci_turn.proofs.Working.{stepped}
+use Rattle.sci_turn.proofs.{Stills.{still_itself}, Working.{stepped}}
 use Rattle.sci_locked.specs.Lent.{KeepsRoom, post_at}
 
 lane_set : (lanes : List (List Letter)) (place p : ℕ) (lane : List Letter)

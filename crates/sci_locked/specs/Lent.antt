@@ -2,10 +2,8 @@
 use Rattle.std.specs.Prelude.{◌<◌, ◌≤◌, ℕ, length, None}
 use Rattle.sci_words.specs.declared.limits.TheConstants.{LANE_CELLS}
 use Rattle.sci_core.specs.Core.{Core, lane_at}
-use Rattle.sci_policy.specs.declared.progress.Progress.{Progress}
-use Rattle.sci_policy.specs.Policy.{PolicyOf}
-use Rattle.sci_turn.specs.Moves.{IsTurn}
-use Rattle.sci_turn.specs.Posts.{PostOf}
+use Rattle.sci_policy.specs.{declared.progress.Progress.{Progress}, Policy.{PolicyOf}}
+use Rattle.sci_turn.specs.{Moves.{IsTurn}, Posts.{PostOf}}
 
 -- the post of a node that has the whole machine for itself
 abbrev pub post_at : ℕ → Core → PostOf

@@ -2,8 +2,7 @@
 
 ghost use Rattle.std.specs.Prelude.{◌≡◌, ◌<◌, Some, None, IfErr, IfOk, IfSome, IsErr, IsOk};
 ghost use Rattle.sci_words.specs.declared.event.Event.TheVariants.{Issue, Perform};
-ghost use Rattle.sci_core.specs.Core.{node_at, stepping};
-ghost use Rattle.sci_core.specs.Node.{node_performing};
+ghost use Rattle.sci_core.specs.{Core.{node_at, stepping}, Node.{node_performing}};
 ghost use Rattle.sci_policy.specs.Turn.{submit_fault};
 
 use sci_core::Machine;

@@ -2,13 +2,8 @@
 
 ghost use Rattle.std.specs.Prelude.{◌≡◌, ◌<◌, true, None, IfOk, IsErr};
 ghost use Rattle.sci_core.specs.Core.{node_at};
-ghost use Rattle.sci_policy.specs.Policy.{turned};
-ghost use Rattle.sci_policy.specs.Rest.{MayIdle};
-ghost use Rattle.sci_policy.specs.Turn.{MayPerform, is_idle};
-ghost use Rattle.sci_policy.specs.Worker.{HasSameWork};
-ghost use Rattle.sci_turn.specs.Far.{HasAskedAll};
-ghost use Rattle.sci_turn.specs.Idle.{IsIdleTurn};
-ghost use Rattle.sci_turn.specs.Moves.{IsTurn};
+ghost use Rattle.sci_policy.specs.{Policy.{turned}, Rest.{MayIdle}, Turn.{MayPerform, is_idle}, Worker.{HasSameWork}};
+ghost use Rattle.sci_turn.specs.{Far.{HasAskedAll}, Idle.{IsIdleTurn}, Moves.{IsTurn}};
 ghost use Rattle.sci_locked.specs.Lent.{IsPartOfTurn, KeepsRoom, post_at};
 
 use crate::post::Lent;

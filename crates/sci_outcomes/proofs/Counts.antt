@@ -1,13 +1,10 @@
 -- What is counted of sightings, and one more of them.
-use Rattle.std.proofs.Common.{◌≡◌, ◌≤◌, ◌<◌, ℕ, zero, suc, ◌+◌, ◌==◌, Bool, true, false, cond, if◌then◌else◌, arith, List, [], ◌∷◌, ◌++◌, Option, Some, None}
-use Rattle.std.proofs.Common.{length, map, get_or, refl, sym, ap, ◌∙◌, add-one}
-use Rattle.std.specs.Prelude.{count_by, unwrap_or, not, ◌&&◌, ◌||◌}
-use Rattle.std.specs.List.{list_any, position_or_len, sum_by}
-use Rattle.std.proofs.lemmas.List.Folds.{list_any-append}
-use Rattle.std.proofs.lemmas.List.Sums.{get_or-le-sum_by, sum_by-cons, sum_by_push}
+use Rattle.std.proofs.Common.{◌≡◌, ◌≤◌, ◌<◌, ℕ, zero, suc, ◌+◌, ◌==◌, Bool, true, false, cond, if◌then◌else◌, arith, List, [], ◌∷◌, ◌++◌, Option, Some}
+use Rattle.std.proofs.Common.{None, length, map, get_or, refl, sym, ap, ◌∙◌, add-one}
+use Rattle.std.proofs.lemmas.List.{Folds.{list_any-append}, Sums.{get_or-le-sum_by, sum_by-cons, sum_by_push}}
 use Rattle.std.proofs.Math.Bool.{or-false}
-use Rattle.sci_outcomes.specs.declared.histogram.Tally.{Tally}
-use Rattle.sci_outcomes.specs.declared.outcome.Sighting.{Sighting}
+use Rattle.std.specs.{Prelude.{count_by, unwrap_or, not, ◌&&◌, ◌||◌}, List.{list_any, position_or_len, sum_by}}
+use Rattle.sci_outcomes.specs.declared.{histogram.Tally.{Tally}, outcome.Sighting.{Sighting}}
 use Rattle.sci_outcomes.specs.Rows.{tally_by, with_run}
 
 -- 1 for what passes

@@ -1,20 +1,13 @@
 -- A histogram of what was seen, and its rows.
 use Rattle.std.proofs.Common.{◌≡◌, ℕ, ◌+◌, Bool, true, false, cond, arith, List, [], ◌∷◌, ◌++◌, Option, Some, None, length, length-append, refl, ap, ◌∙◌}
-use Rattle.std.specs.Prelude.{option_map, unwrap_or}
-use Rattle.std.specs.List.{sum_by}
-use Rattle.std.specs.BTreeMap.{BTreeMap, IsOrdered, Updates, get, insert_entry, values}
-use Rattle.std.specs.Map.{values_of}
-use Rattle.std.specs.Cmp.{IsTotalOrder}
-use Rattle.std.specs.Ordering.{eq_by_cmp}
 use Rattle.std.proofs.Math.Path.{fun_ext}
 use Rattle.std.proofs.lemmas.Cmp.{eq_by_cmp_equiv, lists_total, nat_cmp_total, on_total, then_total}
 use Rattle.std.proofs.lemmas.Map.Entries.{sum_by-insert_entry}
-use Rattle.sci_outcomes.specs.declared.histogram.Histogram.{Histogram}
-use Rattle.sci_outcomes.specs.declared.histogram.Tally.{Tally}
-use Rattle.sci_outcomes.specs.declared.outcome.Held.{Held}
-use Rattle.sci_outcomes.specs.declared.outcome.Outcome.{Outcome}
-use Rattle.sci_outcomes.specs.declared.outcome.Replied.{Replied}
-use Rattle.sci_outcomes.specs.declared.outcome.Sighting.{Sighting}
+use Rattle.std.specs.{Prelude.{option_map, unwrap_or}, List.{sum_by}}
+use Rattle.std.specs.{BTreeMap.{BTreeMap, IsOrdered, Updates, get, insert_entry, values}, Map.{values_of}}
+use Rattle.std.specs.{Cmp.{IsTotalOrder}, Ordering.{eq_by_cmp}}
+use Rattle.sci_outcomes.specs.declared.{histogram.{Histogram.{Histogram}, Tally.{Tally}}, outcome.Held.{Held}}
+use Rattle.sci_outcomes.specs.declared.outcome.{Outcome.{Outcome}, Replied.{Replied}, Sighting.{Sighting}}
 use Rattle.sci_outcomes.specs.Rows.{HasCounted, has_outcome, held_cmp, outcome_cmp, replied_cmp, tally_by, with_run}
 use Rattle.sci_outcomes.proofs.Counts.{tally_more, tally_same}
 

@@ -1,17 +1,13 @@
 -- The words that operations may write, one after another and line after line.
 use Rattle.std.proofs.Common.{◌≡◌, ◌≤◌, ◌<◌, ℕ, zero, suc, ◌+◌, true, false, cond, arith, List, [], ◌∷◌, ◌++◌, map, All, refl, sym, ap, subst, ◌∙◌}
-use Rattle.std.proofs.Common.{append_assoc, add-one}
-use Rattle.std.specs.Prelude.{filter}
-use Rattle.std.specs.List.{flat_map, range_with_len}
-use Rattle.std.proofs.lemmas.List.{append-nil}
-use Rattle.std.proofs.lemmas.List.Concat.{flat_map-append}
+use Rattle.std.proofs.{Common.{append_assoc, add-one}, lemmas.List.{append-nil, Concat.{flat_map-append}}}
 use Rattle.std.proofs.lemmas.List.FromFn.{filter_of_map_range_with_len_more, get_or-map-range_with_len, length-map-range_with_len, map-range_with_len_more}
 use Rattle.std.proofs.lemmas.List.Elements.{All-append, All-filter}
-use Rattle.sci_words.specs.declared.limits.TheConstants.{WORDS_PER_LINE}
-use Rattle.sci_words.specs.declared.operation.Op.{Op}
+use Rattle.std.specs.{Prelude.{filter}, List.{flat_map, range_with_len}}
+use Rattle.sci_words.specs.declared.{limits.TheConstants.{WORDS_PER_LINE}, operation.Op.{Op}}
 use Rattle.sci_outcomes.specs.declared.place.Place.{Place}
-use Rattle.sci_outcomes.proofs.Counts.{map_same}
 use Rattle.sci_outcomes.specs.Outcomes.{IsPlaceWithin, is_written, written_on, written_places}
+use Rattle.sci_outcomes.proofs.Counts.{map_same}
 
 -- ---- words
 

@@ -1,29 +1,20 @@
 -- The rows of a histogram, and their order.
 use Rattle.std.proofs.Common.{◌≡◌, ◌≤◌, ◌<◌, ℕ, ◌+◌, Bool, true, false, arith, List, [], ◌∷◌, map, All, Some, None, length, get_or, refl, sym, ap, ◌∙◌}
-use Rattle.std.specs.Prelude.{count_by, not, ◌&&◌, sum}
-use Rattle.std.specs.List.{AllByRecursion, IsDistinct}
-use Rattle.std.specs.List.Sorted.{IsPermutation, IsSortedBy, IsStableBy, IsStrictlySortedBy, ties}
-use Rattle.std.specs.BTreeMap.{IsOrdered, get, is_at}
-use Rattle.std.specs.Map.{keys_of, lookup}
-use Rattle.std.specs.Cmp.{IsTotalOrder, IsStrictWeakOrder}
-use Rattle.std.specs.Ordering.{is_eq, is_lt, nat_cmp, ordering_then, ordering_reverse}
-use Rattle.std.specs.declared.cmp.Ordering.{Ordering}
-use Rattle.std.specs.declared.cmp.Ordering.TheVariants.{Less, Equal, Greater}
 use Rattle.std.proofs.lemmas.Cmp.{back_total, by_ranked, eq_by_cmp_equiv, nat_cmp_total, on_total, ranked, tied_itself, then_total}
-use Rattle.std.proofs.lemmas.List.{get_or-map, length-map}
-use Rattle.std.proofs.lemmas.List.Elements.{All-map}
+use Rattle.std.proofs.lemmas.List.{get_or-map, length-map, Elements.{All-map}}
 use Rattle.std.proofs.lemmas.List.Sorted.{All-permutation, ranks_by, sum_by-IsPermutation, ties_stay_sorted}
-use Rattle.std.proofs.lemmas.List.Sums.{sum_by-cons, sum-map}
-use Rattle.std.proofs.lemmas.Map.{NonePasses}
+use Rattle.std.proofs.lemmas.{List.Sums.{sum_by-cons, sum-map}, Map.{NonePasses}}
 use Rattle.std.proofs.lemmas.Map.Entries.{btree_map_get_place, lookup_tail, none_past_head}
-use Rattle.std.proofs.lemmas.Map.Keys.{IsDistinct-cons, IsDistinct-from_sorted, IsDistinct-head, IsDistinct-IsPermutation, IsDistinct-tail, Less-from_sorted}
-use Rattle.std.proofs.lemmas.Map.Keys.{apart_from_distinct, ge_from_not_lt, sorted_from_all_adjacent}
+use Rattle.std.proofs.lemmas.Map.Keys.{IsDistinct-cons, IsDistinct-from_sorted, IsDistinct-head, IsDistinct-IsPermutation, IsDistinct-tail}
+use Rattle.std.proofs.lemmas.Map.Keys.{Less-from_sorted, apart_from_distinct, ge_from_not_lt, sorted_from_all_adjacent}
 use Rattle.std.proofs.lemmas.Option.{slice_get-get_or}
-use Rattle.sci_outcomes.specs.declared.histogram.Histogram.{Histogram}
-use Rattle.sci_outcomes.specs.declared.histogram.Row.{Row}
-use Rattle.sci_outcomes.specs.declared.histogram.Tally.{Tally}
-use Rattle.sci_outcomes.specs.declared.outcome.Outcome.{Outcome}
-use Rattle.sci_outcomes.specs.declared.outcome.Sighting.{Sighting}
+use Rattle.std.specs.{Prelude.{count_by, not, ◌&&◌, sum}, List.{AllByRecursion, IsDistinct}}
+use Rattle.std.specs.List.Sorted.{IsPermutation, IsSortedBy, IsStableBy, IsStrictlySortedBy, ties}
+use Rattle.std.specs.{BTreeMap.{IsOrdered, get, is_at}, Map.{keys_of, lookup}, Cmp.{IsTotalOrder, IsStrictWeakOrder}}
+use Rattle.std.specs.Ordering.{is_eq, is_lt, nat_cmp, ordering_then, ordering_reverse}
+use Rattle.std.specs.declared.cmp.Ordering.{Ordering, TheVariants.{Less, Equal, Greater}}
+use Rattle.sci_outcomes.specs.declared.histogram.{Histogram.{Histogram}, Row.{Row}, Tally.{Tally}}
+use Rattle.sci_outcomes.specs.declared.outcome.{Outcome.{Outcome}, Sighting.{Sighting}}
 use Rattle.sci_outcomes.specs.Rows.{AreRowsOf, HasCounted, IsRowOf, has_outcome, outcome_cmp, row_cmp}
 use Rattle.sci_outcomes.proofs.Counts.{bit, some_tally, sum_by_map, tally_is}
 use Rattle.sci_outcomes.proofs.Histograms.{is_same, outcome_total, same_back}

@@ -1,22 +1,14 @@
 -- What is seen of one run.
 use Rattle.std.proofs.Common.{◌≡◌, ℕ, ◌<◌, ◌+◌, Bool, true, List, [], ◌∷◌, ◌++◌, Some, length, length-append, sym, subst, arith, inl, inr}
+use Rattle.std.proofs.lemmas.{Bool.{cases_lt}, List.{get_or-append-add, get_or_append_left}}
 use Rattle.std.specs.Prelude.{slice_index_or}
-use Rattle.std.proofs.lemmas.Bool.{cases_lt}
-use Rattle.std.proofs.lemmas.List.{get_or-append-add, get_or_append_left}
 use Rattle.sci_words.specs.declared.stamped.Stamped.{Stamped}
-use Rattle.sci_history.specs.declared.entry.Entry.{Entry}
-use Rattle.sci_history.specs.Lawful.{Lawful}
-use Rattle.sci_history.specs.Sequential.{IsSequentiallyConsistent}
-use Rattle.sci_text.specs.Script.{ScriptValue}
-use Rattle.sci_text.specs.Schedule.{ScheduleValue}
+use Rattle.sci_history.specs.{declared.entry.Entry.{Entry}, Lawful.{Lawful}, Sequential.{IsSequentiallyConsistent}}
+use Rattle.sci_text.specs.{Script.{ScriptValue}, Schedule.{ScheduleValue}}
 use Rattle.sci_drive.specs.declared.driver.Issuing.{Issuing}
-use Rattle.sci_runs.specs.Played.{IsPlayed}
-use Rattle.sci_runs.specs.Runs.{IsRunOf, last_behind, logs_behind}
-use Rattle.sci_outcomes.specs.declared.histogram.Histogram.{Histogram}
-use Rattle.sci_outcomes.specs.declared.outcome.Sighting.{Sighting}
-use Rattle.sci_outcomes.specs.declared.place.Place.{Place}
-use Rattle.sci_outcomes.specs.Outcomes.{IsSeen, written_places}
-use Rattle.sci_outcomes.specs.Rows.{HasCounted}
+use Rattle.sci_runs.specs.{Played.{IsPlayed}, Runs.{IsRunOf, last_behind, logs_behind}}
+use Rattle.sci_outcomes.specs.declared.{histogram.Histogram.{Histogram}, outcome.Sighting.{Sighting}}
+use Rattle.sci_outcomes.specs.{declared.place.Place.{Place}, Outcomes.{IsSeen, written_places}, Rows.{HasCounted}}
 use Rattle.sci_outcomes.specs.Trials.{IsDrawnSighting}
 
 -- what is seen of logs and last contents is seen of the ones behind the schedule

@@ -1,18 +1,12 @@
 -- The outcome of a run: what its operations replied, and the words that they left.
 use Rattle.std.specs.Prelude.{◌≡◌, ◌↔◌, ◌<◌, ℕ, ◌==◌, ◌&&◌, Bool, true, List, filter, map, Option, Some, None, slice_index}
 use Rattle.std.specs.List.{filter_map, flat_map, list_any, range_with_len}
-use Rattle.sci_words.specs.declared.limits.TheConstants.{WORDS_PER_LINE}
-use Rattle.sci_words.specs.declared.operation.Op.{Op}
-use Rattle.sci_words.specs.declared.operation.Reply.{Reply}
-use Rattle.sci_words.specs.declared.operation.Reply.TheVariants.{Stored, Got}
-use Rattle.sci_words.specs.declared.stamped.Stamped.{Stamped}
+use Rattle.sci_words.specs.declared.{limits.TheConstants.{WORDS_PER_LINE}, operation.{Op.{Op}, Reply.{Reply}}}
+use Rattle.sci_words.specs.declared.{operation.Reply.TheVariants.{Stored, Got}, stamped.Stamped.{Stamped}}
 use Rattle.sci_words.specs.Operation.{is_maker}
-use Rattle.sci_history.specs.declared.entry.Entry.{Entry}
-use Rattle.sci_history.specs.Memory.{stamped_at}
+use Rattle.sci_history.specs.{declared.entry.Entry.{Entry}, Memory.{stamped_at}}
 use Rattle.sci_history.specs.Sequential.{IsSequentiallyConsistent, by_serial}
-use Rattle.sci_outcomes.specs.declared.outcome.Held.{Held}
-use Rattle.sci_outcomes.specs.declared.outcome.Replied.{Replied}
-use Rattle.sci_outcomes.specs.declared.outcome.Sighting.{Sighting}
+use Rattle.sci_outcomes.specs.declared.outcome.{Held.{Held}, Replied.{Replied}, Sighting.{Sighting}}
 use Rattle.sci_outcomes.specs.declared.place.Place.{Place}
 
 -- ---- replies

@@ -1,18 +1,10 @@
 -- How often each outcome was seen.
 use Rattle.std.specs.Prelude.{◌≡◌, ℕ, ◌+◌, ◌==◌, ◌&&◌, ◌||◌, Bool, List, length, map, sum, All, count_by, Option, Some, None, if◌then◌else◌}
-use Rattle.std.specs.List.{list_any, position_or_len, sum_by}
-use Rattle.std.specs.List.Sorted.{IsStrictlySortedBy}
-use Rattle.std.specs.BTreeMap.{get, values}
-use Rattle.std.specs.Cmp.Lexicographic.{slice_cmp}
-use Rattle.std.specs.Ordering.{is_eq, nat_cmp, ordering_then}
+use Rattle.std.specs.{List.{list_any, position_or_len, sum_by, Sorted.{IsStrictlySortedBy}}, BTreeMap.{get, values}}
+use Rattle.std.specs.{Cmp.Lexicographic.{slice_cmp}, Ordering.{is_eq, nat_cmp, ordering_then}}
 use Rattle.std.specs.declared.cmp.Ordering.{Ordering}
-use Rattle.sci_outcomes.specs.declared.histogram.Histogram.{Histogram}
-use Rattle.sci_outcomes.specs.declared.histogram.Row.{Row}
-use Rattle.sci_outcomes.specs.declared.histogram.Tally.{Tally}
-use Rattle.sci_outcomes.specs.declared.outcome.Held.{Held}
-use Rattle.sci_outcomes.specs.declared.outcome.Outcome.{Outcome}
-use Rattle.sci_outcomes.specs.declared.outcome.Replied.{Replied}
-use Rattle.sci_outcomes.specs.declared.outcome.Sighting.{Sighting}
+use Rattle.sci_outcomes.specs.declared.histogram.{Histogram.{Histogram}, Row.{Row}, Tally.{Tally}}
+use Rattle.sci_outcomes.specs.declared.outcome.{Held.{Held}, Outcome.{Outcome}, Replied.{Replied}, Sighting.{Sighting}}
 
 -- ---- the order of outcomes: by their replies, then by their words, as numbers
 

@@ -1,23 +1,15 @@
 -- The outcomes of a script that is run many times.
 use Rattle.std.specs.Prelude.{◌≡◌, ℕ, ◌<◌, ◌+◌, ◌%◌, ◌^◌, true, All, List, Some, length, slice_index_or}
 use Rattle.sci_words.specs.declared.stamped.Stamped.{Stamped}
-use Rattle.sci_history.specs.declared.entry.Entry.{Entry}
-use Rattle.sci_history.specs.Lawful.{Lawful}
+use Rattle.sci_history.specs.{declared.entry.Entry.{Entry}, Lawful.{Lawful}}
 use Rattle.sci_history.specs.Sequential.{AreInProgramOrder, IsSequentiallyConsistent}
-use Rattle.sci_text.specs.Script.{ScriptValue}
-use Rattle.sci_text.specs.Schedule.{ScheduleValue}
-use Rattle.sci_drive.specs.declared.driver.Issuing.{Issuing}
-use Rattle.sci_drive.specs.declared.driver.Issuing.TheVariants.{InOrder}
-use Rattle.sci_runs.specs.Played.{IsPlayed}
-use Rattle.sci_runs.specs.Runs.{IsRunOf, last_behind, logs_behind}
+use Rattle.sci_text.specs.{Script.{ScriptValue}, Schedule.{ScheduleValue}}
+use Rattle.sci_drive.specs.declared.driver.Issuing.{Issuing, TheVariants.{InOrder}}
+use Rattle.sci_runs.specs.{Played.{IsPlayed}, Runs.{IsRunOf, last_behind, logs_behind}}
 use Rattle.sci_threads.specs.Shares.{AreLedTo, HaveWholeLogsOf, size_for}
-use Rattle.sci_outcomes.specs.declared.histogram.Row.{Row}
-use Rattle.sci_outcomes.specs.declared.outcome.Sighting.{Sighting}
-use Rattle.sci_outcomes.specs.declared.place.Place.{Place}
-use Rattle.sci_outcomes.specs.declared.trials.Turns.{Turns}
-use Rattle.sci_outcomes.specs.declared.trials.Turns.TheVariants.{Drawn, Threads}
-use Rattle.sci_outcomes.specs.Outcomes.{IsPlaceWithin, IsSeen, written_places}
-use Rattle.sci_outcomes.specs.Rows.{AreRowsOf}
+use Rattle.sci_outcomes.specs.declared.{histogram.Row.{Row}, outcome.Sighting.{Sighting}, place.Place.{Place}}
+use Rattle.sci_outcomes.specs.declared.trials.Turns.{Turns, TheVariants.{Drawn, Threads}}
+use Rattle.sci_outcomes.specs.{Outcomes.{IsPlaceWithin, IsSeen, written_places}, Rows.{AreRowsOf}}
 
 -- the places are those of the words that the script may write
 pub record AreWrittenBy (script : ScriptValue) (places : List Place) : Type 0 where

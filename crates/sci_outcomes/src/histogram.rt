@@ -30,8 +30,7 @@ struct Tally {
 }
 
 impl Tally {
-    ghost use Rattle.std.specs.Prelude.{◌≡◌, ◌<◌, IfSome};
-    ghost use Rattle.std.specs.Option.{option_copied};
+    ghost use Rattle.std.specs.{Prelude.{◌≡◌, ◌<◌, IfSome}, Option.{option_copied}};
     ghost use Rattle.sci_outcomes.specs.Rows.{with_run as with_run_of};
 
     /// The runs that gave an outcome, if some did before, and one more with this number. Requires that there were fewer than
@@ -64,8 +63,7 @@ pub(crate) struct Histogram {
 
 impl Histogram {
     ghost use Rattle.std.specs.Prelude.{◌≡◌, ◌<◌, ◌++◌, ◌∷◌, [], List, length, IfOk, OnOk};
-    ghost use Rattle.sci_outcomes.specs.declared.outcome.Sighting.{Sighting};
-    ghost use Rattle.sci_outcomes.specs.Rows.{AreRowsOf, HasCounted};
+    ghost use Rattle.sci_outcomes.specs.{declared.outcome.Sighting.{Sighting}, Rows.{AreRowsOf, HasCounted}};
 
     /// No run was seen.
     pub(crate) fn new(alloc: Global) -> Histogram

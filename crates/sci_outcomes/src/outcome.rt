@@ -1,10 +1,7 @@
 //! The outcome of a run: what its operations replied, and the words that they left.
 
-ghost use Rattle.std.specs.Prelude.{◌≡◌, ◌↔◌, ◌++◌, true, length, map, All, IfOk, OnOk};
-ghost use Rattle.std.specs.List.{filter_map};
-ghost use Rattle.sci_history.specs.Audit.{AreWithin};
-ghost use Rattle.sci_history.specs.Cycle.{IsOrdered};
-ghost use Rattle.sci_history.specs.Lawful.{Lawful};
+ghost use Rattle.std.specs.{Prelude.{◌≡◌, ◌↔◌, ◌++◌, true, length, map, All, IfOk, OnOk}, List.{filter_map}};
+ghost use Rattle.sci_history.specs.{Audit.{AreWithin}, Cycle.{IsOrdered}, Lawful.{Lawful}};
 ghost use Rattle.sci_outcomes.specs.Outcomes.{IsPlaceWithin, IsSeen, held_at, replied, replies_in};
 
 use crate::place::Place;

@@ -1,18 +1,14 @@
 -- Two bodies with the same parts are the same body, and the table knows each body's command.
 use Rattle.std.proofs.Common.{◌≡◌, ℕ, zero, suc, get_or, ◌<◌, ◌^◌, false, List, ◌∷◌, ◌++◌, Option, Some, None, refl, sym, ap, ◌∙◌, arith}
-use Rattle.std.specs.Prelude.{IfSome, unwrap_or}
-use Rattle.std.specs.Option.{is_some}
-use Rattle.sci_words.specs.declared.stamped.Stamped.{Stamped}
-use Rattle.sci_words.specs.Stamped.{zero_stamped}
-use Rattle.sci_packets.specs.declared.body.Body.{Body}
-use Rattle.sci_packets.specs.declared.body.Body.TheVariants as body
-use Rattle.sci_packets.specs.declared.command.Command.{Command}
+use Rattle.std.specs.{Prelude.{IfSome, unwrap_or}, Option.{is_some}}
+use Rattle.sci_words.specs.{declared.stamped.Stamped.{Stamped}, Stamped.{zero_stamped}}
+use Rattle.sci_packets.specs.declared.{body.Body.{Body}, command.Command.{Command}}
 use Rattle.sci_packets.specs.declared.command.Command.TheVariants.{Mread, Cread, Purge, Roll, Wback, Setback, Fread, Claim, Clear, Mdata, Mgone, Cdata}
 use Rattle.sci_packets.specs.declared.command.Command.TheVariants.{Purged, Rolled, Wbok, Wbno, Told, Busy, Fdata}
-use Rattle.sci_packets.specs.Fields.{word_bytes, contents_words}
-use Rattle.sci_packets.specs.Spelling.{IsContents}
+use Rattle.sci_packets.specs.{Fields.{word_bytes, contents_words}, Spelling.{IsContents}}
 use Rattle.sci_packets.specs.Table.{carries, command_number, command_of, command_with, parts_of, number_of, is_misnamed, takes_contents}
 use Rattle.sci_packets.proofs.Fields.{words_cancel}
+use Rattle.sci_packets.specs.declared.body.Body.TheVariants as body
 
 -- the body of a command with this identifier and these contents, as far as it takes them
 unfoldable body_with : Command → Option ℕ → Option Stamped → Body

@@ -1,11 +1,9 @@
 -- A field that is read is the one that was written, and what was written is read again.
 use Rattle.std.proofs.Common.{◌≡◌, ℕ, zero, suc, ◌+◌, ◌-◌, ◌*◌, ◌^◌, ◌<◌, ◌≤◌, List, [], ◌∷◌, ◌++◌, length, get_or, take, drop, refl, sym, ap, ◌∙◌}
-use Rattle.std.proofs.Common.{append_assoc, add-zero, arith, inl, inr}
-use Rattle.std.proofs.lemmas.Bool.{cases_lt}
+use Rattle.std.proofs.{Common.{append_assoc, add-zero, arith, inl, inr}, lemmas.Bool.{cases_lt}}
+use Rattle.std.proofs.lemmas.List.{take_at, drop_at, drop_all, drop-take, drop-drop, take-append-drop, length-append, length-take, length-drop}
+use Rattle.std.proofs.lemmas.{List.{get_or-drop, get_or-take, get_or_past, append-nil}, Nat.{be_bytes_2, be_bytes_8}}
 use Rattle.std.specs.List.{between}
-use Rattle.std.proofs.lemmas.List.{take_at, drop_at, drop_all, drop-take, drop-drop, take-append-drop, length-append, length-take, length-drop, get_or-drop}
-use Rattle.std.proofs.lemmas.List.{get_or-take, get_or_past, append-nil}
-use Rattle.std.proofs.lemmas.Nat.{be_bytes_2, be_bytes_8}
 use borrow.Rule.Slice.PartMut.{put_mid}
 use Rattle.byteorder.specs.Endian.{big_number}
 use Rattle.byteorder.specs.Numbers.{big_from-take, big_from-lt, big_number-reads_back, length-bytes_high_first}

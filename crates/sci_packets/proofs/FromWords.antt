@@ -1,8 +1,6 @@
 -- The clauses of `from_words`, by those of a decoder of the bytes of the words.
 use Rattle.std.proofs.Common.{◌≡◌, ℕ, ◌≤◌, List, length, take, Result, Ok, Err, ◌*◌, ◌/◌, arith}
-use Rattle.sci_packets.specs.declared.fault.PacketFault.{PacketFault}
-use Rattle.sci_packets.specs.declared.packet.Packet.{Packet}
-use Rattle.sci_packets.specs.Fields.{word_bytes}
+use Rattle.sci_packets.specs.{declared.{fault.PacketFault.{PacketFault}, packet.Packet.{Packet}}, Fields.{word_bytes}}
 use Rattle.sci_packets.specs.Spelling.{Spells, SpellsInWords, NoneSpellsInWords}
 use Rattle.sci_packets.proofs.WordLaws.{begins_bytes}
 

@@ -1,8 +1,7 @@
 -- A header that is read is the one that was written, and what was written is read again.
 use Rattle.std.proofs.Common.{◌≡◌, ℕ, ◌+◌, ◌^◌, ◌<◌, ◌≤◌, List, ◌++◌, length, drop, ap, ◌∙◌, append_assoc, arith}
 use Rattle.std.proofs.lemmas.List.{length-append}
-use Rattle.sci_packets.specs.declared.header.Header.{Header}
-use Rattle.sci_packets.specs.Fields.{field, field_at, spelled, header_in}
+use Rattle.sci_packets.specs.{declared.header.Header.{Header}, Fields.{field, field_at, spelled, header_in}}
 use Rattle.sci_packets.proofs.Fields.{IsBytes, length-field, field_cancel, field_takes, field_at-lt, two, six}
 
 -- the numbers of a header fit their fields

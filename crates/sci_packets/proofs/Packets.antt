@@ -1,26 +1,18 @@
 -- Packets and their spellings.
-use Rattle.std.proofs.Common.{◌≡◌, ℕ, ◌+◌, ◌^◌, ◌<◌, ◌≤◌, Bool, true, false, cond, eqb, ltb, ◌&&◌, List, [], ◌∷◌, ◌++◌, length, take, drop, Option, Some, None}
-use Rattle.std.proofs.Common.{Result, Ok, Err, refl, sym, ap, subst, ◌∙◌, arith}
-use Rattle.std.specs.Prelude.{IfSome, IfOk, IsErr, ◌↔◌}
-use Rattle.std.specs.Option.{is_some}
-use Rattle.std.specs.Result.{result_err}
-use Rattle.std.proofs.lemmas.Bool.{le-ltb, lt-ltb, ltb-false}
-use Rattle.std.proofs.lemmas.Bool.Decides.{nat_tests}
+use Rattle.std.proofs.Common.{◌≡◌, ℕ, ◌+◌, ◌^◌, ◌<◌, ◌≤◌, Bool, true, false, cond, eqb, ltb, ◌&&◌, List, [], ◌∷◌, ◌++◌, length, take, drop, Option, Some}
+use Rattle.std.proofs.Common.{None, Result, Ok, Err, refl, sym, ap, subst, ◌∙◌, arith}
+use Rattle.std.proofs.lemmas.Bool.{le-ltb, lt-ltb, ltb-false, Decides.{nat_tests}}
 use Rattle.std.proofs.lemmas.List.{append-nil, take_at, drop_all, take-append-drop, length-append, length-take-le}
+use Rattle.std.specs.{Prelude.{IfSome, IfOk, IsErr, ◌↔◌}, Option.{is_some}, Result.{result_err}}
 use mathlib.Core.HLevel.{Σ_prop_path}
 use Rattle.std.proofs.Props.{props}
-use Rattle.sci_packets.specs.declared.body.Body.{Body}
-use Rattle.sci_words.specs.declared.stamped.Stamped.{Stamped}
-use Rattle.sci_packets.specs.declared.command.Command.{Command}
-use Rattle.sci_packets.specs.declared.fault.PacketFault.{PacketFault}
-use Rattle.sci_packets.specs.declared.fault.PacketFault.TheVariants.{Short}
-use Rattle.sci_packets.specs.declared.header.Header.{Header}
-use Rattle.sci_packets.specs.declared.packet.Packet.{Packet}
-use Rattle.sci_packets.specs.declared.table.Parts.{Parts}
-use Rattle.sci_packets.specs.Fault.{header_fault, fault_of}
+use Rattle.sci_packets.specs.declared.{body.Body.{Body}, command.Command.{Command}, fault.PacketFault.{PacketFault}}
+use Rattle.sci_packets.specs.declared.{fault.PacketFault.TheVariants.{Short}, header.Header.{Header}}
+use Rattle.sci_packets.specs.{declared.{packet.Packet.{Packet}, table.Parts.{Parts}}, Fault.{header_fault, fault_of}}
 use Rattle.sci_packets.specs.Fields.{spelled, header_in, word_bytes, contents_words, contents_in, contents_for}
 use Rattle.sci_packets.specs.Spelling.{IsContents, IsPacket, header_of, spelling, Spells, NoneSpells}
 use Rattle.sci_packets.specs.Table.{carries, command_of, command_with, parts_of, number_of, identifier_of, body_fault, takes_contents}
+use Rattle.sci_words.specs.declared.stamped.Stamped.{Stamped}
 use Rattle.sci_packets.proofs.Bodies.{command_again, contents_cancel, has_contents, is_named, number-lt, number_carries, number_of-lt, same_body}
 use Rattle.sci_packets.proofs.Bodies.{same_command, same_identifier}
 use Rattle.sci_packets.proofs.Fields.{IsBytes, length-word_bytes, length-words_at, words_takes, words_at-lt, field_at-lt}

@@ -3,11 +3,9 @@ use Rattle.std.proofs.Common.{◌≡◌, ℕ, ◌<◌, ◌≤◌, List, [], ◌+
 use Rattle.std.proofs.lemmas.Bool.{cases_lt}
 use Rattle.std.proofs.lemmas.List.{append-nil, append_cancel_left, ext_get_or, get_or-take, length-take-le, take-append-drop}
 use Rattle.std.proofs.lemmas.List.Concat.{flat_map-append}
-use Rattle.sci_packets.specs.declared.packet.Packet.{Packet}
-use Rattle.sci_packets.specs.Fields.{field, word_bytes}
+use Rattle.sci_packets.specs.{declared.packet.Packet.{Packet}, Fields.{field, word_bytes}}
 use Rattle.sci_packets.specs.Spelling.{IsPacket, Spells, SpellsInWords, spelling, words_of}
-use Rattle.sci_packets.proofs.Packets.{spelling_cancel}
-use Rattle.sci_packets.proofs.WordLaws.{first_word-above, word_bytes-words_of}
+use Rattle.sci_packets.proofs.{Packets.{spelling_cancel}, WordLaws.{first_word-above, word_bytes-words_of}}
 
 pub no_prefix : (p q : Packet) (bytes more : List ℕ) → Spells p bytes → Spells q (bytes ++ more) → more ≡ []
 no_prefix p q bytes more h k =

@@ -1,26 +1,19 @@
 -- Packets and their words.
-use Rattle.std.proofs.Common.{◌≡◌, ℕ, zero, suc, ◌+◌, ◌*◌, ◌/◌, ◌%◌, ◌^◌, ◌<◌, ◌≤◌, Bool, true, false, cond, ltb, List, [], ◌∷◌, ◌++◌, length, get_or, take}
-use Rattle.std.proofs.Common.{drop, Option, Some, None, refl, sym, ap, ◌∙◌, append_assoc, arith, ◌⊎◌, inl, inr}
-use Rattle.std.specs.Prelude.{IfSome, slice_set}
-use Rattle.std.specs.Option.{is_some}
-use Rattle.std.specs.Int.{byte_at, bytes_high_first}
-use Rattle.std.proofs.Math.Nat.{mod-lt}
-use Rattle.std.proofs.lemmas.Bool.{cases_lt, le-ltb, lt-ltb}
-use Rattle.std.proofs.lemmas.Nat.{be_bytes_8}
-use Rattle.std.proofs.lemmas.List.{append-nil, drop_all, length-take, length-take-le, take_at, drop_at, take-append-drop, length-drop, get_or-drop, get_or-take}
-use Rattle.std.proofs.lemmas.List.{get_or_past}
-use Rattle.std.proofs.lemmas.List.Concat.{flat_map-append}
+use Rattle.std.proofs.Common.{◌≡◌, ℕ, zero, suc, ◌+◌, ◌*◌, ◌/◌, ◌%◌, ◌^◌, ◌<◌, ◌≤◌, Bool, true, false, cond, ltb, List, [], ◌∷◌, ◌++◌, length, get_or}
+use Rattle.std.proofs.Common.{take, drop, Option, Some, None, refl, sym, ap, ◌∙◌, append_assoc, arith, ◌⊎◌, inl, inr}
+use Rattle.std.proofs.{Math.Nat.{mod-lt}, lemmas.{Bool.{cases_lt, le-ltb, lt-ltb}, Nat.{be_bytes_8}}}
+use Rattle.std.proofs.lemmas.List.{append-nil, drop_all, length-take, length-take-le, take_at, drop_at, take-append-drop, length-drop, get_or-drop}
+use Rattle.std.proofs.lemmas.List.{get_or-take, get_or_past, Concat.{flat_map-append}}
+use Rattle.std.specs.{Prelude.{IfSome, slice_set}, Option.{is_some}, Int.{byte_at, bytes_high_first}}
 use borrow.Rule.Slice.PartMut.{put_mid}
 use Rattle.sci_words.specs.declared.stamped.Stamped.{Stamped}
-use Rattle.sci_packets.specs.declared.header.Header.{Header}
-use Rattle.sci_packets.specs.declared.packet.Packet.{Packet}
+use Rattle.sci_packets.specs.declared.{header.Header.{Header}, packet.Packet.{Packet}}
 use Rattle.sci_packets.specs.Fields.{field, field_at, spelled, word_bytes, words_at, contents_words, contents_in, header_in}
 use Rattle.sci_packets.specs.Spelling.{IsContents, IsPacket, header_of, spelling, Spells, SpellsInWords, CountsWords, first_word, second_word, words_of}
 use Rattle.sci_packets.specs.Table.{carries, command_number, command_of, command_with, parts_of}
 use Rattle.sci_packets.proofs.Bodies.{number-above, number_carries}
 use Rattle.sci_packets.proofs.Fields.{IsBytes, length-word_bytes, words_takes, words_at-lt, length-words_at, words_cancel}
-use Rattle.sci_packets.proofs.Headers.{IsHeader, header_takes, header_cancel, header_in-fits}
-use Rattle.sci_packets.proofs.Packets.{header_fits}
+use Rattle.sci_packets.proofs.{Headers.{IsHeader, header_takes, header_cancel, header_in-fits}, Packets.{header_fits}}
 
 IsBytes-append : (xs ys : List ℕ) → IsBytes xs → IsBytes ys → IsBytes (xs ++ ys)
 IsBytes-append [] ys h k i = k i

@@ -2,10 +2,8 @@
 use Rattle.std.specs.Prelude.{ℕ, ◌%◌, not, ◌||◌, nat_lt, ◌==◌, if◌then◌else◌, List, length, Option, Some, None}
 use Rattle.sci_packets.specs.declared.fault.PacketFault.{PacketFault}
 use Rattle.sci_packets.specs.declared.fault.PacketFault.TheVariants.{Short, UnknownCommand, BadOffset, BadIdentifier}
-use Rattle.sci_packets.specs.declared.command.Command.{Command}
-use Rattle.sci_packets.specs.declared.header.Header.{Header}
-use Rattle.sci_packets.specs.Fields.{header_in, word_bytes}
-use Rattle.sci_packets.specs.Table.{identifier_of, command_with, body_fault}
+use Rattle.sci_packets.specs.declared.{command.Command.{Command}, header.Header.{Header}}
+use Rattle.sci_packets.specs.{Fields.{header_in, word_bytes}, Table.{identifier_of, command_with, body_fault}}
 
 -- the first fault of a header whose packet has so many bytes, if it has this command
 unfoldable pub header_fault : Option Command → Header → ℕ → Option PacketFault

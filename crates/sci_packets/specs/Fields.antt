@@ -2,11 +2,8 @@
 use Rattle.std.specs.Prelude.{ℕ, zero, suc, ◌+◌, List, [], ◌∷◌, ◌++◌, if◌then◌else◌, drop, Option, Some, None}
 use Rattle.std.specs.List.{flat_map}
 use Rattle.byteorder.specs.Endian.{big_bytes, big_number}
-use Rattle.sci_words.specs.declared.limits.TheConstants.{WORDS_PER_LINE}
-use Rattle.sci_words.specs.declared.stamped.Stamped.{Stamped}
-use Rattle.sci_packets.specs.declared.command.Command.{Command}
-use Rattle.sci_packets.specs.declared.header.Header.{Header}
-use Rattle.sci_packets.specs.Table.{takes_contents}
+use Rattle.sci_words.specs.declared.{limits.TheConstants.{WORDS_PER_LINE}, stamped.Stamped.{Stamped}}
+use Rattle.sci_packets.specs.{declared.{command.Command.{Command}, header.Header.{Header}}, Table.{takes_contents}}
 
 -- a number in n bytes
 unfoldable pub field : ℕ → ℕ → List ℕ

@@ -1,9 +1,7 @@
 -- The one spelling of each packet, over bytes and over words.
 use Rattle.std.specs.Prelude.{ℕ, ◌≡◌, ◌<◌, ◌≤◌, ◌+◌, ◌*◌, ◌^◌, List, ◌∷◌, length, take, slice_index, IfSome}
-use Rattle.sci_words.specs.declared.limits.TheConstants.{WORDS_PER_LINE}
-use Rattle.sci_words.specs.declared.stamped.Stamped.{Stamped}
-use Rattle.sci_packets.specs.declared.header.Header.{Header}
-use Rattle.sci_packets.specs.declared.packet.Packet.{Packet}
+use Rattle.sci_words.specs.declared.{limits.TheConstants.{WORDS_PER_LINE}, stamped.Stamped.{Stamped}}
+use Rattle.sci_packets.specs.declared.{header.Header.{Header}, packet.Packet.{Packet}}
 use Rattle.sci_packets.specs.Fields.{spelled, word_bytes, contents_words}
 use Rattle.sci_packets.specs.Table.{command_number, command_of, parts_of, number_of}
 

@@ -2,15 +2,12 @@
 use Rattle.std.specs.Prelude.{ℕ, Bool, false, ◌&&◌, nat_lt, ◌==◌, if◌then◌else◌, List, codes, find, Option, Some, None, true, IsTrue}
 use Rattle.std.specs.Option.{is_some, is_none}
 use Rattle.sci_words.specs.declared.stamped.Stamped.{Stamped}
-use Rattle.sci_packets.specs.declared.fault.PacketFault.{PacketFault}
-use Rattle.sci_packets.specs.declared.fault.PacketFault.TheVariants.{Short, BadIdentifier}
-use Rattle.sci_packets.specs.declared.body.Body.{Body}
-use Rattle.sci_packets.specs.declared.body.Body.TheVariants as body
-use Rattle.sci_packets.specs.declared.command.Command.{Command}
+use Rattle.sci_packets.specs.declared.fault.PacketFault.{PacketFault, TheVariants.{Short, BadIdentifier}}
+use Rattle.sci_packets.specs.declared.{body.Body.{Body}, command.Command.{Command}}
 use Rattle.sci_packets.specs.declared.command.Command.TheVariants.{Mread, Cread, Purge, Roll, Wback, Setback, Fread, Claim, Clear, Mdata, Mgone, Cdata}
 use Rattle.sci_packets.specs.declared.command.Command.TheVariants.{Purged, Rolled, Wbok, Wbno, Told, Busy, Fdata}
-use Rattle.sci_packets.specs.declared.command.TheConstants.Command.{ALL}
-use Rattle.sci_packets.specs.declared.table.Parts.{Parts}
+use Rattle.sci_packets.specs.declared.{command.TheConstants.Command.{ALL}, table.Parts.{Parts}}
+use Rattle.sci_packets.specs.declared.body.Body.TheVariants as body
 
 -- the number of a command: the requests are below 0x0100, the answers above
 abbrev pub command_number : Command → ℕ

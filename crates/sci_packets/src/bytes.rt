@@ -1,10 +1,8 @@
 //! Packets as bytes.
 
 ghost use Rattle.std.specs.Prelude.{◌≡◌, ◌≤◌, ◌<◌, ◌^◌, ◌↔◌, ℕ, IfOk, IfErr, IsOk, IsErr, IfSome, Ok, length, take, drop, ◌++◌, ◌⊎◌, if◌then◌else◌};
-ghost use Rattle.std.specs.Result.{result_err};
-ghost use Rattle.std.specs.Option.{is_some};
-ghost use Rattle.sci_packets.specs.declared.packet.Packet.{Packet};
-ghost use Rattle.sci_packets.specs.Fault.{fault_of};
+ghost use Rattle.std.specs.{Result.{result_err}, Option.{is_some}};
+ghost use Rattle.sci_packets.specs.{declared.packet.Packet.{Packet}, Fault.{fault_of}};
 ghost use Rattle.sci_packets.specs.Fields.{header_in, contents_for};
 ghost use Rattle.sci_packets.specs.Spelling.{IsPacket, Spells, NoneSpells, header_of, spelling};
 ghost use Rattle.sci_packets.specs.Table.{command_of, number_of, parts_of};

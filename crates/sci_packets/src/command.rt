@@ -1,7 +1,8 @@
 //! The commands of packets.
 
 ghost use Rattle.std.specs.Prelude.{◌≡◌, ◌≤◌, IfSome};
-ghost use Rattle.sci_packets.specs.Table.{command_name, command_number, command_with, packet_bytes as packet_bytes_of, takes_contents as takes_contents_of};
+ghost use Rattle.sci_packets.specs.Table.{command_name, command_number, command_with, packet_bytes as packet_bytes_of};
+ghost use Rattle.sci_packets.specs.Table.{takes_contents as takes_contents_of};
 
 /// What a packet asks or answers, without what it carries, which `Body` says. The numbers are this project's own: the
 /// requests are below 0x0100, the answers above.

@@ -3,8 +3,7 @@
 ghost use Rattle.std.specs.Prelude.{◌≡◌, ◌≤◌, ◌<◌, ◌^◌, ℕ, slice_index, ◌++◌, ◌∷◌, nat_lt, if◌then◌else◌, Some, None, IfOk, length, take, drop};
 ghost use Rattle.std.specs.Result.{result_err};
 ghost use Rattle.sci_words.specs.declared.limits.TheConstants.{WORDS_PER_LINE};
-ghost use Rattle.sci_packets.specs.Fields.{contents_in, words_at, word_bytes, field_at};
-ghost use Rattle.sci_packets.specs.Spelling.{IsContents};
+ghost use Rattle.sci_packets.specs.{Fields.{contents_in, words_at, word_bytes, field_at}, Spelling.{IsContents}};
 
 use crate::fault::PacketFault;
 use byteorder::{BigEndian, ByteOrder};

@@ -1,8 +1,7 @@
 //! Laws of the spellings, each the contract of a function that does nothing.
 
 ghost use Rattle.std.specs.Prelude.{◌≡◌, ◌<◌, ◌^◌, ◌⊎◌, ◌++◌, ℕ, List, [], length, slice_index};
-ghost use Rattle.sci_packets.specs.declared.packet.Packet.{Packet};
-ghost use Rattle.sci_packets.specs.Fields.{word_bytes};
+ghost use Rattle.sci_packets.specs.{declared.packet.Packet.{Packet}, Fields.{word_bytes}};
 ghost use Rattle.sci_packets.specs.Spelling.{IsPacket, Spells, SpellsInWords, spelling, words_of};
 
 /// No spelling is a proper prefix of another: nothing follows the shorter one.

@@ -1,9 +1,7 @@
 //! The table of packets: what each body puts into its packet, and which body is put there.
 
-ghost use Rattle.std.specs.Prelude.{◌≡◌, IfOk, length};
-ghost use Rattle.std.specs.Result.{result_err};
-ghost use Rattle.sci_packets.specs.Fields.{contents_for};
-ghost use Rattle.sci_packets.specs.Table.{parts as parts_with, parts_of, body_fault};
+ghost use Rattle.std.specs.{Prelude.{◌≡◌, IfOk, length}, Result.{result_err}};
+ghost use Rattle.sci_packets.specs.{Fields.{contents_for}, Table.{parts as parts_with, parts_of, body_fault}};
 
 use crate::body::Body;
 use crate::command::Command;

@@ -2,8 +2,7 @@
 
 ghost use Rattle.std.specs.Prelude.{◌≡◌, ◌≤◌, ◌↔◌, ◌⊎◌, ◌/◌, ◌%◌, ◌^◌, ℕ, IfOk, IsErr, if◌then◌else◌, length, take, drop, ◌++◌};
 ghost use Rattle.std.specs.Result.{result_err};
-ghost use Rattle.sci_packets.specs.declared.packet.Packet.{Packet};
-ghost use Rattle.sci_packets.specs.Fault.{fault_of_words};
+ghost use Rattle.sci_packets.specs.{declared.packet.Packet.{Packet}, Fault.{fault_of_words}};
 ghost use Rattle.sci_packets.specs.Spelling.{CountsWords, IsPacket, SpellsInWords, NoneSpellsInWords, words_of};
 ghost use Rattle.sci_packets.specs.Table.{carries, command_with};
 

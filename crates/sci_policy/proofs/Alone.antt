@@ -1,21 +1,12 @@
 -- A machine of one node.
-use Rattle.std.proofs.Common.{◌≡◌, ◌≤◌, ◌<◌, ◌*◌, ◌⊎◌, ℕ, zero, suc, true, false, arith, List, [], ◌∷◌, filter, length, get_or, None, refl, sym, ap, subst, ◌∙◌}
-use Rattle.std.proofs.Common.{inl, inr}
-use Rattle.std.specs.Prelude.{option_to_list}
-use Rattle.std.specs.List.{flat_map}
-use Rattle.std.proofs.lemmas.Bool.{cases_lt}
-use Rattle.std.proofs.lemmas.List.{get_or_past}
-use Rattle.sci_cache.specs.State.{waits}
-use Rattle.sci_cache.specs.Line.{LineState, untouched}
-use Rattle.sci_cache.specs.Cache.{Letter, line_of}
+use Rattle.std.proofs.Common.{◌≡◌, ◌≤◌, ◌<◌, ◌*◌, ◌⊎◌, ℕ, zero, suc, true, false, arith, List, [], ◌∷◌, filter, length, get_or, None, refl, sym, ap, subst}
+use Rattle.std.proofs.{Common.{◌∙◌, inl, inr}, lemmas.{Bool.{cases_lt}, List.{get_or_past}}}
+use Rattle.std.specs.{Prelude.{option_to_list}, List.{flat_map}}
+use Rattle.sci_cache.specs.{State.{waits}, Line.{LineState, untouched}, Cache.{Letter, line_of}}
 use Rattle.sci_core.specs.declared.lane.LaneKind.TheVariants.{Answers, Requests}
-use Rattle.sci_core.specs.Core.{Core, lane_at, lane_of, lane_place, node_at}
-use Rattle.sci_core.specs.Node.{NodeOf, no_node}
-use Rattle.sci_core.specs.Reached.{IsReached}
-use Rattle.sci_core.specs.Sharing.{is_about, packets_of, under_way}
-use Rattle.sci_core.specs.Tidy.{HasItsPackets}
-use Rattle.sci_core.proofs.Tidy.TidyRuns.{reached_tidy}
-use Rattle.sci_core.proofs.WellFormed.WellFormedSteps.{reached_well}
+use Rattle.sci_core.specs.{Core.{Core, lane_at, lane_of, lane_place, node_at}, Node.{NodeOf, no_node}}
+use Rattle.sci_core.specs.{Reached.{IsReached}, Sharing.{is_about, packets_of, under_way}, Tidy.{HasItsPackets}}
+use Rattle.sci_core.proofs.{Tidy.TidyRuns.{reached_tidy}, WellFormed.WellFormedSteps.{reached_well}}
 use Rattle.sci_policy.specs.Lines.{state_on}
 
 none_flat : {X : Type 0} (f : X → List Letter) (xs : List X) (d : X) → ((i : ℕ) → i < length xs → f (get_or xs i d) ≡ []) → flat_map f xs ≡ []

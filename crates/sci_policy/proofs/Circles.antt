@@ -1,6 +1,5 @@
 -- Going round a circle once comes by every place.
-use Rattle.std.proofs.Common.{◌≡◌, ◌<◌, ◌+◌, ◌-◌, ◌*◌, ◌%◌, ℕ, arith, ap, ◌∙◌, inl, inr}
-use Rattle.std.proofs.lemmas.Bool.{cases_lt}
+use Rattle.std.proofs.{Common.{◌≡◌, ◌<◌, ◌+◌, ◌-◌, ◌*◌, ◌%◌, ℕ, arith, ap, ◌∙◌, inl, inr}, lemmas.Bool.{cases_lt}}
 use Rattle.std.proofs.lemmas.Nat.{mod-mul-add}
 
 pub record ComesBy (nodes first from : ℕ) : Type 0 where

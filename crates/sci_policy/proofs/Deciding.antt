@@ -1,15 +1,14 @@
 -- What the policy decides of a request, and what it never does.
 use Rattle.std.proofs.Common.{◌≡◌, ℕ, Bool, true, false, if◌then◌else◌, Option, Some, None, sym, ◌∙◌, refl}
-use Rattle.std.specs.Prelude.{is_some, not, ◌==◌}
 use Rattle.std.proofs.lemmas.Bool.{and_parts, both_ways, eq-eqb, not-true}
+use Rattle.std.specs.Prelude.{is_some, not, ◌==◌}
 use Rattle.sci_packets.specs.declared.body.Body.{Body}
-use Rattle.sci_packets.specs.declared.body.Body.TheVariants as body
 use Rattle.sci_cache.specs.Cache.{Letter}
 use Rattle.sci_core.specs.Node.{NodeOf, is_setback}
 use Rattle.sci_policy.specs.declared.decision.Decision.{Decision}
+use Rattle.sci_policy.specs.{Policy.{PolicyOf, decided, is_cread, kept_by, refused_by}, Turn.{decided_event}}
+use Rattle.sci_packets.specs.declared.body.Body.TheVariants as body
 use Rattle.sci_policy.specs.declared.decision.Decision.TheVariants as decision
-use Rattle.sci_policy.specs.Policy.{PolicyOf, decided, is_cread, kept_by, refused_by}
-use Rattle.sci_policy.specs.Turn.{decided_event}
 
 refused_if : (keep refuse : Bool) → (if keep then decision.Keep else if refuse then decision.Refuse else decision.Serve) ≡ decision.Refuse → refuse ≡ true
 refused_if true refuse e = cc

@@ -1,9 +1,7 @@
 -- What the least and the oldest of some lines are, and when there is one.
-use Rattle.std.proofs.Common.{◌≡◌, ℕ, zero, suc, ◌+◌, ◌<◌, ◌≤◌, ◌&&◌, nat_le, Bool, true, false, cond, if◌then◌else◌, List, [], ◌∷◌, filter, Option, Some, None}
-use Rattle.std.proofs.Common.{refl, sym, ap, subst, ◌∙◌, arith, inl, inr}
-use Rattle.std.specs.Prelude.{IfSome, is_some}
-use Rattle.std.specs.List.{find, range_with_len, AllByRecursion}
-use Rattle.std.proofs.lemmas.Bool.{cases_Bool, cases_eq}
+use Rattle.std.proofs.Common.{◌≡◌, ℕ, zero, suc, ◌+◌, ◌<◌, ◌≤◌, ◌&&◌, nat_le, Bool, true, false, cond, if◌then◌else◌, List, [], ◌∷◌, filter, Option, Some}
+use Rattle.std.proofs.{Common.{None, refl, sym, ap, subst, ◌∙◌, arith, inl, inr}, lemmas.Bool.{cases_Bool, cases_eq}}
+use Rattle.std.specs.{Prelude.{IfSome, is_some}, List.{find, range_with_len, AllByRecursion}}
 use Rattle.sci_core.specs.Node.{NodeOf, lines_of}
 use Rattle.sci_policy.specs.Lines.{all_lines, has_pending, least, oldest, oldest_of, older, serial_on, some_line}
 

@@ -1,11 +1,9 @@
 -- A node at rest wants nothing, and none of its lines drains.
 use Rattle.std.proofs.Common.{◌≡◌, ℕ, ◌&&◌, ◌||◌, Bool, true, false, Option, Some, None, refl, sym, ap, ◌∙◌}
-use Rattle.std.specs.Prelude.{IfSome, is_some, option_map}
-use Rattle.std.specs.Option.{option_or, option_and_then}
 use Rattle.std.proofs.lemmas.Bool.{and_parts}
-use Rattle.sci_cache.specs.State.{CacheState, Out, is_out}
+use Rattle.std.specs.{Prelude.{IfSome, is_some, option_map}, Option.{option_or, option_and_then}}
+use Rattle.sci_cache.specs.{State.{CacheState, Out, is_out}, Kinds.{has_fresh_sharers, has_sharers, joins, must_send}}
 use Rattle.sci_core.specs.Node.{IsAtRest, NodeOf, node_performing}
-use Rattle.sci_cache.specs.Kinds.{has_fresh_sharers, has_sharers, joins, must_send}
 use Rattle.sci_policy.specs.Lines.{has_pending, least, oldest, some_line, state_on}
 use Rattle.sci_policy.specs.Policy.{PolicyOf, ask_of, contents_wanted, due_wanted, has, held_back, is_claimed, is_purged, operation_asks, perform_wanted}
 use Rattle.sci_policy.specs.Policy.{purge_wanted, ruled, send_wanted, slot_for, slot_wanted, wanted}

@@ -1,10 +1,7 @@
 -- The least line comes first, and the oldest operation has the least serial.
-use Rattle.std.proofs.Common.{◌≡◌, ℕ, zero, suc, ◌+◌, ◌<◌, ◌≤◌, ◌&&◌, Bool, true, false, cond, ◌∷◌, filter, Option}
-use Rattle.std.proofs.Common.{Some, None, refl, ap, arith, inl, inr}
-use Rattle.std.specs.List.{find, range_with_len}
-use Rattle.std.specs.Prelude.{IfSome}
-use Rattle.std.proofs.lemmas.Bool.{and_parts, cases_eq}
-use Rattle.std.proofs.lemmas.Option.{IfSome_then}
+use Rattle.std.proofs.Common.{◌≡◌, ℕ, zero, suc, ◌+◌, ◌<◌, ◌≤◌, ◌&&◌, Bool, true, false, cond, ◌∷◌, filter, Option, Some, None, refl, ap, arith, inl, inr}
+use Rattle.std.proofs.lemmas.{Bool.{and_parts, cases_eq}, Option.{IfSome_then}}
+use Rattle.std.specs.{List.{find, range_with_len}, Prelude.{IfSome}}
 use Rattle.sci_core.specs.Node.{NodeOf, lines_of}
 use Rattle.sci_policy.specs.Lines.{has_pending, least, oldest, oldest_of, older, serial_on}
 use Rattle.sci_policy.proofs.Found.{further, oldest_fits}

@@ -1,7 +1,6 @@
 -- A set of lines that is marked line by line, from the least on.
-use Rattle.std.proofs.Common.{◌≡◌, ◌≢◌, ◌⊎◌, ℕ, ◌+◌, ◌<◌, ◌≤◌, Bool, true, false, List, length, get_or, set, replicate, ◌||◌, refl, sym, ap, ◌∙◌, arith, inl}
-use Rattle.std.proofs.Common.{inr}
-use Rattle.std.proofs.lemmas.Bool.{cases_eq, cases_lt}
+use Rattle.std.proofs.Common.{◌≡◌, ◌≢◌, ◌⊎◌, ℕ, ◌+◌, ◌<◌, ◌≤◌, Bool, true, false, List, length, get_or, set, replicate, ◌||◌, refl, sym, ap, ◌∙◌, arith}
+use Rattle.std.proofs.{Common.{inl, inr}, lemmas.Bool.{cases_eq, cases_lt}}
 use Rattle.std.proofs.lemmas.List.{ext_get_or, get_or_past, get_or-replicate, get_or-set_other, get_or-set_same, length-replicate, length-set}
 use Rattle.std.proofs.lemmas.List.FromFn.{get_or-map-range_with_len, length-map-range_with_len}
 use Rattle.sci_words.specs.declared.limits.TheConstants.{MAX_LINES}

@@ -1,13 +1,10 @@
 -- The oldest of the operations of some lines.
-use Rattle.std.proofs.Common.{◌≡◌, ℕ, zero, suc, ◌+◌, ◌-◌, ◌<◌, ◌≤◌, nat_lt, ◌&&◌, Bool, true, false, if◌then◌else◌, cond, List, [], ◌∷◌, ◌++◌, filter, Option}
-use Rattle.std.proofs.Common.{Some, None, refl, sym, ap, subst, ◌∙◌, arith, inl, inr}
-use Rattle.std.specs.Prelude.{IfSome, is_some, option_map}
-use Rattle.std.specs.List.{range_with_len}
-use Rattle.std.proofs.lemmas.Bool.{cases_Bool, false_from_ne_true}
-use Rattle.std.proofs.lemmas.List.{append-nil}
+use Rattle.std.proofs.Common.{◌≡◌, ℕ, zero, suc, ◌+◌, ◌-◌, ◌<◌, ◌≤◌, nat_lt, ◌&&◌, Bool, true, false, if◌then◌else◌, cond, List, [], ◌∷◌, ◌++◌, filter}
+use Rattle.std.proofs.Common.{Option, Some, None, refl, sym, ap, subst, ◌∙◌, arith, inl, inr}
+use Rattle.std.proofs.lemmas.{Bool.{cases_Bool, false_from_ne_true}, List.{append-nil}}
 use Rattle.std.proofs.lemmas.List.Elements.{filter-append, filter_agree}
-use Rattle.sci_core.specs.Node.{NodeOf, pending_on}
-use Rattle.sci_core.specs.declared.pending.Pending.{Pending}
+use Rattle.std.specs.{Prelude.{IfSome, is_some, option_map}, List.{range_with_len}}
+use Rattle.sci_core.specs.{Node.{NodeOf, pending_on}, declared.pending.Pending.{Pending}}
 use Rattle.sci_policy.specs.Lines.{all_lines, has_pending, older, oldest, oldest_of, serial_in, serial_on}
 use Rattle.sci_policy.specs.Scan.{is_older_than}
 use Rattle.sci_policy.proofs.Ranges.{range_more}

@@ -1,29 +1,21 @@
 -- Laws of what the policy wants, of its draining lines, and of the requests that it keeps.
-use Rattle.std.proofs.Common.{◌≡◌, ◌≢◌, ℕ, ◌+◌, ◌<◌, ◌==◌, ◌&&◌, ◌||◌, not, Bool, true, false, if◌then◌else◌, Option, Some, None, set, List}
-use Rattle.std.proofs.Common.{refl, sym, subst, eq-eqb, get_or-set_other, inl, inr, ◌∙◌}
-use Rattle.std.specs.Prelude.{IfSome, IsOk, IsSome, nat_lt}
+use Rattle.std.proofs.Common.{◌≡◌, ◌≢◌, ℕ, ◌+◌, ◌<◌, ◌==◌, ◌&&◌, ◌||◌, not, Bool, true, false, if◌then◌else◌, Option, Some, None, set, List, refl, sym}
+use Rattle.std.proofs.Common.{subst, eq-eqb, get_or-set_other, inl, inr, ◌∙◌}
 use Rattle.std.proofs.lemmas.Bool.{and_parts, cases_eq, cases_lt, or_cases}
-use Rattle.sci_words.specs.declared.limits.TheConstants.{MAX_LINES}
-use Rattle.sci_words.specs.declared.event.AskKind.{AskKind}
-use Rattle.sci_words.specs.declared.event.AskKind.TheVariants as kind
-use Rattle.sci_packets.specs.declared.body.Body.{Body}
-use Rattle.sci_packets.specs.declared.body.Body.TheVariants.{Cread}
+use Rattle.std.specs.Prelude.{IfSome, IsOk, IsSome, nat_lt}
+use Rattle.sci_words.specs.declared.{limits.TheConstants.{MAX_LINES}, event.AskKind.{AskKind}}
+use Rattle.sci_packets.specs.declared.body.Body.{Body, TheVariants.{Cread}}
 use Rattle.sci_cache.specs.State.{CacheState, Joining, FreshJoining, Head, FreshHead, Telling, is_out}
-use Rattle.sci_cache.specs.Asking.{Asked, asking}
-use Rattle.sci_cache.specs.Cache.{CacheOf, Letter, cache_asked, has_slot}
-use Rattle.sci_cache.specs.Kinds.{has_sharers, joins}
-use Rattle.sci_cache.specs.Line.{ask_or_fault}
+use Rattle.sci_cache.specs.{Asking.{Asked, asking}, Cache.{CacheOf, Letter, cache_asked, has_slot}}
+use Rattle.sci_cache.specs.{Kinds.{has_sharers, joins}, Line.{ask_or_fault}}
 use Rattle.sci_core.specs.Node.{NodeOf, lines_of, node_asking}
 use Rattle.sci_core.proofs.Step.Asks.{may_ask}
-use Rattle.sci_policy.specs.declared.policy.TheConstants.{PATIENCE}
-use Rattle.sci_policy.specs.declared.want.Want.{Want}
-use Rattle.sci_policy.specs.declared.want.Want.TheVariants.{Perform, Ask}
+use Rattle.sci_policy.specs.declared.{policy.TheConstants.{PATIENCE}, want.Want.{Want, TheVariants.{Perform, Ask}}}
 use Rattle.sci_policy.specs.Lines.{can_drain, state_on}
 use Rattle.sci_policy.specs.Policy.{IsEnabledWant, PolicyOf, asks_home_to_change, awaits_home, draining_at_last, due_at_last, has, held_back, is_busy_now}
 use Rattle.sci_policy.specs.Policy.{is_cread, kept_by, next_policy, next_wanted, noted, refused_by, ruled, set_of, still_draining, ticked}
-use Rattle.sci_policy.proofs.Found.{least_some}
-use Rattle.sci_policy.proofs.Marks.{in_set, past_set}
-use Rattle.sci_policy.proofs.Wants.{wanted_enabled}
+use Rattle.sci_policy.proofs.{Found.{least_some}, Marks.{in_set, past_set}, Wants.{wanted_enabled}}
+use Rattle.sci_words.specs.declared.event.AskKind.TheVariants as kind
 
 -- ---- what is wanted while a line joins
 

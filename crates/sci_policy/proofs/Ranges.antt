@@ -1,11 +1,7 @@
 -- The least number that passes a test, among more and more of them.
 use Rattle.std.proofs.Common.{◌≡◌, ℕ, zero, suc, ◌+◌, ◌-◌, ◌<◌, ◌≤◌, Bool, true, false, cond, List, [], ◌∷◌, ◌++◌, Option, Some, None, refl, sym, ap, ◌∙◌}
-use Rattle.std.proofs.Common.{arith}
-use Rattle.std.specs.Prelude.{IfSome}
-use Rattle.std.specs.Bool.{then_some}
-use Rattle.std.specs.Option.{option_or}
-use Rattle.std.specs.List.{find, range_with_len}
-use Rattle.std.proofs.lemmas.List.Folds.{find-append}
+use Rattle.std.proofs.{Common.{arith}, lemmas.List.Folds.{find-append}}
+use Rattle.std.specs.{Prelude.{IfSome}, Bool.{then_some}, Option.{option_or}, List.{find, range_with_len}}
 use Rattle.sci_cache.specs.LineSet.{IsBefore}
 
 -- numbers up to a place, and those from it on

@@ -1,31 +1,23 @@
 -- A node of a reached state always wants something, unless nothing is pending or a line awaits an answer.
 use Rattle.std.proofs.Common.{◌≡◌, ℕ, ◌<◌, ◌≤◌, ◌&&◌, not, Bool, true, false, if◌then◌else◌, get_or, Option, Some, None, refl, sym, ap, subst, ◌∙◌, arith}
 use Rattle.std.proofs.Common.{inl, inr}
-use Rattle.std.specs.Prelude.{IfSome, IsSome, is_some, option_map}
-use Rattle.std.specs.Option.{option_or, option_and_then}
 use Rattle.std.proofs.lemmas.Bool.{and_parts, and_right, cases_Bool, cases_lt, lt-ltb, not_from_true, or_right, true_from_ne_false}
 use Rattle.std.proofs.lemmas.List.{get_or_past}
+use Rattle.std.specs.{Prelude.{IfSome, IsSome, is_some, option_map}, Option.{option_or, option_and_then}}
 use Rattle.sci_words.specs.declared.event.AskKind.{AskKind}
-use Rattle.sci_words.specs.declared.event.AskKind.TheVariants as kind
-use Rattle.sci_cache.specs.State.{CacheState, Out, Joining, FreshJoining, Head, FreshHead, Below, Purging, Claiming, Clearing, Returning, Rolling}
-use Rattle.sci_cache.specs.State.{Telling, Fading, is_out, waits}
-use Rattle.sci_cache.specs.Line.{LineState, untouched}
-use Rattle.sci_cache.specs.Cache.{has_slot, slots_taken}
-use Rattle.sci_core.specs.Node.{NodeOf, lines_of, node_performing, pending_on}
-use Rattle.sci_core.specs.Reached.{IsReachedNode}
-use Rattle.sci_core.proofs.History.Pendings.{sole_performs}
-use Rattle.sci_core.proofs.Settling.GoingOn.{any_can_go_on}
-use Rattle.sci_core.proofs.Settling.Rest.{counted_none}
-use Rattle.sci_core.proofs.WellFormed.WellFormedSteps.{any_part, reachable_node}
-use Rattle.sci_policy.specs.declared.want.Want.{Want}
-use Rattle.sci_policy.specs.declared.want.Want.TheVariants.{Perform, Ask}
+use Rattle.sci_cache.specs.State.{CacheState, Out, Joining, FreshJoining, Head, FreshHead, Below, Purging, Claiming, Clearing, Returning, Rolling, Telling}
+use Rattle.sci_cache.specs.{State.{Fading, is_out, waits}, Line.{LineState, untouched}, Cache.{has_slot, slots_taken}}
 use Rattle.sci_cache.specs.Kinds.{could_give_way, gives_way, joins, must_send}
+use Rattle.sci_core.specs.{Node.{NodeOf, lines_of, node_performing, pending_on}, Reached.{IsReachedNode}}
+use Rattle.sci_core.proofs.{History.Pendings.{sole_performs}, Settling.{GoingOn.{any_can_go_on}, Rest.{counted_none}}}
+use Rattle.sci_core.proofs.WellFormed.WellFormedSteps.{any_part, reachable_node}
+use Rattle.sci_policy.specs.declared.want.Want.{Want, TheVariants.{Perform, Ask}}
 use Rattle.sci_policy.specs.Lines.{has_maker, has_pending, least, oldest, own_ask, some_line, state_on}
 use Rattle.sci_policy.specs.Policy.{PolicyOf, ask_of, asked_in, asks_home_to_change, contents_wanted, due_wanted, has, held_back, is_purged, lacks_slot}
 use Rattle.sci_policy.specs.Policy.{operation_asks, operation_wanted, perform_wanted, purge_wanted, read_kind, ruled, send_wanted, slot_for, slot_wanted}
-use Rattle.sci_policy.specs.Policy.{wanted}
-use Rattle.sci_policy.specs.Rest.{MayRest, NothingPending, Awaits}
+use Rattle.sci_policy.specs.{Policy.{wanted}, Rest.{MayRest, NothingPending, Awaits}}
 use Rattle.sci_policy.proofs.Found.{least_fits, least_none, least_some, none_passes, oldest_fits, oldest_some}
+use Rattle.sci_words.specs.declared.event.AskKind.TheVariants as kind
 
 -- ---- options
 

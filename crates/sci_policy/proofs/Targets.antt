@@ -2,12 +2,9 @@
 use Rattle.std.proofs.Common.{◌≡◌, ℕ, ◌<◌, Some, arith}
 use Rattle.sci_words.specs.declared.event.AskKind.{AskKind}
 use Rattle.sci_cache.specs.Cache.{Letter}
-use Rattle.sci_core.specs.Core.{Core, node_at}
-use Rattle.sci_core.specs.Node.{NodeOf, node_asking}
-use Rattle.sci_core.specs.Reached.{IsReached}
+use Rattle.sci_core.specs.{Core.{Core, node_at}, Node.{NodeOf, node_asking}, Reached.{IsReached}}
 use Rattle.sci_core.specs.WellFormed.{IsAnswerLetter}
-use Rattle.sci_core.proofs.Basics.Options.{of_some}
-use Rattle.sci_core.proofs.WellFormed.Parts.{SendsWell, part_asking}
+use Rattle.sci_core.proofs.{Basics.Options.{of_some}, WellFormed.Parts.{SendsWell, part_asking}}
 use Rattle.sci_core.proofs.WellFormed.WellFormedSteps.{reached_well}
 
 pub waiting_target : (core : Core) (n : ℕ) (letter : Letter) → IsReached core → n < core.size.nodes → (node_at core n).waiting ≡ Some letter

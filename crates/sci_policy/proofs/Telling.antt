@@ -1,12 +1,12 @@
 -- What is told of a turn with one event more, and of one that did nothing.
 use Rattle.std.proofs.Common.{◌≡◌, ◌≤◌, ◌+◌, ℕ, Bool, true, false, arith, Option, Some, None, refl, sym, ap, ◌∙◌}
-use Rattle.std.specs.Prelude.{◌||◌, if◌then◌else◌, is_none, nat_lt}
 use Rattle.std.proofs.lemmas.Bool.{and_parts, eqb-true, not-true}
+use Rattle.std.specs.Prelude.{◌||◌, if◌then◌else◌, is_none, nat_lt}
 use Rattle.sci_words.specs.declared.event.Event.{Event}
-use Rattle.sci_words.specs.declared.event.Event.TheVariants as event
 use Rattle.sci_core.specs.Draining.{one_if}
 use Rattle.sci_policy.specs.declared.progress.Progress.{Progress}
 use Rattle.sci_policy.specs.Turn.{IsTurnEvent, MadeNothing, capped, counted, is_idle}
+use Rattle.sci_words.specs.declared.event.Event.TheVariants as event
 
 pub one : (b : Bool) → one_if b ≤ 1
 one true = omega arith

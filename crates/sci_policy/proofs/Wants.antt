@@ -1,22 +1,18 @@
 -- What each rule wants is enabled, whatever the node is.
 use Rattle.std.proofs.Common.{◌≡◌, ℕ, ◌<◌, nat_lt, ◌&&◌, ◌||◌, not, Bool, true, false, if◌then◌else◌, Option, Some, None, refl, sym, ap, subst, ◌∙◌}
-use Rattle.std.specs.Prelude.{IfSome, IsSome, is_some, option_map}
-use Rattle.std.specs.Option.{option_or, option_and_then}
 use Rattle.std.proofs.lemmas.Bool.{and_parts, lt-ltb}
+use Rattle.std.specs.{Prelude.{IfSome, IsSome, is_some, option_map}, Option.{option_or, option_and_then}}
 use Rattle.sci_words.specs.declared.event.AskKind.{AskKind}
-use Rattle.sci_words.specs.declared.event.AskKind.TheVariants as kind
 use Rattle.sci_cache.specs.State.{CacheState, Out, Joining, FreshJoining, Head, FreshHead, Below, Telling, is_out}
-use Rattle.sci_cache.specs.Asking.{Asked, asking}
-use Rattle.sci_cache.specs.Line.{ask_or_fault}
-use Rattle.sci_cache.specs.Cache.{cache_asked, cache_asking, has_slot}
-use Rattle.sci_core.specs.Node.{NodeOf, asked_by, lines_of, node_asking, node_performing}
-use Rattle.sci_policy.specs.declared.want.Want.{Want}
-use Rattle.sci_policy.specs.declared.want.Want.TheVariants.{Perform, Ask}
+use Rattle.sci_cache.specs.{Asking.{Asked, asking}, Line.{ask_or_fault}, Cache.{cache_asked, cache_asking, has_slot}}
 use Rattle.sci_cache.specs.Kinds.{could_give_way, has_fresh_sharers, has_sharers, must_send, joins}
+use Rattle.sci_core.specs.Node.{NodeOf, asked_by, lines_of, node_asking, node_performing}
+use Rattle.sci_policy.specs.declared.want.Want.{Want, TheVariants.{Perform, Ask}}
 use Rattle.sci_policy.specs.Lines.{has_maker, has_pending, least, oldest, own_ask, some_line, state_on}
-use Rattle.sci_policy.specs.Policy.{IsEnabledWant, PolicyOf, ask_of, asked_in, contents_wanted, due_wanted, has, held_back, is_claimed, is_purged, lacks_slot}
-use Rattle.sci_policy.specs.Policy.{operation_asks, perform_wanted, purge_wanted, read_kind, ruled, send_wanted, slot_for, slot_wanted, wanted}
+use Rattle.sci_policy.specs.Policy.{IsEnabledWant, PolicyOf, ask_of, asked_in, contents_wanted, due_wanted, has, held_back, is_claimed, is_purged}
+use Rattle.sci_policy.specs.Policy.{lacks_slot, operation_asks, perform_wanted, purge_wanted, read_kind, ruled, send_wanted, slot_for, slot_wanted, wanted}
 use Rattle.sci_policy.proofs.Found.{least_fits, oldest_fits}
+use Rattle.sci_words.specs.declared.event.AskKind.TheVariants as kind
 
 -- ---- options
 

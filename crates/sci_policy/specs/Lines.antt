@@ -1,13 +1,11 @@
 -- What a policy sees of a node's lines. All of it is this project's profile.
 use Rattle.std.specs.Prelude.{ℕ, nat_le, Bool, true, false, ◌&&◌, if◌then◌else◌, List, [], ◌∷◌, filter, Option, Some, None, is_some}
 use Rattle.std.specs.List.{find, range_with_len}
-use Rattle.sci_words.specs.declared.event.AskKind.{AskKind}
-use Rattle.sci_words.specs.declared.event.AskKind.TheVariants as kind
-use Rattle.sci_words.specs.Operation.{is_maker}
+use Rattle.sci_words.specs.{declared.event.AskKind.{AskKind}, Operation.{is_maker}}
 use Rattle.sci_cache.specs.State.{CacheState, Joining, FreshJoining, Head, FreshHead, Below, Purging, Telling}
 use Rattle.sci_cache.specs.Cache.{line_of}
-use Rattle.sci_core.specs.declared.pending.Pending.{Pending}
-use Rattle.sci_core.specs.Node.{NodeOf, lines_of, pending_on}
+use Rattle.sci_core.specs.{declared.pending.Pending.{Pending}, Node.{NodeOf, lines_of, pending_on}}
+use Rattle.sci_words.specs.declared.event.AskKind.TheVariants as kind
 
 -- ---- states
 

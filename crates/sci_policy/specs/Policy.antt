@@ -1,24 +1,19 @@
 -- What a policy remembers, and what it decides: which event its node makes next, and which requests it keeps or refuses.
 -- All of it is this project's profile.
-use Rattle.std.specs.Prelude.{ℕ, ◌+◌, ◌%◌, ◌==◌, nat_lt, Bool, true, false, not, ◌&&◌, ◌||◌, if◌then◌else◌, List, map, slice_index_or, slice_set, replicate}
-use Rattle.std.specs.Prelude.{Option, Some, None, is_some, IsSome, option_map}
-use Rattle.std.specs.Option.{option_or, option_and_then}
-use Rattle.std.specs.List.{range_with_len}
-use Rattle.sci_words.specs.declared.limits.TheConstants.{MAX_LINES}
-use Rattle.sci_words.specs.declared.event.AskKind.{AskKind}
-use Rattle.sci_words.specs.declared.event.AskKind.TheVariants as kind
-use Rattle.sci_packets.specs.declared.body.Body.{Body}
-use Rattle.sci_packets.specs.declared.body.Body.TheVariants.{Cread}
+use Rattle.std.specs.Prelude.{ℕ, ◌+◌, ◌%◌, ◌==◌, nat_lt, Bool, true, false, not, ◌&&◌, ◌||◌, if◌then◌else◌, List, map, slice_index_or, slice_set}
+use Rattle.std.specs.Prelude.{replicate, Option, Some, None, is_some, IsSome, option_map}
+use Rattle.std.specs.{Option.{option_or, option_and_then}, List.{range_with_len}}
+use Rattle.sci_words.specs.declared.{limits.TheConstants.{MAX_LINES}, event.AskKind.{AskKind}}
+use Rattle.sci_packets.specs.declared.body.Body.{Body, TheVariants.{Cread}}
 use Rattle.sci_cache.specs.State.{CacheState, Out, Asking, Joining, FreshJoining, FreshHead, Below, Purging, Claiming, Clearing, Returning, is_out}
 use Rattle.sci_cache.specs.Cache.{Letter, has_slot}
-use Rattle.sci_core.specs.Node.{NodeOf, node_performing, node_asking}
-use Rattle.sci_policy.specs.declared.policy.TheConstants.{PATIENCE}
-use Rattle.sci_policy.specs.declared.decision.Decision.{Decision}
-use Rattle.sci_policy.specs.declared.decision.Decision.TheVariants.{Keep, Refuse, Serve}
-use Rattle.sci_policy.specs.declared.want.Want.{Want}
-use Rattle.sci_policy.specs.declared.want.Want.TheVariants.{Perform, Ask}
 use Rattle.sci_cache.specs.Kinds.{has_sharers, has_fresh_sharers, joins, must_send, gives_way, could_give_way}
+use Rattle.sci_core.specs.Node.{NodeOf, node_performing, node_asking}
+use Rattle.sci_policy.specs.declared.{policy.TheConstants.{PATIENCE}, decision.Decision.{Decision}}
+use Rattle.sci_policy.specs.declared.{decision.Decision.TheVariants.{Keep, Refuse, Serve}, want.Want.{Want}}
+use Rattle.sci_policy.specs.declared.want.Want.TheVariants.{Perform, Ask}
 use Rattle.sci_policy.specs.Lines.{can_drain, is_head, own_ask, state_on, has_pending, has_maker, least, some_line, oldest}
+use Rattle.sci_words.specs.declared.event.AskKind.TheVariants as kind
 
 -- ---- what is remembered
 

@@ -1,8 +1,6 @@
 -- What the walks over a node's lines compute.
 use Rattle.std.specs.Prelude.{◌≡◌, ◌<◌, ℕ, nat_lt, Bool, true, Option, Some, None}
-use Rattle.sci_cache.specs.declared.line_kind.LineKind.{LineKind}
-use Rattle.sci_cache.specs.State.{CacheState}
-use Rattle.sci_cache.specs.Kinds.{is_of}
+use Rattle.sci_cache.specs.{declared.line_kind.LineKind.{LineKind}, State.{CacheState}, Kinds.{is_of}}
 
 -- each answer of a closure, at a line below a bound, is this test's
 abbrev pub IsTest : ℕ → (ℕ → Bool → Type 0) → (ℕ → Bool) → Type 0

@@ -1,18 +1,12 @@
 -- What a node does in a turn, and what is told of it.
 use Rattle.std.specs.Prelude.{◌≡◌, ℕ, ◌+◌, nat_lt, Bool, true, false, not, ◌&&◌, ◌||◌, ◌==◌, is_none, if◌then◌else◌, List, count_by, Option, Some, None}
-use Rattle.std.specs.Prelude.{is_some, IfSome, IsSome}
-use Rattle.std.specs.List.{list_any}
-use Rattle.sci_words.specs.declared.limits.TheConstants.{WORDS_PER_LINE}
-use Rattle.sci_words.specs.declared.event.Event.{Event}
-use Rattle.sci_words.specs.declared.event.Event.TheVariants as event
-use Rattle.sci_words.specs.declared.operation.Op.{Op}
-use Rattle.sci_core.specs.Core.{node_of}
-use Rattle.sci_core.specs.Node.{NodeOf, lines_of, node_performing, pending_on}
-use Rattle.sci_policy.specs.declared.decision.Decision.{Decision}
-use Rattle.sci_policy.specs.declared.decision.Decision.TheVariants.{Keep, Refuse, Serve}
-use Rattle.sci_policy.specs.declared.progress.Progress.{Progress}
-use Rattle.sci_policy.specs.declared.submit.SubmitFault.{SubmitFault}
+use Rattle.std.specs.{Prelude.{is_some, IfSome, IsSome}, List.{list_any}}
+use Rattle.sci_words.specs.declared.{limits.TheConstants.{WORDS_PER_LINE}, event.Event.{Event}, operation.Op.{Op}}
+use Rattle.sci_core.specs.{Core.{node_of}, Node.{NodeOf, lines_of, node_performing, pending_on}}
+use Rattle.sci_policy.specs.declared.decision.Decision.{Decision, TheVariants.{Keep, Refuse, Serve}}
+use Rattle.sci_policy.specs.declared.{progress.Progress.{Progress}, submit.SubmitFault.{SubmitFault}}
 use Rattle.sci_policy.specs.declared.submit.SubmitFault.TheVariants.{NoSuchLine, NoSuchWord, LineTaken, LogFull}
+use Rattle.sci_words.specs.declared.event.Event.TheVariants as event
 
 -- ---- the events of a turn
 

@@ -1,12 +1,9 @@
 -- What a worker's turn does to its node.
-use Rattle.std.specs.Prelude.{◌≡◌, List, [], ◌∷◌, Some}
-use Rattle.std.specs.List.{AllByRecursion}
+use Rattle.std.specs.{Prelude.{◌≡◌, List, [], ◌∷◌, Some}, List.{AllByRecursion}}
 use Rattle.sci_words.specs.declared.event.Event.{Event}
 use Rattle.sci_cache.specs.Cache.{Letter}
-use Rattle.sci_core.specs.Core.{Side, Idle, Changes, Sends, Takes, side}
-use Rattle.sci_core.specs.Node.{NodeOf}
-use Rattle.sci_policy.specs.declared.progress.Progress.{Progress}
-use Rattle.sci_policy.specs.Turn.{Counts, IsTurnEvent, MayPerform}
+use Rattle.sci_core.specs.{Core.{Side, Idle, Changes, Sends, Takes, side}, Node.{NodeOf}}
+use Rattle.sci_policy.specs.{declared.progress.Progress.{Progress}, Turn.{Counts, IsTurnEvent, MayPerform}}
 
 -- the same operations are pending, as many were submitted, and the log is the same
 pub record HasSameWork (old new : NodeOf) : Type 0 where

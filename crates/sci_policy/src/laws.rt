@@ -1,11 +1,9 @@
 //! Laws of the policy, each the contract of a function that does nothing. They hold on every node, reached or not.
 
 ghost use Rattle.std.specs.Prelude.{◌≡◌, ◌≢◌, ◌<◌, ◌≤◌, ℕ, Bool, Some, IfSome, false, true};
-ghost use Rattle.sci_words.specs.declared.event.AskKind.{AskKind};
-ghost use Rattle.sci_words.specs.declared.event.AskKind.TheVariants.{Claim, Clear, Wback};
+ghost use Rattle.sci_words.specs.declared.event.AskKind.{AskKind, TheVariants.{Claim, Clear, Wback}};
 ghost use Rattle.sci_packets.specs.declared.body.Body.TheVariants.{Cread};
-ghost use Rattle.sci_cache.specs.Cache.{Letter};
-ghost use Rattle.sci_cache.specs.Kinds.{joins};
+ghost use Rattle.sci_cache.specs.{Cache.{Letter}, Kinds.{joins}};
 ghost use Rattle.sci_core.specs.Node.{NodeOf, lines_of};
 ghost use Rattle.sci_policy.specs.declared.want.Want.TheVariants.{Ask};
 ghost use Rattle.sci_policy.specs.Lines.{can_drain, has_pending, least, oldest, serial_on, state_on};

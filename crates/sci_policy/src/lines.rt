@@ -2,14 +2,13 @@
 
 ghost use Rattle.std.specs.Prelude.{◌≡◌, ◌<◌, ◌≤◌, ◌&&◌, ℕ, Bool, true, false, None, Some, IfSome, option_map};
 ghost use Rattle.sci_words.specs.declared.limits.TheConstants.{MAX_LINES};
-ghost use Rattle.sci_cache.specs.LineSet.{IsBefore};
-ghost use Rattle.sci_cache.specs.Held.{state_of};
-ghost use Rattle.sci_cache.specs.State.{Out, is_out as is_out_in};
-ghost use Rattle.sci_policy.specs.Policy.{awaits_home as awaits_home_in, is_busy_now as is_busy_now_in};
-ghost use Rattle.sci_core.specs.Node.{lines_of};
+ghost use Rattle.sci_cache.specs.{LineSet.{IsBefore}, Held.{state_of}, State.{Out, is_out as is_out_in}};
 ghost use Rattle.sci_cache.specs.Kinds.{has_fresh_sharers as has_fresh_sharers_in, is_of};
-ghost use Rattle.sci_policy.specs.Lines.{can_drain as can_drain_in, has_maker as has_maker_on, has_pending as has_pending_on, is_head as is_head_in, least, oldest as oldest_with, own_ask as own_ask_in, state_on};
+ghost use Rattle.sci_policy.specs.Policy.{awaits_home as awaits_home_in, is_busy_now as is_busy_now_in};
+ghost use Rattle.sci_policy.specs.Lines.{can_drain as can_drain_in, has_maker as has_maker_on, has_pending as has_pending_on, is_head as is_head_in};
+ghost use Rattle.sci_policy.specs.Lines.{least, oldest as oldest_with, own_ask as own_ask_in, state_on};
 ghost use Rattle.sci_policy.specs.Scan.{IsTest, is_of_named, is_older_than};
+ghost use Rattle.sci_core.specs.Node.{lines_of};
 
 use sci_cache::{Held, LineKind};
 use sci_core::Node;

@@ -1,13 +1,9 @@
 //! The policy: what a controller decides by itself.
 
-ghost use Rattle.std.specs.Prelude.{◌≡◌, ◌<◌, ◌||◌, ℕ, Bool};
-ghost use Rattle.sci_policy.specs.declared.policy.TheConstants.{PATIENCE};
-ghost use Rattle.std.specs.Prelude.{None, IfSome, true};
-ghost use Rattle.sci_cache.specs.Cache.{letter_of};
-ghost use Rattle.sci_cache.specs.Kinds.{is_of};
-ghost use Rattle.sci_cache.specs.State.{Out};
-ghost use Rattle.sci_policy.specs.Lines.{state_on};
+ghost use Rattle.std.specs.Prelude.{◌≡◌, ◌<◌, ◌||◌, ℕ, Bool, None, IfSome, true};
+ghost use Rattle.sci_policy.specs.{declared.policy.TheConstants.{PATIENCE}, Lines.{state_on}};
 ghost use Rattle.sci_policy.specs.Policy.{is_cread, set_of};
+ghost use Rattle.sci_cache.specs.{Cache.{letter_of}, Kinds.{is_of}, State.{Out}};
 
 use crate::decision::Decision;
 use crate::line_marks::LineMarks;
@@ -64,8 +60,9 @@ impl Policy {
     ghost use Rattle.std.specs.Prelude.{◌≡◌, ◌<◌, ◌≤◌, ℕ, Some, None, IfSome};
     ghost use Rattle.sci_cache.specs.Cache.{letter_of};
     ghost use Rattle.sci_core.specs.Reached.{IsReachedNode};
-    ghost use Rattle.sci_policy.specs.Policy.{IsEnabledWant, PolicyOf, decided, first_sender, has as has_line, kept_by, next_policy, next_wanted, noted, opening_policy, perform_wanted as perform_wanted_by, refused_by, still_draining, draining_at_last, due_at_last, set_of, ticked, turned, wanted};
-    ghost use Rattle.sci_policy.specs.Rest.{MayRest};
+    ghost use Rattle.sci_policy.specs.Policy.{IsEnabledWant, PolicyOf, decided, first_sender, has as has_line, kept_by, next_policy, next_wanted, noted};
+    ghost use Rattle.sci_policy.specs.Policy.{opening_policy, perform_wanted as perform_wanted_by, refused_by, still_draining, draining_at_last};
+    ghost use Rattle.sci_policy.specs.{Policy.{due_at_last, set_of, ticked, turned, wanted}, Rest.{MayRest}};
 
     /// The policy of a node that has done nothing: no line is draining or due, no turn was counted, and no request was
     /// served.

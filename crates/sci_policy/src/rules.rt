@@ -1,9 +1,11 @@
 //! The rules: what a node wants to do for its own lines and operations.
 
 ghost use Rattle.std.specs.Prelude.{◌≡◌, ℕ, true, None, is_some};
-ghost use Rattle.sci_policy.specs.Lines.{state_on};
-ghost use Rattle.sci_policy.specs.Scan.{is_of_named};
-ghost use Rattle.sci_policy.specs.Policy.{ask_of as ask_of_line, operation_asks as asked_by_operation, operation_wanted as operation_wanted_by, due_wanted as due_wanted_by, perform_wanted as perform_wanted_by, purge_wanted as purge_wanted_by, send_wanted as send_wanted_by, ruled as ruled_by, slot_wanted as slot_wanted_by, contents_wanted as contents_wanted_by};
+ghost use Rattle.sci_policy.specs.{Lines.{state_on}, Scan.{is_of_named}};
+ghost use Rattle.sci_policy.specs.Policy.{ask_of as ask_of_line, operation_asks as asked_by_operation, operation_wanted as operation_wanted_by};
+ghost use Rattle.sci_policy.specs.Policy.{due_wanted as due_wanted_by, perform_wanted as perform_wanted_by, purge_wanted as purge_wanted_by};
+ghost use Rattle.sci_policy.specs.Policy.{send_wanted as send_wanted_by, ruled as ruled_by, slot_wanted as slot_wanted_by};
+ghost use Rattle.sci_policy.specs.Policy.{contents_wanted as contents_wanted_by};
 
 use crate::lines::{
     has_maker, has_pending, held_on, is_out, least_of, least_with, oldest, own_ask,

@@ -10,11 +10,8 @@ use std::alloc::AllocError;
 /// from 0. No call waits for another thread.
 pub trait Worker {
     ghost use Rattle.std.specs.Prelude.{◌≡◌, ◌+◌, ℕ, true, Some, None, IfOk, IfErr, IfSome, IsErr};
-    ghost use Rattle.sci_core.specs.Node.{NodeOf, node_performing};
-    ghost use Rattle.sci_core.specs.Work.{IsIssued, IsLogged};
-    ghost use Rattle.sci_policy.specs.Rest.{MayIdle};
-    ghost use Rattle.sci_policy.specs.Turn.{is_idle, submit_fault};
-    ghost use Rattle.sci_policy.specs.Worker.{HasSameWork, IsNodeTurn};
+    ghost use Rattle.sci_core.specs.{Node.{NodeOf, node_performing}, Work.{IsIssued, IsLogged}};
+    ghost use Rattle.sci_policy.specs.{Rest.{MayIdle}, Turn.{is_idle, submit_fault}, Worker.{HasSameWork, IsNodeTurn}};
 
     ghost node: { Self → NodeOf };
 

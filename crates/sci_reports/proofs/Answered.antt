@@ -2,8 +2,7 @@
 use Rattle.std.proofs.Common.{◌≡◌, ℕ, List}
 use Rattle.sci_history.specs.declared.entry.Entry.{Entry}
 use Rattle.sci_words.specs.declared.stamped.Stamped.{Stamped}
-use Rattle.sci_command.specs.declared.outcome.Outcome.{Outcome}
-use Rattle.sci_command.specs.declared.outcome.Outcome.TheVariants.{Done, Unlawful, Refused}
+use Rattle.sci_command.specs.declared.outcome.Outcome.{Outcome, TheVariants.{Done, Unlawful, Refused}}
 use Rattle.sci_reports.specs.ExplainAnswer.{IsExplained}
 
 pub explained_judged : (logs : List (List Entry)) (last : List Stamped) (text : List ℕ) (outcome : Outcome) → IsExplained logs last text outcome

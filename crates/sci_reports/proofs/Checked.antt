@@ -1,36 +1,26 @@
 -- What reading a text as one kind after another comes to.
 use Rattle.std.proofs.Common.{◌≡◌, ℕ, ◌+◌, ◌<◌, ◌≤◌, ◌⊎◌, List, [], ◌∷◌, ◌++◌, length, take, refl, sym, ap, ◌∙◌, subst, arith, inl, inr}
-use Rattle.std.specs.Prelude.{Bool, false, Option, Result, Ok, Err, IfOk, IfErr}
 use Rattle.std.proofs.lemmas.List.{append-nil, take_all}
-use Rattle.sci_history.specs.declared.entry.Entry.{Entry}
-use Rattle.sci_history.specs.Placed.{log_of}
-use Rattle.sci_text.specs.declared.fault.TextFault.{TextFault}
-use Rattle.sci_text.specs.declared.fault.TextFaultKind.{TextFaultKind}
+use Rattle.std.specs.Prelude.{Bool, false, Option, Result, Ok, Err, IfOk, IfErr}
+use Rattle.sci_history.specs.{declared.entry.Entry.{Entry}, Placed.{log_of}}
+use Rattle.sci_text.specs.declared.fault.{TextFault.{TextFault}, TextFaultKind.{TextFaultKind}}
 use Rattle.sci_text.specs.declared.fault.TextFaultKind.TheVariants.{Syntax, Range, TooMany, Read, Write, Memory}
+use Rattle.sci_text.specs.declared.log_form.Form.{Form}
 use Rattle.sci_text.specs.FirstFault.{AreRead, HasNoFault, IsFirstFault, IsRefusal, IsRefusalOf, IsTold}
 use Rattle.sci_text.specs.LogFault.{BeginsFront, GoesOn, IsLogFault, LogLineFault, SizeFault, line_count}
-use Rattle.sci_words.specs.declared.limits.TheConstants.{MAX_OPERATIONS}
-use Rattle.sci_words.specs.declared.stamped.Stamped.{Stamped}
-use Rattle.sci_text.specs.declared.log_form.Form.{Form}
 use Rattle.sci_text.specs.LogValue.{AreLogs, Front, IsForm, IsLogs, entry_count}
 use Rattle.sci_text.specs.Schedule.{ScheduleValue, IsSchedule, schedule_text}
 use Rattle.sci_text.specs.ScheduleFault.{BeginsSchedule, EventFault, IsScheduleFault}
 use Rattle.sci_text.specs.Script.{ScriptValue, IsScript, script_text}
 use Rattle.sci_text.specs.ScriptFault.{BeginsScript, IsScriptFault, MachineFault, OperationFault}
-use Rattle.sci_command.specs.Answer.{IsAnswered}
-use Rattle.sci_command.specs.declared.answer.Answer.{Answer}
-use Rattle.sci_command.specs.declared.outcome.Outcome.{Outcome}
-use Rattle.sci_command.specs.declared.outcome.Outcome.TheVariants.{Done, Unlawful, Refused}
-use Rattle.sci_command.specs.Refusal.{Refuses}
-use Rattle.sci_reports.specs.declared.checking.Reading.{Reading}
-use Rattle.sci_reports.specs.declared.checking.Reading.TheVariants.{Size, Fault}
-use Rattle.sci_reports.specs.declared.checking.TextSize.{TextSize}
-use Rattle.sci_reports.specs.declared.text_lines.TextKind.{TextKind}
-use Rattle.sci_reports.specs.declared.text_lines.TextKind.TheVariants.{Script, Schedule, Log}
+use Rattle.sci_words.specs.declared.{limits.TheConstants.{MAX_OPERATIONS}, stamped.Stamped.{Stamped}}
+use Rattle.sci_command.specs.{Answer.{IsAnswered}, declared.{answer.Answer.{Answer}, outcome.Outcome.{Outcome}}}
+use Rattle.sci_command.specs.{declared.outcome.Outcome.TheVariants.{Done, Unlawful, Refused}, Refusal.{Refuses}}
+use Rattle.sci_reports.specs.declared.checking.{Reading.{Reading, TheVariants.{Size, Fault}}, TextSize.{TextSize}}
+use Rattle.sci_reports.specs.declared.text_lines.TextKind.{TextKind, TheVariants.{Script, Schedule, Log}}
 use Rattle.sci_reports.specs.declared.checking.Readings.{Readings}
 use Rattle.sci_reports.specs.CheckAnswer.{IsCheckAnswer, IsCheckFault, IsKnown, IsLastFault, IsLogText, IsNoLater, IsRefusedAt, IsSaid, IsScheduleText}
-use Rattle.sci_reports.specs.CheckAnswer.{IsScriptText}
-use Rattle.sci_reports.specs.CheckAnswer.{kind_name, log_size, schedule_size, script_size, size_text}
+use Rattle.sci_reports.specs.CheckAnswer.{IsScriptText, kind_name, log_size, schedule_size, script_size, size_text}
 use Rattle.sci_reports.specs.TextReadings.{AreReadings, IsChecked, IsReading, known_text, said_of}
 
 -- ---- readings

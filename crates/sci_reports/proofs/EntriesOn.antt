@@ -1,13 +1,9 @@
 -- The entries of logs on a line of memory, with their lines of the text.
-use Rattle.std.proofs.Common.{◌≡◌, ◌<◌, ℕ, ◌+◌, List, [], ◌∷◌, ◌++◌, length, take, get_or, Bool, true, false, cond, append_assoc}
-use Rattle.std.proofs.Common.{◌∙◌, arith, ap, sym}
-use Rattle.std.specs.Prelude.{filter}
-use Rattle.std.specs.List.{enumerate_from, flat_map}
-use Rattle.std.proofs.lemmas.List.{append-nil, length-take-le, take_more, map-append}
-use Rattle.std.proofs.lemmas.List.Concat.{flat_map-append}
+use Rattle.std.proofs.Common.{◌≡◌, ◌<◌, ℕ, ◌+◌, List, [], ◌∷◌, ◌++◌, length, take, get_or, Bool, true, false, cond, append_assoc, ◌∙◌, arith, ap, sym}
+use Rattle.std.proofs.lemmas.List.{append-nil, length-take-le, take_more, map-append, Concat.{flat_map-append}}
 use Rattle.std.proofs.lemmas.List.Elements.{filter-append}
-use Rattle.sci_history.specs.declared.entry.Entry.{Entry}
-use Rattle.sci_history.specs.Placed.{is_on_line, log_of}
+use Rattle.std.specs.{Prelude.{filter}, List.{enumerate_from, flat_map}}
+use Rattle.sci_history.specs.{declared.entry.Entry.{Entry}, Placed.{is_on_line, log_of}}
 use Rattle.sci_text.specs.LogValue.{entry_count}
 use Rattle.sci_reports.specs.declared.numbered.Numbered.{Numbered}
 use Rattle.sci_reports.specs.EntryLines.{numbered_on, numbering, numberings, on_line_from}

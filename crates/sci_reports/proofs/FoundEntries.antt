@@ -1,13 +1,10 @@
 -- Entries with their lines of the text, as references alone.
 use Rattle.std.proofs.Common.{◌≡◌, ◌<◌, ◌+◌, ℕ, Bool, List, [], All, Some, true, false, get_or, length, take, ap, subst, sym, ◌∙◌}
+use Rattle.std.proofs.lemmas.{List.{length-map, get_or-map}, Option.{slice_get-get_or}}
 use Rattle.std.specs.Prelude.{slice_get}
-use Rattle.std.proofs.lemmas.List.{length-map, get_or-map}
-use Rattle.std.proofs.lemmas.Option.{slice_get-get_or}
 use Rattle.sci_history.proofs.AuditFinds.{FailsLater, all_at, entries_at, entry_at, later_here, later_more, no_entry, no_ref}
-use Rattle.sci_history.specs.declared.entry.Entry.{Entry}
-use Rattle.sci_history.specs.Audit.{entries_of, first_failing}
-use Rattle.sci_reports.specs.declared.numbered.Numbered.{Numbered}
-use Rattle.sci_reports.specs.EntryLines.{entries_in, entry_refs}
+use Rattle.sci_history.specs.{declared.entry.Entry.{Entry}, Audit.{entries_of, first_failing}}
+use Rattle.sci_reports.specs.{declared.numbered.Numbered.{Numbered}, EntryLines.{entries_in, entry_refs}}
 
 abbrev pub no_numbered : Numbered
 no_numbered = record { text_line = 0; entry = no_ref }

@@ -1,7 +1,6 @@
 -- What is written of lines, one after another.
-use Rattle.std.proofs.Common.{◌≡◌, ◌<◌, ℕ, suc, ◌+◌, List, [], ◌∷◌, ◌++◌, length, take, get_or, Option, None, refl, sym, ap, ◌∙◌, subst, arith, append_assoc}
-use Rattle.std.proofs.Math.Seq.{take-suc}
-use Rattle.std.proofs.lemmas.List.{append-nil, length-take-le}
+use Rattle.std.proofs.Common.{◌≡◌, ◌<◌, ℕ, suc, ◌+◌, List, [], ◌∷◌, ◌++◌, length, take, get_or, Option, None, refl, sym, ap, ◌∙◌, subst, arith}
+use Rattle.std.proofs.{Common.{append_assoc}, Math.Seq.{take-suc}, lemmas.List.{append-nil, length-take-le}}
 use Rattle.sci_history.specs.declared.faults.LineFault.{LineFault}
 use Rattle.sci_reports.specs.ExplainAnswer.{IsNote, AreNotes}
 

@@ -1,27 +1,18 @@
 -- What a search for an order finds, as `order` writes it.
 use Rattle.std.proofs.Common.{◌≡◌, ◌↔◌, ℕ, List, Option, length, arith}
 use Rattle.std.specs.Prelude.{Result, Ok, Err, IfOk}
-use Rattle.sci_words.specs.declared.limits.TheConstants.{MAX_NODES}
-use Rattle.sci_words.specs.declared.stamped.Stamped.{Stamped}
-use Rattle.sci_history.specs.declared.entry.Entry.{Entry}
-use Rattle.sci_history.specs.declared.verdict.FaultKind.{FaultKind}
-use Rattle.sci_history.specs.declared.verdict.Verdict.{Verdict}
-use Rattle.sci_history.specs.declared.verdict.Verdict.TheVariants as verdicts
-use Rattle.sci_history.specs.declared.order_verdict.OrderVerdict.{OrderVerdict}
-use Rattle.sci_history.specs.declared.order_verdict.OrderVerdict.TheVariants.{Fault, Order, Cycle}
-use Rattle.sci_history.specs.Audit.{IsVerdict}
-use Rattle.sci_history.specs.Cycle.{IsOrderVerdict, IsOrdered}
-use Rattle.sci_history.specs.Lawful.{Lawful}
-use Rattle.sci_history.specs.Placed.{AreOwn}
+use Rattle.sci_words.specs.declared.{limits.TheConstants.{MAX_NODES}, stamped.Stamped.{Stamped}}
+use Rattle.sci_history.specs.declared.{entry.Entry.{Entry}, verdict.{FaultKind.{FaultKind}, Verdict.{Verdict}}}
+use Rattle.sci_history.specs.declared.order_verdict.OrderVerdict.{OrderVerdict, TheVariants.{Fault, Order, Cycle}}
+use Rattle.sci_history.specs.{Audit.{IsVerdict}, Cycle.{IsOrderVerdict, IsOrdered}, Lawful.{Lawful}, Placed.{AreOwn}}
 use Rattle.sci_history.specs.Sequential.{IsSequentiallyConsistent, by_serial}
 use Rattle.sci_history.proofs.AuditLines.{verdict_is}
-use Rattle.sci_command.specs.declared.outcome.Outcome.{Outcome}
-use Rattle.sci_command.specs.declared.outcome.Outcome.TheVariants.{Done, Unlawful, Refused}
+use Rattle.sci_command.specs.declared.outcome.Outcome.{Outcome, TheVariants.{Done, Unlawful, Refused}}
 use Rattle.sci_command.specs.VerdictLine.{verdict_text}
-use Rattle.sci_reports.specs.declared.ordering.NodeOrder.{NodeOrder}
-use Rattle.sci_reports.specs.declared.ordering.NodeOrder.TheVariants.{Logged, BySerial}
+use Rattle.sci_reports.specs.declared.ordering.NodeOrder.{NodeOrder, TheVariants.{Logged, BySerial}}
 use Rattle.sci_reports.specs.declared.ordering.OrderRequest.{OrderRequest}
 use Rattle.sci_reports.specs.OrderAnswer.{IsFound, IsVerdictOf, kept, IsOrderText}
+use Rattle.sci_history.specs.declared.verdict.Verdict.TheVariants as verdicts
 
 -- three facts of what was answered give a fourth
 pub if_ok_three : {X E : Type 0} (P Q R S : X → Type 0) (r : Result X E) → ((x : X) → P x → Q x → R x → S x) → IfOk r P → IfOk r Q → IfOk r R → IfOk r S

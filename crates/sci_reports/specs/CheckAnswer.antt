@@ -2,22 +2,13 @@
 use Rattle.std.specs.Prelude.{◌≡◌, ℕ, ◌<◌, ◌≤◌, ◌⊎◌, ◌==◌, Bool, List, [], ◌∷◌, ◌++◌, length, codes, Option, if◌then◌else◌}
 use Rattle.sci_words.specs.declared.stamped.Stamped.{Stamped}
 use Rattle.sci_history.specs.declared.entry.Entry.{Entry}
-use Rattle.sci_text.specs.declared.fault.TextFaultKind.{TextFaultKind}
-use Rattle.sci_text.specs.declared.fault.TextFaultKind.TheVariants.{Syntax, Range}
-use Rattle.sci_text.specs.FirstFault.{IsTold}
-use Rattle.sci_text.specs.LogFault.{IsLogFault}
-use Rattle.sci_text.specs.LogValue.{IsLogs, entry_count}
-use Rattle.sci_text.specs.Number.{number}
-use Rattle.sci_text.specs.Schedule.{ScheduleValue, IsSchedule, schedule_text}
-use Rattle.sci_text.specs.ScheduleFault.{IsScheduleFault}
-use Rattle.sci_text.specs.Script.{ScriptValue, IsScript, script_text}
-use Rattle.sci_text.specs.ScriptFault.{IsScriptFault}
-use Rattle.sci_command.specs.declared.outcome.Outcome.{Outcome}
-use Rattle.sci_command.specs.declared.outcome.Outcome.TheVariants.{Done, Unlawful, Refused}
-use Rattle.sci_command.specs.Input.{IsReadAs}
-use Rattle.sci_command.specs.Refusal.{line_refusal}
-use Rattle.sci_reports.specs.declared.text_lines.TextKind.{TextKind}
-use Rattle.sci_reports.specs.declared.text_lines.TextKind.TheVariants.{Script, Schedule, Log}
+use Rattle.sci_text.specs.declared.fault.TextFaultKind.{TextFaultKind, TheVariants.{Syntax, Range}}
+use Rattle.sci_text.specs.{FirstFault.{IsTold}, LogFault.{IsLogFault}, LogValue.{IsLogs, entry_count}, Number.{number}}
+use Rattle.sci_text.specs.{Schedule.{ScheduleValue, IsSchedule, schedule_text}, ScheduleFault.{IsScheduleFault}}
+use Rattle.sci_text.specs.{Script.{ScriptValue, IsScript, script_text}, ScriptFault.{IsScriptFault}}
+use Rattle.sci_command.specs.declared.outcome.Outcome.{Outcome, TheVariants.{Done, Unlawful, Refused}}
+use Rattle.sci_command.specs.{Input.{IsReadAs}, Refusal.{line_refusal}}
+use Rattle.sci_reports.specs.declared.text_lines.TextKind.{TextKind, TheVariants.{Script, Schedule, Log}}
 use Rattle.sci_reports.specs.declared.checking.TextSize.{TextSize}
 
 -- ---- what a text can be

@@ -2,9 +2,7 @@
 use denote.Ref.{Bor}
 use Rattle.std.specs.Prelude.{◌≡◌, ℕ, ◌+◌, ◌⊎◌, List, take, map, filter, slice_get, Option, Some, None}
 use Rattle.std.specs.List.{enumerate_from, flat_map}
-use Rattle.sci_history.specs.declared.entry.Entry.{Entry}
-use Rattle.sci_history.specs.Audit.{entries_of}
-use Rattle.sci_history.specs.Placed.{is_on_line, log_of}
+use Rattle.sci_history.specs.{declared.entry.Entry.{Entry}, Audit.{entries_of}, Placed.{is_on_line, log_of}}
 use Rattle.sci_text.specs.LogValue.{BeginsLog, entry_count}
 use Rattle.sci_reports.specs.declared.numbered.Numbered.{Numbered}
 

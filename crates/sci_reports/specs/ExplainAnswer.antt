@@ -1,18 +1,12 @@
 -- What `explain` writes for its input.
 use Rattle.std.specs.Prelude.{◌≡◌, ◌+◌, ℕ, Bool, List, [], ◌∷◌, ◌++◌, length, Option, Some, None}
 use Rattle.sci_words.specs.declared.stamped.Stamped.{Stamped}
-use Rattle.sci_history.specs.declared.entry.Entry.{Entry}
-use Rattle.sci_history.specs.declared.faults.LineFault.{LineFault}
-use Rattle.sci_history.specs.declared.verdict.Verdict.TheVariants as verdicts
-use Rattle.sci_history.specs.Audit.{AreFound}
+use Rattle.sci_history.specs.{declared.{entry.Entry.{Entry}, faults.LineFault.{LineFault}}, Audit.{AreFound}}
 use Rattle.sci_history.specs.Lawful.{Lawful}
-use Rattle.sci_text.specs.FirstFault.{IsTold}
-use Rattle.sci_text.specs.LogFault.{IsLogFault}
-use Rattle.sci_text.specs.LogValue.{IsLogs}
-use Rattle.sci_command.specs.declared.outcome.Outcome.{Outcome}
-use Rattle.sci_command.specs.declared.outcome.Outcome.TheVariants.{Done, Unlawful, Refused}
-use Rattle.sci_command.specs.Answer.{IsAnswerBy}
-use Rattle.sci_command.specs.VerdictLine.{verdict_text}
+use Rattle.sci_text.specs.{FirstFault.{IsTold}, LogFault.{IsLogFault}, LogValue.{IsLogs}}
+use Rattle.sci_command.specs.declared.outcome.Outcome.{Outcome, TheVariants.{Done, Unlawful, Refused}}
+use Rattle.sci_command.specs.{Answer.{IsAnswerBy}, VerdictLine.{verdict_text}}
+use Rattle.sci_history.specs.declared.verdict.Verdict.TheVariants as verdicts
 
 -- of a line without a fault nothing is written; of another the line of an audit that tells the fault, and then a note
 abbrev pub IsNote : ℕ → Option LineFault → List ℕ → Type 0

@@ -1,13 +1,11 @@
 -- The entry at fault on a line of memory, and why it is.
 use Rattle.std.specs.Prelude.{◌≡◌, ℕ, List, [], take, slice_get, slice_index, Option, Some, None, option_map}
-use Rattle.sci_history.specs.declared.entry.Entry.{Entry}
-use Rattle.sci_history.specs.declared.verdict.FaultKind.{FaultKind}
+use Rattle.sci_history.specs.declared.{entry.Entry.{Entry}, verdict.FaultKind.{FaultKind}}
 use Rattle.sci_history.specs.declared.verdict.FaultKind.TheVariants.{VersionTwice, VersionMissing, WrongReply, OutOfOrder, LastDiffers}
 use Rattle.sci_history.specs.Audit.{first_disordered, first_failing, first_missing, first_twice, is_reply_wrong, words_after}
 use Rattle.sci_reports.specs.declared.faulty.Cause.{Cause}
 use Rattle.sci_reports.specs.declared.faulty.Cause.TheVariants.{MadeBefore, FewMakers, OtherWord, SerialAfter, PlacedAfter}
-use Rattle.sci_reports.specs.declared.faulty.FaultyEntry.{FaultyEntry}
-use Rattle.sci_reports.specs.EntryLines.{entry_of}
+use Rattle.sci_reports.specs.{declared.faulty.FaultyEntry.{FaultyEntry}, EntryLines.{entry_of}}
 
 abbrev pub faulty : FaultyEntry → Entry
 faulty found = entry_of found.at

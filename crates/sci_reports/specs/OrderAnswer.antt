@@ -2,31 +2,19 @@
 use Rattle.std.specs.Prelude.{◌≡◌, ◌↔◌, ℕ, Bool, List, [], ◌∷◌, ◌++◌, length, map, codes, Option, Some, None, if◌then◌else◌}
 use Rattle.std.specs.List.{AllByRecursion, flat_map}
 use Rattle.sci_words.specs.declared.stamped.Stamped.{Stamped}
-use Rattle.sci_history.specs.declared.entry.Entry.{Entry}
-use Rattle.sci_history.specs.declared.verdict.Verdict.TheVariants as verdicts
-use Rattle.sci_history.specs.declared.order_verdict.OrderVerdict.{OrderVerdict}
-use Rattle.sci_history.specs.declared.order_verdict.OrderVerdict.TheVariants.{Fault, Order, Cycle}
-use Rattle.sci_history.specs.declared.order_verdict.Reason.{Reason}
-use Rattle.sci_history.specs.declared.order_verdict.Reason.TheVariants as reasons
-use Rattle.sci_history.specs.declared.order_verdict.Step.{Step}
-use Rattle.sci_history.specs.Audit.{IsFault, entries_of}
-use Rattle.sci_history.specs.Lawful.{Lawful}
-use Rattle.sci_history.specs.Cycle.{IsOrderVerdict}
-use Rattle.sci_history.specs.Sequential.{IsSequentiallyConsistent, by_serial}
-use Rattle.sci_text.specs.Number.{field}
-use Rattle.sci_text.specs.FirstFault.{IsTold}
-use Rattle.sci_text.specs.Log.{entry_line, issue_text, outcome_text}
-use Rattle.sci_text.specs.LogFault.{IsLogFault}
-use Rattle.sci_text.specs.LogValue.{IsLogs}
-use Rattle.sci_command.specs.declared.outcome.Outcome.{Outcome}
-use Rattle.sci_command.specs.declared.outcome.Outcome.TheVariants.{Done, Refused}
-use Rattle.sci_command.specs.Answer.{IsAnswerBy}
+use Rattle.sci_history.specs.declared.{entry.Entry.{Entry}, order_verdict.OrderVerdict.{OrderVerdict}}
+use Rattle.sci_history.specs.declared.order_verdict.{OrderVerdict.TheVariants.{Fault, Order, Cycle}, Reason.{Reason}}
+use Rattle.sci_history.specs.{declared.order_verdict.Step.{Step}, Audit.{IsFault, entries_of}, Lawful.{Lawful}}
+use Rattle.sci_history.specs.{Cycle.{IsOrderVerdict}, Sequential.{IsSequentiallyConsistent, by_serial}}
+use Rattle.sci_text.specs.{Number.{field}, FirstFault.{IsTold}, Log.{entry_line, issue_text, outcome_text}}
+use Rattle.sci_text.specs.{LogFault.{IsLogFault}, LogValue.{IsLogs}}
+use Rattle.sci_command.specs.{declared.outcome.Outcome.{Outcome, TheVariants.{Done, Refused}}, Answer.{IsAnswerBy}}
 use Rattle.sci_command.specs.VerdictLine.{verdict_text}
-use Rattle.sci_reports.specs.declared.ordering.NodeOrder.{NodeOrder}
-use Rattle.sci_reports.specs.declared.ordering.NodeOrder.TheVariants.{Logged, BySerial}
-use Rattle.sci_reports.specs.declared.ordering.NumberedStep.{NumberedStep}
-use Rattle.sci_reports.specs.declared.ordering.OrderRequest.{OrderRequest}
+use Rattle.sci_reports.specs.declared.ordering.NodeOrder.{NodeOrder, TheVariants.{Logged, BySerial}}
+use Rattle.sci_reports.specs.declared.ordering.{NumberedStep.{NumberedStep}, OrderRequest.{OrderRequest}}
 use Rattle.sci_reports.specs.EntryLines.{IsBeforeEntries, IsLineOf}
+use Rattle.sci_history.specs.declared.verdict.Verdict.TheVariants as verdicts
+use Rattle.sci_history.specs.declared.order_verdict.Reason.TheVariants as reasons
 
 -- each node's entries in the order that is asked for
 abbrev pub kept : NodeOrder → List (List Entry) → List (List Entry)

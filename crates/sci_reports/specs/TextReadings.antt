@@ -1,18 +1,11 @@
 -- What comes of reading a text as one kind after another. No public contract cites these words.
 use Rattle.std.specs.Prelude.{◌≡◌, ℕ, List, [], ◌++◌}
-use Rattle.sci_text.specs.declared.fault.TextFault.{TextFault}
-use Rattle.sci_text.specs.declared.fault.TextFaultKind.{TextFaultKind}
-use Rattle.sci_text.specs.LogFault.{IsLogFault}
-use Rattle.sci_text.specs.ScheduleFault.{IsScheduleFault}
-use Rattle.sci_text.specs.ScriptFault.{IsScriptFault}
-use Rattle.sci_command.specs.declared.outcome.Outcome.{Outcome}
-use Rattle.sci_command.specs.declared.outcome.Outcome.TheVariants.{Done, Unlawful, Refused}
+use Rattle.sci_text.specs.{declared.fault.{TextFault.{TextFault}, TextFaultKind.{TextFaultKind}}, LogFault.{IsLogFault}}
+use Rattle.sci_text.specs.{ScheduleFault.{IsScheduleFault}, ScriptFault.{IsScriptFault}}
+use Rattle.sci_command.specs.declared.outcome.Outcome.{Outcome, TheVariants.{Done, Unlawful, Refused}}
 use Rattle.sci_command.specs.Refusal.{line_refusal}
-use Rattle.sci_reports.specs.declared.text_lines.TextKind.{TextKind}
-use Rattle.sci_reports.specs.declared.text_lines.TextKind.TheVariants.{Script, Schedule, Log}
-use Rattle.sci_reports.specs.declared.checking.TextSize.{TextSize}
-use Rattle.sci_reports.specs.declared.checking.Reading.{Reading}
-use Rattle.sci_reports.specs.declared.checking.Reading.TheVariants.{Size, Fault}
+use Rattle.sci_reports.specs.declared.text_lines.TextKind.{TextKind, TheVariants.{Script, Schedule, Log}}
+use Rattle.sci_reports.specs.declared.checking.{TextSize.{TextSize}, Reading.{Reading, TheVariants.{Size, Fault}}}
 use Rattle.sci_reports.specs.declared.checking.Readings.{Readings}
 use Rattle.sci_reports.specs.CheckAnswer.{IsKnown, IsLastFault, IsLogText, IsScheduleText, IsScriptText, log_size, schedule_size, script_size, size_text}
 

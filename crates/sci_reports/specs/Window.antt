@@ -1,6 +1,5 @@
 -- Which entries a note shows.
-use Rattle.std.specs.Prelude.{ℕ, ◌-◌, ◌==◌, List, take, drop}
-use Rattle.std.specs.List.{position_or_len}
+use Rattle.std.specs.{Prelude.{ℕ, ◌-◌, ◌==◌, List, take, drop}, List.{position_or_len}}
 use Rattle.sci_reports.specs.declared.numbered.Numbered.{Numbered}
 
 -- where the entry on a line of the text stands; behind the last if there is none

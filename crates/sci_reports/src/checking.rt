@@ -1,15 +1,11 @@
 //! The command `check`: which kind of text the input is, or where and why it is none.
 
 ghost use Rattle.std.specs.Prelude.{◌≡◌, ◌++◌, ◌⊎◌, ℕ, List, false, true, [], IfOk, IfErr, IfSome, IfNone, OnOk};
-ghost use Rattle.sci_text.specs.declared.fault.TextFaultKind.TheVariants.{Memory};
-ghost use Rattle.sci_text.specs.LogFault.{IsLogFault};
-ghost use Rattle.sci_text.specs.ScheduleFault.{IsScheduleFault};
-ghost use Rattle.sci_text.specs.ScriptFault.{IsScriptFault};
-ghost use Rattle.sci_text.specs.Tap.{has_failed};
-ghost use Rattle.sci_command.specs.Answer.{HasAnswered};
-ghost use Rattle.sci_command.specs.declared.outcome.Outcome.{Outcome};
-ghost use Rattle.sci_command.specs.Refusal.{line_refusal};
-ghost use Rattle.sci_reports.specs.CheckAnswer.{IsCheckAnswer, IsCheckFault, IsLastFault, IsLogText, IsNoLater, IsScheduleText, IsScriptText, counted, depth as depth_of, log_size, schedule_size, script_size, size_text};
+ghost use Rattle.sci_text.specs.{declared.fault.TextFaultKind.TheVariants.{Memory}, LogFault.{IsLogFault}};
+ghost use Rattle.sci_text.specs.{ScheduleFault.{IsScheduleFault}, ScriptFault.{IsScriptFault}, Tap.{has_failed}};
+ghost use Rattle.sci_command.specs.{Answer.{HasAnswered}, declared.outcome.Outcome.{Outcome}, Refusal.{line_refusal}};
+ghost use Rattle.sci_reports.specs.CheckAnswer.{IsCheckAnswer, IsCheckFault, IsLastFault, IsLogText, IsNoLater, IsScheduleText, IsScriptText, counted};
+ghost use Rattle.sci_reports.specs.CheckAnswer.{depth as depth_of, log_size, schedule_size, script_size, size_text};
 ghost use Rattle.sci_reports.specs.TextReadings.{AreFaults, AreReadings, IsChecked, IsReading, known_text, said_of};
 
 use crate::diagnosis::diagnosis;

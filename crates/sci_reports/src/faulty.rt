@@ -2,10 +2,9 @@
 
 ghost use Rattle.std.specs.Prelude.{◌≡◌, ◌<◌, [], All, IfOk, IfSome, is_some, option_map};
 ghost use Rattle.sci_words.specs.declared.limits.TheConstants.{MAX_NODES};
-ghost use Rattle.sci_history.specs.Audit.{breaks_order, first_disordered, first_failing, first_missing, first_twice, is_reply_wrong, is_version_missing, same_reply, words_after};
-ghost use Rattle.sci_history.specs.Placed.{maker_count};
-ghost use Rattle.sci_reports.specs.EntryLines.{entries_in, entry_of};
-ghost use Rattle.sci_reports.specs.Faulty.{IsAtFault, IsWordExpected, faulty};
+ghost use Rattle.sci_history.specs.Audit.{breaks_order, first_disordered, first_failing, first_missing, first_twice, is_reply_wrong, is_version_missing};
+ghost use Rattle.sci_history.specs.{Audit.{same_reply, words_after}, Placed.{maker_count}};
+ghost use Rattle.sci_reports.specs.{EntryLines.{entries_in, entry_of}, Faulty.{IsAtFault, IsWordExpected, faulty}};
 
 use crate::numbered::Numbered;
 use sci_history::{Entry, FaultKind};

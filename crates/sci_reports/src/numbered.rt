@@ -2,8 +2,7 @@
 
 ghost use Rattle.std.specs.Prelude.{◌≡◌, ◌≤◌, ◌<◌, ◌+◌, ◌*◌, ◌^◌, ◌++◌, ℕ, Some, IfOk, OnOk, IfSome, IfNone, length, slice_get, take};
 ghost use Rattle.sci_words.specs.declared.limits.TheConstants.{MAX_LINES, MAX_NODES, MAX_OPERATIONS};
-ghost use Rattle.sci_history.specs.declared.entry.Entry.{Entry};
-ghost use Rattle.sci_history.specs.Placed.{log_of};
+ghost use Rattle.sci_history.specs.{declared.entry.Entry.{Entry}, Placed.{log_of}};
 ghost use Rattle.sci_text.specs.LogValue.{entry_count};
 ghost use Rattle.sci_reports.specs.EntryLines.{IsBeforeEntries, IsLineOf, IsOpening, numbered_on, numberings, on_line_from};
 

@@ -1,19 +1,13 @@
 //! The command `order`: whether a log is sequentially consistent, or a cycle of entries that shows that it is not.
 
-ghost use Rattle.std.specs.Prelude.{◌≡◌, ◌≤◌, ◌+◌, ◌++◌, ◌↔◌, ℕ, false, length, IfOk, OnOk};
-ghost use Rattle.std.specs.List.{flat_map};
+ghost use Rattle.std.specs.{Prelude.{◌≡◌, ◌≤◌, ◌+◌, ◌++◌, ◌↔◌, ℕ, false, length, IfOk, OnOk}, List.{flat_map}};
 ghost use Rattle.sci_words.specs.declared.limits.TheConstants.{MAX_LINES, MAX_OPERATIONS};
-ghost use Rattle.sci_history.specs.Audit.{AreWithin, entries_of};
-ghost use Rattle.sci_history.specs.Cycle.{IsOrdered};
-ghost use Rattle.sci_history.specs.Lawful.{Lawful};
-ghost use Rattle.sci_history.specs.Placed.{log_of};
-ghost use Rattle.sci_text.specs.FirstFault.{IsTold};
-ghost use Rattle.sci_text.specs.Log.{entry_line};
-ghost use Rattle.sci_text.specs.LogFault.{IsLogFault};
-ghost use Rattle.sci_text.specs.Tap.{has_failed};
-ghost use Rattle.sci_command.specs.Answer.{HasAnswered};
-ghost use Rattle.sci_command.specs.declared.outcome.Outcome.{Outcome};
-ghost use Rattle.sci_reports.specs.OrderAnswer.{IsFound, AreNumbered, IsOrderAnswer, IsOrderText, cycle_text as cycle_text_of, found_text as found_text_of, order_name as order_name_of, place_text, reason_text, sense_text, shown_text, step_text, why_text};
+ghost use Rattle.sci_history.specs.{Audit.{AreWithin, entries_of}, Cycle.{IsOrdered}, Lawful.{Lawful}, Placed.{log_of}};
+ghost use Rattle.sci_text.specs.{FirstFault.{IsTold}, Log.{entry_line}, LogFault.{IsLogFault}, Tap.{has_failed}};
+ghost use Rattle.sci_command.specs.{Answer.{HasAnswered}, declared.outcome.Outcome.{Outcome}};
+ghost use Rattle.sci_reports.specs.OrderAnswer.{IsFound, AreNumbered, IsOrderAnswer, IsOrderText, cycle_text as cycle_text_of};
+ghost use Rattle.sci_reports.specs.OrderAnswer.{found_text as found_text_of, order_name as order_name_of, place_text, reason_text, sense_text, shown_text};
+ghost use Rattle.sci_reports.specs.OrderAnswer.{step_text, why_text};
 
 use crate::numbered::{line_of_entry, lines_before};
 use sci_command::{Answer, Outcome, verdict_line};

@@ -1,20 +1,14 @@
 -- What `outcomes` writes for its input.
 use Rattle.std.specs.Prelude.{◌≡◌, ℕ, ◌+◌, ◌%◌, ◌^◌, Bool, true, false, List, [], ◌∷◌, ◌++◌, codes, length, Option, unwrap_or}
 use Rattle.std.specs.List.{flat_map}
-use Rattle.sci_text.specs.Number.{number, field}
-use Rattle.sci_text.specs.Script.{IsScript, ScriptValue, script_text}
-use Rattle.sci_command.specs.declared.outcome.Outcome as ending
+use Rattle.sci_text.specs.{Number.{number, field}, Script.{IsScript, ScriptValue, script_text}}
 use Rattle.sci_command.specs.Answer.{IsDoneBy}
-use Rattle.sci_outcomes.specs.declared.histogram.Row.{Row}
-use Rattle.sci_outcomes.specs.declared.outcome.Held.{Held}
-use Rattle.sci_outcomes.specs.declared.outcome.Outcome.{Outcome}
-use Rattle.sci_outcomes.specs.declared.outcome.Replied.{Replied}
-use Rattle.sci_outcomes.specs.declared.trials.Turns.{Turns}
-use Rattle.sci_outcomes.specs.declared.trials.Turns.TheVariants.{Drawn, Threads}
+use Rattle.sci_outcomes.specs.declared.{histogram.Row.{Row}, outcome.{Held.{Held}, Outcome.{Outcome}}}
+use Rattle.sci_outcomes.specs.declared.{outcome.Replied.{Replied}, trials.Turns.{Turns, TheVariants.{Drawn, Threads}}}
 use Rattle.sci_outcomes.specs.Trials.{AreOutcomes}
-use Rattle.sci_run_reports.specs.declared.outcomes.OutcomesRequest.{OutcomesRequest}
-use Rattle.sci_run_reports.specs.declared.outcomes.TheConstants.{RUNS, SEED}
+use Rattle.sci_run_reports.specs.declared.outcomes.{OutcomesRequest.{OutcomesRequest}, TheConstants.{RUNS, SEED}}
 use Rattle.sci_run_reports.specs.RunAnswer.{IsRunRefusal}
+use Rattle.sci_command.specs.declared.outcome.Outcome as ending
 
 -- ---- texts
 

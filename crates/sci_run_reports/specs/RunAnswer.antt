@@ -1,18 +1,12 @@
 -- What `run` writes for its input.
 use Rattle.std.specs.Prelude.{◌≡◌, ◌≤◌, ◌⊎◌, ℕ, Bool, true, false, List, Option, unwrap_or}
 use Rattle.sci_words.specs.declared.limits.TheConstants.{MAX_TURNS}
-use Rattle.sci_text.specs.declared.fault.TextFaultKind.{TextFaultKind}
-use Rattle.sci_text.specs.declared.fault.TextFaultKind.TheVariants.{TooMany}
-use Rattle.sci_text.specs.FirstFault.{IsTold}
-use Rattle.sci_text.specs.Schedule.{ScheduleValue, schedule_text}
-use Rattle.sci_text.specs.Script.{IsScript, ScriptValue, script_text}
+use Rattle.sci_text.specs.{declared.fault.TextFaultKind.{TextFaultKind, TheVariants.{TooMany}}, FirstFault.{IsTold}}
+use Rattle.sci_text.specs.{Schedule.{ScheduleValue, schedule_text}, Script.{IsScript, ScriptValue, script_text}}
 use Rattle.sci_text.specs.ScriptFault.{IsScriptFault}
-use Rattle.sci_command.specs.declared.outcome.Outcome.{Outcome}
-use Rattle.sci_command.specs.declared.outcome.Outcome.TheVariants.{Done, Unlawful, Refused}
-use Rattle.sci_command.specs.Input.{IsReadAs}
-use Rattle.sci_command.specs.Refusal.{IsRefusalBy}
-use Rattle.sci_runs.specs.Played.{IsPlayed}
-use Rattle.sci_runs.specs.Runs.{IsRunOf}
+use Rattle.sci_command.specs.declared.outcome.Outcome.{Outcome, TheVariants.{Done, Unlawful, Refused}}
+use Rattle.sci_command.specs.{Input.{IsReadAs}, Refusal.{IsRefusalBy}}
+use Rattle.sci_runs.specs.{Played.{IsPlayed}, Runs.{IsRunOf}}
 use Rattle.sci_run_reports.specs.declared.running.RunRequest.{RunRequest}
 
 -- the input is the text of a script

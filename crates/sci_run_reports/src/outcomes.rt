@@ -1,12 +1,11 @@
 //! The command `outcomes`: the outcomes of a script that is run many times.
 
-ghost use Rattle.std.specs.Prelude.{◌≡◌, ◌++◌, false, IfOk, OnOk};
-ghost use Rattle.std.specs.List.{flat_map};
+ghost use Rattle.std.specs.{Prelude.{◌≡◌, ◌++◌, false, IfOk, OnOk}, List.{flat_map}};
 ghost use Rattle.sci_text.specs.Tap.{has_failed};
-ghost use Rattle.sci_command.specs.Answer.{HasAnswered};
-ghost use Rattle.sci_command.specs.declared.outcome.Outcome.{Outcome};
+ghost use Rattle.sci_command.specs.{Answer.{HasAnswered}, declared.outcome.Outcome.{Outcome}};
 ghost use Rattle.sci_run_reports.specs.RunAnswer.{IsRunRefusal};
-ghost use Rattle.sci_run_reports.specs.OutcomesAnswer.{IsOutcomesAnswer, count_text, held_text, outcome_text, outcomes_text as outcomes_text_of, replied_text, row_text, seed_text, sense_text, total_text};
+ghost use Rattle.sci_run_reports.specs.OutcomesAnswer.{IsOutcomesAnswer, count_text, held_text, outcome_text, outcomes_text as outcomes_text_of};
+ghost use Rattle.sci_run_reports.specs.OutcomesAnswer.{replied_text, row_text, seed_text, sense_text, total_text};
 
 use crate::running::fault_of;
 use sci_command::{Answer, Outcome, push_labelled};

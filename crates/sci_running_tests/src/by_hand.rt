@@ -23,8 +23,7 @@ pub(crate) struct ByHand {
 
 impl Model for ByHand {
     ghost use Rattle.std.specs.Prelude.{map};
-    ghost use Rattle.sci_lanes.specs.Ends.{LanesOf};
-    ghost use Rattle.sci_lanes.specs.Gathering.{AreOf};
+    ghost use Rattle.sci_lanes.specs.{Ends.{LanesOf}, Gathering.{AreOf}};
 
     ghost Value = { LanesOf };
 

@@ -21,8 +21,7 @@ pub(crate) struct Running {
 
 impl Model for Running {
     ghost use Rattle.std.specs.Prelude.{map};
-    ghost use Rattle.sci_lanes.specs.Ends.{LanesOf};
-    ghost use Rattle.sci_lanes.specs.Gathering.{AreOf};
+    ghost use Rattle.sci_lanes.specs.{Ends.{LanesOf}, Gathering.{AreOf}};
     ghost use Rattle.sci_station.specs.Station.{end_in};
 
     ghost Value = { LanesOf };

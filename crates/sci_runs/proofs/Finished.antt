@@ -1,25 +1,16 @@
 -- The schedule of a run that has come to its end.
-use Rattle.std.proofs.Common.{◌≡◌, ◌≤◌, ◌<◌, ℕ, zero, suc, Bool, true, false, arith, List, [], ◌∷◌, All, length, take, Some, refl, sym, ap, subst, ◌∙◌, inl}
-use Rattle.std.proofs.Common.{inr}
+use Rattle.std.proofs.Common.{◌≡◌, ◌≤◌, ◌<◌, ℕ, zero, suc, Bool, true, false, arith, List, [], ◌∷◌, All, length, take, Some, refl, sym, ap, subst, ◌∙◌}
+use Rattle.std.proofs.Common.{inl, inr}
 use Rattle.std.specs.Prelude.{slice_get, slice_index_or}
-use Rattle.sci_words.specs.declared.limits.TheConstants.{MAX_NODES, MAX_OPERATIONS}
-use Rattle.sci_words.specs.declared.stamped.Stamped.{Stamped}
+use Rattle.sci_words.specs.declared.{limits.TheConstants.{MAX_NODES, MAX_OPERATIONS}, stamped.Stamped.{Stamped}}
 use Rattle.sci_words.specs.declared.operation.Op.{Op}
-use Rattle.sci_history.specs.declared.entry.Entry.{Entry}
-use Rattle.sci_history.specs.Placed.{log_of}
-use Rattle.sci_history.specs.Sequential.{IsInProgramOrder}
-use Rattle.sci_text.specs.Script.{ScriptValue}
-use Rattle.sci_text.specs.Schedule.{IsSchedule, ScheduleValue}
-use Rattle.sci_core.specs.Core.{Core, node_at, run}
-use Rattle.sci_core.specs.Node.{NodeOf}
-use Rattle.sci_core.specs.Outcome.{logs_of}
-use Rattle.sci_core.specs.Reached.{IsReached}
-use Rattle.sci_core.specs.Sharing.{last_of}
-use Rattle.sci_core.specs.Size.{Size}
+use Rattle.sci_history.specs.{declared.entry.Entry.{Entry}, Placed.{log_of}, Sequential.{IsInProgramOrder}}
+use Rattle.sci_text.specs.{Script.{ScriptValue}, Schedule.{IsSchedule, ScheduleValue}}
+use Rattle.sci_core.specs.{Core.{Core, node_at, run}, Node.{NodeOf}, Outcome.{logs_of}, Reached.{IsReached}}
+use Rattle.sci_core.specs.{Sharing.{last_of}, Size.{Size}}
 use Rattle.sci_core.proofs.ReachedLaws.{log_at}
 use Rattle.sci_lanes.specs.Shown.{AreEnabled}
-use Rattle.sci_drive.specs.declared.driver.Issuing.{Issuing}
-use Rattle.sci_drive.specs.Driving.{DriverOf, IsDriven}
+use Rattle.sci_drive.specs.{declared.driver.Issuing.{Issuing}, Driving.{DriverOf, IsDriven}}
 use Rattle.sci_drive.specs.Script.{IsFrontOf, IsLogOf, IsWholeLogOf}
 use Rattle.sci_drive.proofs.Drives.{log_of as log_driven, whole_of}
 use Rattle.sci_threads.specs.Shares.{operations_of, size_for}

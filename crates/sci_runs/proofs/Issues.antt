@@ -1,25 +1,17 @@
 -- The operations that a node has issued, behind an event more.
-use Rattle.std.proofs.Common.{◌≡◌, ◌≢◌, ℕ, ◌<◌, Bool, if◌then◌else◌, arith, List, [], ◌∷◌, ◌++◌, Option, Some, None, refl, sym, ap}
-use Rattle.std.proofs.Common.{subst, ◌∙◌, inl, inr}
-use Rattle.std.specs.List.{Contains}
-use Rattle.std.proofs.lemmas.Bool.{cases_eq, eq-eqb, ne_eqb}
-use Rattle.std.proofs.lemmas.List.{append-nil, length_push}
+use Rattle.std.proofs.Common.{◌≡◌, ◌≢◌, ℕ, ◌<◌, Bool, if◌then◌else◌, arith, List, [], ◌∷◌, ◌++◌, Option, Some, None, refl, sym, ap, subst, ◌∙◌, inl, inr}
+use Rattle.std.proofs.lemmas.{Bool.{cases_eq, eq-eqb, ne_eqb}, List.{append-nil, length_push}}
 use Rattle.std.proofs.lemmas.List.Elements.{Contains-append_left, Contains-push, filter_map-append}
-use Rattle.sci_words.specs.declared.event.Event.{Event}
-use Rattle.sci_words.specs.declared.event.Event.TheVariants as event
-use Rattle.sci_words.specs.declared.operation.Op.{Op}
+use Rattle.std.specs.List.{Contains}
+use Rattle.sci_words.specs.declared.{event.Event.{Event}, operation.Op.{Op}}
 use Rattle.sci_history.specs.declared.entry.Entry.{Entry}
 use Rattle.sci_cache.specs.Cache.{Letter}
-use Rattle.sci_core.specs.declared.pending.Pending.{Pending}
-use Rattle.sci_core.specs.Core.{Core, node_at, node_of, stepping, with_node}
+use Rattle.sci_core.specs.{declared.pending.Pending.{Pending}, Core.{Core, node_at, node_of, stepping, with_node}}
 use Rattle.sci_core.specs.Done.{performed}
 use Rattle.sci_core.specs.Node.{NodeOf, no_node, node_accepting, node_asking, node_refusing, node_replying, node_serving, pending_on}
-use Rattle.sci_core.specs.Reached.{IsReached}
-use Rattle.sci_core.specs.WellFormed.{IsWellFormed}
-use Rattle.sci_core.specs.Work.{IsIssued, IsLogged}
-use Rattle.sci_core.proofs.Basics.Lists.{at_place_set}
+use Rattle.sci_core.specs.{Reached.{IsReached}, WellFormed.{IsWellFormed}, Work.{IsIssued, IsLogged}}
+use Rattle.sci_core.proofs.Basics.{Lists.{at_place_set}, Options.{of_some}}
 use Rattle.sci_core.proofs.Step.NodeSides.{ServedAs, RefusedAs, serve_as, refuse_as, reply_as}
-use Rattle.sci_core.proofs.Basics.Options.{of_some}
 use Rattle.sci_core.proofs.Step.Steps.{Stepped, By_issue, By_perform, By_ask, By_serve, By_refuse, By_reply, By_accept, stepping_stepped}
 use Rattle.sci_core.proofs.WellFormed.WellFormedSteps.{reached_well}
 use Rattle.sci_core.proofs.History.Works.{SameWork, accept_work, ask_work, serve_work}
@@ -28,6 +20,7 @@ use Rattle.sci_drive.proofs.Drives.{same_some}
 use Rattle.sci_runs.proofs.Steps.{issue_makes, perform_makes}
 use Rattle.sci_turn.proofs.Working.{other_stays}
 use Rattle.sci_runs.specs.Recorded.{HasIssued, IsKnown, issued_at, issues_at}
+use Rattle.sci_words.specs.declared.event.Event.TheVariants as event
 
 -- ---- an Issue
 

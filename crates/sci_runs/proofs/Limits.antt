@@ -1,37 +1,28 @@
 -- A machine whose nodes may issue more operations goes through the same events, to the same logs and last contents.
-use Rattle.std.proofs.Common.{◌≡◌, ℕ, zero, suc, ◌%◌, ◌<◌, ◌≤◌, nat_lt, Bool, true, false, if◌then◌else◌, List, [], ◌∷◌, ◌++◌, length}
-use Rattle.std.proofs.Common.{map, Option, Some, None, refl, arith, sym, ap, subst, ◌∙◌}
-use Rattle.std.specs.Prelude.{Result, Ok, Err, is_none, is_some, ◌&&◌, option_map, option_to_list, slice_index_or, unwrap_or}
-use Rattle.std.specs.List.{filter, flat_map, range_with_len}
-use Rattle.std.specs.Option.{option_or}
-use Rattle.std.proofs.lemmas.Bool.{ltb-true, lt-ltb}
+use Rattle.std.proofs.Common.{◌≡◌, ℕ, zero, suc, ◌%◌, ◌<◌, ◌≤◌, nat_lt, Bool, true, false, if◌then◌else◌, List, [], ◌∷◌, ◌++◌, length, map, Option, Some}
+use Rattle.std.proofs.{Common.{None, refl, arith, sym, ap, subst, ◌∙◌}, lemmas.Bool.{ltb-true, lt-ltb}}
 use Rattle.std.proofs.lemmas.List.{get_or-map, map-set}
-use Rattle.sci_words.specs.declared.limits.TheConstants.{MAX_NODES}
-use Rattle.sci_words.specs.declared.event.Event.{Event}
-use Rattle.sci_words.specs.declared.event.Event.TheVariants as event
-use Rattle.sci_words.specs.declared.operation.Op.{Op}
-use Rattle.sci_words.specs.declared.operation.Reply.{Reply}
-use Rattle.sci_words.specs.Stamped.{zero_stamped}
-use Rattle.sci_packets.specs.declared.body.Body.{Body}
-use Rattle.sci_packets.specs.declared.body.Body.TheVariants.{Busy}
+use Rattle.std.specs.Prelude.{Result, Ok, Err, is_none, is_some, ◌&&◌, option_map, option_to_list, slice_index_or, unwrap_or}
+use Rattle.std.specs.{List.{filter, flat_map, range_with_len}, Option.{option_or}}
+use Rattle.sci_words.specs.declared.{limits.TheConstants.{MAX_NODES}, event.Event.{Event}, operation.Op.{Op}}
+use Rattle.sci_words.specs.{declared.operation.Reply.{Reply}, Stamped.{zero_stamped}}
+use Rattle.sci_packets.specs.declared.body.Body.{Body, TheVariants.{Busy}}
 use Rattle.sci_history.specs.declared.entry.Entry.{Entry}
-use Rattle.sci_home.specs.declared.state.HomeState.{HomeState}
-use Rattle.sci_home.specs.Serving.{current_of, home_serving, is_for_home}
+use Rattle.sci_home.specs.{declared.state.HomeState.{HomeState}, Serving.{current_of, home_serving, is_for_home}}
 use Rattle.sci_cache.specs.declared.fault.AskFault.{AskFault}
 use Rattle.sci_cache.specs.Cache.{CacheOf, Letter, cache_accepting, cache_asking, cache_performing, cache_serving, line_of}
-use Rattle.sci_core.specs.declared.lane.LaneKind.{LaneKind}
-use Rattle.sci_core.specs.declared.lane.LaneKind.TheVariants.{Answers, Requests}
+use Rattle.sci_core.specs.declared.lane.LaneKind.{LaneKind, TheVariants.{Answers, Requests}}
 use Rattle.sci_core.specs.declared.pending.Pending.{Pending}
-use Rattle.sci_core.specs.Core.{Core, changes, lane_of, lane_place, node_at, node_of, performs, sends, side, step_by, stepping, taken_as, taken_from, with_lane}
-use Rattle.sci_core.specs.Core.{opening, with_node, with_sent}
+use Rattle.sci_core.specs.Core.{Core, changes, lane_of, lane_place, node_at, node_of, performs, sends, side, step_by, stepping, taken_as, taken_from}
+use Rattle.sci_core.specs.Core.{with_lane, opening, with_node, with_sent}
 use Rattle.sci_core.specs.Node.{NodeOf, accepted_by, answered_by, asked_by, home_of, is_in_range, is_setback, lines_of, no_node, node_accepting}
-use Rattle.sci_core.specs.Node.{node_asking, node_issued, node_issuing, node_performing, node_refusing, node_replying, node_serving, pending_on, performed_by}
-use Rattle.sci_core.specs.Node.{opening_node, performing_pending, replied_by, served_at_home, served_in_cache, serving_at_home, serving_in_cache, with_answer}
-use Rattle.sci_core.specs.Outcome.{logs_of}
+use Rattle.sci_core.specs.Node.{node_asking, node_issued, node_issuing, node_performing, node_refusing, node_replying, node_serving, pending_on}
+use Rattle.sci_core.specs.Node.{performed_by, opening_node, performing_pending, replied_by, served_at_home, served_in_cache, serving_at_home}
+use Rattle.sci_core.specs.{Node.{serving_in_cache, with_answer}, Outcome.{logs_of}}
 use Rattle.sci_core.specs.Sharing.{answer_in, first_authority, home_at, is_about, last_at, last_of, packets_of, sharer_of, sharers, Sharer, under_way}
-use Rattle.sci_core.specs.Size.{Size}
-use Rattle.sci_core.specs.WellFormed.{IsWellFormed}
+use Rattle.sci_core.specs.{Size.{Size}, WellFormed.{IsWellFormed}}
 use Rattle.sci_runs.specs.Recorded.{raised, raised_node, with_limit}
+use Rattle.sci_words.specs.declared.event.Event.TheVariants as event
 
 -- ---- nodes
 

@@ -1,19 +1,12 @@
 -- What a node does, one deed after another, and rounds, one after another.
-use Rattle.std.proofs.Common.{◌≡◌, ℕ, List, [], ◌∷◌, Option, Some, None, Result, Ok, Err, IfOk, refl, sym}
-use Rattle.std.proofs.Common.{subst}
-use Rattle.std.specs.Prelude.{IfSome, IsErr}
-use Rattle.std.specs.declared.alloc.AllocError.{AllocError}
+use Rattle.std.proofs.Common.{◌≡◌, ℕ, List, [], ◌∷◌, Option, Some, None, Result, Ok, Err, IfOk, refl, sym, subst}
+use Rattle.std.specs.{Prelude.{IfSome, IsErr}, declared.alloc.AllocError.{AllocError}}
 use Rattle.sci_words.specs.declared.event.Event.{Event}
-use Rattle.sci_core.specs.Core.{Core, stepping}
-use Rattle.sci_core.specs.Node.{NodeOf}
-use Rattle.sci_policy.specs.declared.progress.Progress.{Progress}
-use Rattle.sci_policy.specs.Policy.{PolicyOf}
-use Rattle.sci_drive.specs.Calls.{AllowAll, Call}
-use Rattle.sci_drive.specs.declared.driver.Round.{Round}
-use Rattle.sci_drive.specs.Driving.{DriverOf}
+use Rattle.sci_core.specs.{Core.{Core, stepping}, Node.{NodeOf}}
+use Rattle.sci_policy.specs.{declared.progress.Progress.{Progress}, Policy.{PolicyOf}}
+use Rattle.sci_drive.specs.{Calls.{AllowAll, Call}, declared.driver.Round.{Round}, Driving.{DriverOf}}
 use Rattle.sci_drive.specs.Rounds.{GoesRound}
-use Rattle.sci_runs.specs.Deeds.{IsWholeTurn, IsWorkOf, Takes, Turns, Works, takes_nothing}
-use Rattle.sci_runs.specs.Played.{GoesOpenly}
+use Rattle.sci_runs.specs.{Deeds.{IsWholeTurn, IsWorkOf, Takes, Turns, Works, takes_nothing}, Played.{GoesOpenly}}
 
 -- ---- deeds
 

@@ -1,39 +1,27 @@
 -- The schedule of a recorder, and an event more.
-use Rattle.std.proofs.Common.{◌≡◌, ℕ, ◌<◌, ◌^◌, Bool, true, false, if◌then◌else◌, arith, List, [], ◌∷◌, ◌++◌, Option, Some, None, refl, sym, ap, subst, ◌∙◌}
+use Rattle.std.proofs.Common.{◌≡◌, ℕ, ◌<◌, ◌^◌, Bool, true, false, if◌then◌else◌, arith, List, [], ◌∷◌, ◌++◌, Option, Some, None, refl, sym, ap, subst}
+use Rattle.std.proofs.{Common.{◌∙◌}, lemmas.Bool.{and_parts, ltb-true}}
 use Rattle.std.specs.Prelude.{◌&&◌, nat_lt, IsSome, option_map}
-use Rattle.std.proofs.lemmas.Bool.{and_parts, ltb-true}
-use Rattle.sci_words.specs.declared.event.AskKind.{AskKind}
-use Rattle.sci_words.specs.declared.extent.Extent.{Extent}
-use Rattle.sci_words.specs.declared.limits.TheConstants.{MAX_OPERATIONS, WORDS_PER_LINE}
-use Rattle.sci_cache.specs.Cache.{Letter}
-use Rattle.sci_words.specs.declared.event.Event.{Event}
-use Rattle.sci_words.specs.declared.event.Event.TheVariants as event
-use Rattle.sci_words.specs.declared.operation.Act.{Act}
-use Rattle.sci_words.specs.declared.operation.Act.TheVariants.{Load, Store, Lock}
-use Rattle.sci_words.specs.declared.operation.LockOp.{LockOp}
+use Rattle.sci_words.specs.declared.{event.AskKind.{AskKind}, extent.Extent.{Extent}}
+use Rattle.sci_words.specs.declared.{limits.TheConstants.{MAX_OPERATIONS, WORDS_PER_LINE}, event.Event.{Event}}
+use Rattle.sci_words.specs.declared.operation.{Act.{Act, TheVariants.{Load, Store, Lock}}, LockOp.{LockOp}}
 use Rattle.sci_words.specs.declared.operation.LockOp.TheVariants.{MaskSwap, CompareSwap, FetchAdd, BoundedAdd, WrapAdd}
-use Rattle.sci_words.specs.declared.operation.Op.{Op}
-use Rattle.sci_words.specs.Operation.{are_words, has_words}
-use Rattle.sci_text.specs.Operation.{ActFits, LockFits}
-use Rattle.sci_text.specs.Script.{IsWithin}
+use Rattle.sci_words.specs.{declared.operation.Op.{Op}, Operation.{are_words, has_words}}
+use Rattle.sci_cache.specs.Cache.{Letter}
+use Rattle.sci_text.specs.{Operation.{ActFits, LockFits}, Script.{IsWithin}}
 use Rattle.sci_text.specs.Schedule.{IsEventWithin, ScheduleValue, with_event}
 use Rattle.sci_core.specs.declared.lane.LaneKind.TheVariants.{Requests, Answers}
 use Rattle.sci_core.specs.Core.{Core, IsEnabled, node_at, opening, run, stepping, with_node, sent_by}
 use Rattle.sci_core.specs.Node.{NodeOf, is_in_range, lines_of, may_issue, node_accepting, node_issued, node_refusing, node_serving}
-use Rattle.sci_core.specs.Reached.{IsReached}
-use Rattle.sci_core.specs.Size.{Size, size_of}
-use Rattle.sci_core.proofs.Settling.Drains.{some_node, some_sender}
-use Rattle.sci_core.proofs.Step.Nodes.{some_below}
-use Rattle.sci_core.proofs.Step.Sides.{steps_by_sides}
+use Rattle.sci_core.specs.{Reached.{IsReached}, Size.{Size, size_of}}
+use Rattle.sci_core.proofs.{Settling.Drains.{some_node, some_sender}, Step.{Nodes.{some_below}, Sides.{steps_by_sides}}}
 use Rattle.sci_core.proofs.WellFormed.WellFormedSteps.{reached_well}
 use Rattle.sci_lanes.specs.Shown.{AreEnabled}
-use Rattle.sci_lanes.proofs.Events.{enabled_more, run_further}
-use Rattle.sci_lanes.proofs.Opening.{node_opened}
-use Rattle.sci_runs.proofs.Steps.{perform_makes}
+use Rattle.sci_lanes.proofs.{Events.{enabled_more, run_further}, Opening.{node_opened}}
+use Rattle.sci_runs.proofs.{Steps.{perform_makes}, Issues.{issues_on}, Limits.{opening_raised, stepping_raised}}
 use Rattle.sci_runs.specs.declared.fault.RunFault.{RunFault}
 use Rattle.sci_runs.specs.Recorded.{HasIssued, HasLed, IsOfSize, IsRecorder, IsSameSize, raised, with_limit}
-use Rattle.sci_runs.proofs.Issues.{issues_on}
-use Rattle.sci_runs.proofs.Limits.{opening_raised, stepping_raised}
+use Rattle.sci_words.specs.declared.event.Event.TheVariants as event
 
 -- ---- an event that is enabled is one of the machine's
 

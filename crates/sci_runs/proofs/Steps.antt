@@ -1,15 +1,12 @@
 -- What an Issue and a Perform of a node do to a reached state.
 use Rattle.std.proofs.Common.{◌≡◌, ℕ, ◌<◌, Option, Some, None, sym, ap, ◌∙◌}
 use Rattle.std.specs.Prelude.{option_map}
-use Rattle.sci_words.specs.declared.event.Event.TheVariants.{Issue, Perform}
-use Rattle.sci_words.specs.declared.operation.Op.{Op}
+use Rattle.sci_words.specs.declared.{event.Event.TheVariants.{Issue, Perform}, operation.Op.{Op}}
 use Rattle.sci_history.specs.declared.entry.Entry.{Entry}
 use Rattle.sci_core.specs.Core.{Core, node_at, stepping, with_node}
-use Rattle.sci_core.specs.Node.{IsNode, NodeOf, node_issuing, node_performing}
-use Rattle.sci_core.specs.Reached.{IsReached}
+use Rattle.sci_core.specs.{Node.{IsNode, NodeOf, node_issuing, node_performing}, Reached.{IsReached}}
 use Rattle.sci_core.specs.Work.{IsIssued, IsLogged}
-use Rattle.sci_core.proofs.History.Pendings.{issue_puts, perform_puts}
-use Rattle.sci_core.proofs.Step.Sides.{steps_by_sides}
+use Rattle.sci_core.proofs.{History.Pendings.{issue_puts, perform_puts}, Step.Sides.{steps_by_sides}}
 use Rattle.sci_core.proofs.WellFormed.WellFormedSteps.{reached_well}
 use Rattle.sci_turn.proofs.Working.{own_node}
 

@@ -1,26 +1,19 @@
 -- The nodes of a run at work.
 use Rattle.std.proofs.Common.{◌≡◌, ◌<◌, ◌≤◌, ℕ, arith, All, Ok, List, [], ◌∷◌, length, map, set, Vec, refl, sym, ap, subst, ◌∙◌, inl, inr}
-use Rattle.std.specs.Prelude.{slice_index_or}
 use Rattle.std.proofs.lemmas.Bool.{cases_eq, cases_lt}
 use Rattle.std.proofs.lemmas.List.{get_or-map, get_or-set_other, get_or-set_same, get_or_past, length-map, length-set, map-set}
-use Rattle.sci_words.specs.declared.extent.Extent.{Extent}
-use Rattle.sci_words.specs.declared.limits.TheConstants.{MAX_OPERATIONS}
-use Rattle.sci_words.specs.declared.operation.Op.{Op}
+use Rattle.std.specs.Prelude.{slice_index_or}
+use Rattle.sci_words.specs.declared.{extent.Extent.{Extent}, limits.TheConstants.{MAX_OPERATIONS}, operation.Op.{Op}}
 use Rattle.sci_text.specs.Script.{ScriptValue}
-use Rattle.sci_core.specs.Core.{Core, node_at, opening}
-use Rattle.sci_core.specs.Node.{NodeOf, opening_node}
-use Rattle.sci_core.specs.Size.{Size, size_of}
+use Rattle.sci_core.specs.{Core.{Core, node_at, opening}, Node.{NodeOf, opening_node}, Size.{Size, size_of}}
 use Rattle.sci_lanes.proofs.Opening.{node_opened}
 use Rattle.sci_policy.specs.Policy.{PolicyOf, opening_policy}
-use Rattle.sci_drive.specs.declared.driver.Round.{Round}
-use Rattle.sci_drive.specs.declared.driver.Issuing.{Issuing}
+use Rattle.sci_drive.specs.declared.driver.{Round.{Round}, Issuing.{Issuing}}
 use Rattle.sci_drive.specs.Driving.{DriverOf, HasSubmittedNothing, IsDriven, IsInOrder, opening_driver}
-use Rattle.sci_drive.proofs.Drives.{opens}
-use Rattle.sci_drive.proofs.InOrder.{opens_in_order}
+use Rattle.sci_drive.proofs.{Drives.{opens}, InOrder.{opens_in_order}}
 use Rattle.sci_threads.specs.Shares.{operations_of}
 use Rattle.sci_threads.proofs.Sharing.{opened_fresh, sized_for}
-use Rattle.sci_runs.specs.Deeds.{Takes}
-use Rattle.sci_runs.specs.Played.{Begins, GoesOpenly, IsRound, Moment, StaysBut}
+use Rattle.sci_runs.specs.{Deeds.{Takes}, Played.{Begins, GoesOpenly, IsRound, Moment, StaysBut}}
 use Rattle.sci_runs.specs.Players.{AreAtWork, IsAtWork, TableOf, moment_of}
 use Rattle.sci_runs.specs.Recorded.{RecorderOf, SparesOthers, with_limit}
 

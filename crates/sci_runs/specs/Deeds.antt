@@ -1,17 +1,12 @@
 -- What a node does of its own: it issues and performs operations, and takes turns.
 use Rattle.std.specs.Prelude.{◌≡◌, ◌+◌, ℕ, Bool, true, false, List, [], ◌∷◌, ◌++◌, Some, count_by}
-use Rattle.std.proofs.Common.{refl, sym, ap, subst, ◌∙◌, cond}
-use Rattle.std.proofs.lemmas.List.Sums.{sum_by-append}
+use Rattle.std.proofs.{Common.{refl, sym, ap, subst, ◌∙◌, cond}, lemmas.List.Sums.{sum_by-append}}
 use Rattle.sci_words.specs.declared.event.Event.{Event}
-use Rattle.sci_words.specs.declared.event.Event.TheVariants as event
 use Rattle.sci_core.specs.Core.{Core, stepping}
-use Rattle.sci_policy.specs.declared.progress.Progress.{Progress}
-use Rattle.sci_policy.specs.Policy.{PolicyOf, turned}
-use Rattle.sci_policy.specs.Turn.{is_idle}
-use Rattle.sci_turn.specs.Far.{HasAskedAll}
-use Rattle.sci_turn.specs.Idle.{IsIdleTurn}
-use Rattle.sci_turn.specs.Moves.{IsTurn}
+use Rattle.sci_policy.specs.{declared.progress.Progress.{Progress}, Policy.{PolicyOf, turned}, Turn.{is_idle}}
+use Rattle.sci_turn.specs.{Far.{HasAskedAll}, Idle.{IsIdleTurn}, Moves.{IsTurn}}
 use Rattle.sci_locked.specs.Lent.{post_at}
+use Rattle.sci_words.specs.declared.event.Event.TheVariants as event
 
 -- a node issues an operation or performs one, or it takes a turn and tells what it did
 pub data Deed : Type 0 where

@@ -2,20 +2,13 @@
 use Rattle.std.specs.Prelude.{◌≡◌, ◌≢◌, ◌<◌, ◌≤◌, ℕ, zero, suc, List, Option, Ok, Result, length, slice_index_or}
 use Rattle.std.specs.declared.alloc.AllocError.{AllocError}
 use Rattle.sci_words.specs.declared.limits.TheConstants.{MAX_OPERATIONS}
-use Rattle.sci_text.specs.Script.{ScriptValue}
-use Rattle.sci_text.specs.Schedule.{ScheduleValue}
-use Rattle.sci_core.specs.Core.{Core, node_at, opening, run}
-use Rattle.sci_core.specs.Node.{NodeOf}
+use Rattle.sci_text.specs.{Script.{ScriptValue}, Schedule.{ScheduleValue}}
+use Rattle.sci_core.specs.{Core.{Core, node_at, opening, run}, Node.{NodeOf}}
 use Rattle.sci_policy.specs.Policy.{PolicyOf, opening_policy}
-use Rattle.sci_drive.specs.declared.driver.Issuing.{Issuing}
-use Rattle.sci_drive.specs.declared.driver.Round.{Round}
-use Rattle.sci_drive.specs.Calls.{AllowAll}
-use Rattle.sci_drive.specs.Driving.{DriverOf, opening_driver}
-use Rattle.sci_drive.specs.Rounds.{GoesRound}
+use Rattle.sci_drive.specs.{declared.driver.{Issuing.{Issuing}, Round.{Round}}, Calls.{AllowAll}}
+use Rattle.sci_drive.specs.{Driving.{DriverOf, opening_driver}, Rounds.{GoesRound}}
 use Rattle.sci_threads.specs.Shares.{operations_of, size_for}
-use Rattle.sci_runs.specs.declared.order.Order.{Order}
-use Rattle.sci_runs.specs.Deeds.{Takes}
-use Rattle.sci_runs.specs.Recorded.{raised, with_limit}
+use Rattle.sci_runs.specs.{declared.order.Order.{Order}, Deeds.{Takes}, Recorded.{raised, with_limit}}
 use Rattle.sci_runs.specs.Turns.{first_order, next_node, next_order}
 
 -- ---- a run

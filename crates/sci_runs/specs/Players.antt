@@ -2,15 +2,12 @@
 use Rattle.std.specs.Prelude.{◌≡◌, ◌<◌, ℕ, List, [], length, slice_index_or}
 use Rattle.sci_words.specs.declared.limits.TheConstants.{MAX_OPERATIONS}
 use Rattle.sci_text.specs.Script.{ScriptValue}
-use Rattle.sci_core.specs.Core.{node_at}
-use Rattle.sci_core.specs.Node.{NodeOf}
+use Rattle.sci_core.specs.{Core.{node_at}, Node.{NodeOf}}
 use Rattle.sci_policy.specs.Policy.{PolicyOf}
-use Rattle.sci_drive.specs.declared.driver.Issuing.{Issuing}
-use Rattle.sci_drive.specs.declared.driver.Issuing.TheVariants.{InOrder}
+use Rattle.sci_drive.specs.declared.driver.Issuing.{Issuing, TheVariants.{InOrder}}
 use Rattle.sci_drive.specs.Driving.{DriverOf, IsDriven, IsInOrder}
 use Rattle.sci_threads.specs.Shares.{operations_of, size_for}
-use Rattle.sci_runs.specs.Played.{Moment}
-use Rattle.sci_runs.specs.Recorded.{RecorderOf, with_limit}
+use Rattle.sci_runs.specs.{Played.{Moment}, Recorded.{RecorderOf, with_limit}}
 
 -- each operation of the driver's script has its entry
 abbrev pub IsAnswered : DriverOf → Type 0

@@ -1,17 +1,13 @@
 -- A machine with the schedule that has led it where it stands.
 use Rattle.std.specs.Prelude.{◌≡◌, ◌≢◌, ◌<◌, ◌==◌, ◌⊎◌, ℕ, List, [], length, map, Option, Some, None, slice_get, if◌then◌else◌}
 use Rattle.std.specs.List.{Contains, filter_map}
-use Rattle.sci_words.specs.declared.event.Event.{Event}
-use Rattle.sci_words.specs.declared.event.Event.TheVariants as event
-use Rattle.sci_words.specs.declared.operation.Op.{Op}
-use Rattle.sci_words.specs.declared.limits.TheConstants.{MAX_OPERATIONS}
+use Rattle.sci_words.specs.declared.{event.Event.{Event}, operation.Op.{Op}, limits.TheConstants.{MAX_OPERATIONS}}
 use Rattle.sci_history.specs.declared.entry.Entry.{Entry}
 use Rattle.sci_text.specs.Schedule.{ScheduleValue}
-use Rattle.sci_core.specs.Core.{Core, node_at, run}
-use Rattle.sci_core.specs.Node.{NodeOf, pending_on}
-use Rattle.sci_core.specs.Size.{Size}
+use Rattle.sci_core.specs.{Core.{Core, node_at, run}, Node.{NodeOf, pending_on}, Size.{Size}}
 use Rattle.sci_lanes.specs.Shown.{AreEnabled}
 use Rattle.sci_runs.specs.declared.fault.RunFault.{RunFault}
+use Rattle.sci_words.specs.declared.event.Event.TheVariants as event
 
 -- ---- sizes
 

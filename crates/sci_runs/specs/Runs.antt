@@ -1,16 +1,11 @@
 -- The schedule of a run of a script.
 use Rattle.std.specs.Prelude.{◌≡◌, ◌<◌, ℕ, Bool, true, List, [], length, take}
 use Rattle.sci_words.specs.declared.stamped.Stamped.{Stamped}
-use Rattle.sci_history.specs.declared.entry.Entry.{Entry}
-use Rattle.sci_history.specs.Sequential.{AreInProgramOrder}
-use Rattle.sci_text.specs.Script.{ScriptValue}
-use Rattle.sci_text.specs.Schedule.{IsSchedule, ScheduleValue}
-use Rattle.sci_core.specs.Core.{run}
-use Rattle.sci_core.specs.Outcome.{logs_of}
-use Rattle.sci_core.specs.Sharing.{last_of}
+use Rattle.sci_history.specs.{declared.entry.Entry.{Entry}, Sequential.{AreInProgramOrder}}
+use Rattle.sci_text.specs.{Script.{ScriptValue}, Schedule.{IsSchedule, ScheduleValue}}
+use Rattle.sci_core.specs.{Core.{run}, Outcome.{logs_of}, Sharing.{last_of}}
 use Rattle.sci_lanes.specs.Shown.{AreEnabled}
-use Rattle.sci_drive.specs.declared.driver.Issuing.{Issuing}
-use Rattle.sci_drive.specs.declared.driver.Issuing.TheVariants.{InOrder}
+use Rattle.sci_drive.specs.declared.driver.Issuing.{Issuing, TheVariants.{InOrder}}
 use Rattle.sci_threads.specs.Shares.{HaveFrontLogsOf, HaveLogsOf, HaveWholeLogsOf, operations_of, size_for}
 use Rattle.sci_runs.specs.Recorded.{IsOfSize, issues_at}
 

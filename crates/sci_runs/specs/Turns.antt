@@ -1,8 +1,7 @@
 -- In which order nodes take their turns.
 use Rattle.std.specs.Prelude.{ℕ, ◌+◌, Option, Some, None, nat_lt, if◌then◌else◌}
 use Rattle.sci_chance.specs.Drawing.{after, drawn, seeded}
-use Rattle.sci_runs.specs.declared.order.Order.{Order}
-use Rattle.sci_runs.specs.declared.order.Order.TheVariants.{Circle, Drawn}
+use Rattle.sci_runs.specs.declared.order.Order.{Order, TheVariants.{Circle, Drawn}}
 
 -- the order at the start: a circle from node 0 on, or with a seed, drawn from it
 abbrev pub first_order : Option ℕ → Order

@@ -58,9 +58,7 @@ impl<'a> Player<'a> {
     ghost use Rattle.std.specs.Prelude.{◌≡◌, ◌<◌, IfOk};
     ghost use Rattle.sci_core.specs.Core.{node_at};
     ghost use Rattle.sci_drive.specs.Driving.{IsDriven, IsInOrder};
-    ghost use Rattle.sci_runs.specs.Deeds.{Takes};
-    ghost use Rattle.sci_runs.specs.Played.{GoesOpenly};
-    ghost use Rattle.sci_runs.specs.Recorded.{SparesOthers};
+    ghost use Rattle.sci_runs.specs.{Deeds.{Takes}, Played.{GoesOpenly}, Recorded.{SparesOthers}};
 
     /// Does a round at a node. Requires that there is such a node, and that this player has driven it. Refused if memory
     /// is, for a lane.

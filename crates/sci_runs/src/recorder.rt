@@ -82,15 +82,9 @@ impl Recorder {
     ghost use Rattle.std.specs.Prelude.{◌≡◌, ◌<◌, ◌≤◌, Some, None, IfOk, IfErr, IfSome, IsErr, length};
     ghost use Rattle.sci_words.specs.declared.event.Event.TheVariants.{Issue, Perform};
     ghost use Rattle.sci_words.specs.declared.limits.TheConstants.{MAX_OPERATIONS};
-    ghost use Rattle.sci_history.specs.Audit.{AreWithin};
-    ghost use Rattle.sci_history.specs.Lawful.{Lawful};
-    ghost use Rattle.sci_history.specs.Sequential.{IsSequentiallyConsistent};
-    ghost use Rattle.sci_core.specs.Core.{IsEnabled, node_at, opening, stepping};
-    ghost use Rattle.sci_core.specs.Node.{node_performing};
-    ghost use Rattle.sci_core.specs.Outcome.{logs_of};
-    ghost use Rattle.sci_core.specs.Reached.{IsReached};
-    ghost use Rattle.sci_core.specs.Sharing.{last_of};
-    ghost use Rattle.sci_core.specs.Size.{size_of};
+    ghost use Rattle.sci_history.specs.{Audit.{AreWithin}, Lawful.{Lawful}, Sequential.{IsSequentiallyConsistent}};
+    ghost use Rattle.sci_core.specs.{Core.{IsEnabled, node_at, opening, stepping}, Node.{node_performing}};
+    ghost use Rattle.sci_core.specs.{Outcome.{logs_of}, Reached.{IsReached}, Sharing.{last_of}, Size.{size_of}};
     ghost use Rattle.sci_core.specs.Work.{IsIssued, IsLogged};
     ghost use Rattle.sci_policy.specs.Turn.{submit_fault};
     ghost use Rattle.sci_text.specs.Schedule.{IsSchedule};

@@ -1,11 +1,8 @@
 //! A script that is run by the policy, one turn after another.
 
 ghost use Rattle.std.specs.Prelude.{◌≡◌, ◌≤◌, false, length, IfOk};
-ghost use Rattle.sci_history.specs.Audit.{AreWithin};
-ghost use Rattle.sci_history.specs.Lawful.{Lawful};
-ghost use Rattle.sci_history.specs.Sequential.{IsSequentiallyConsistent};
-ghost use Rattle.sci_runs.specs.Played.{IsPlayed};
-ghost use Rattle.sci_runs.specs.Runs.{IsRunOf, last_behind, logs_behind};
+ghost use Rattle.sci_history.specs.{Audit.{AreWithin}, Lawful.{Lawful}, Sequential.{IsSequentiallyConsistent}};
+ghost use Rattle.sci_runs.specs.{Played.{IsPlayed}, Runs.{IsRunOf, last_behind, logs_behind}};
 
 use crate::fault::RunFault;
 use crate::order::Order;

@@ -22,8 +22,7 @@ impl<'a> Worker for Seat<'a> {
     ghost use Rattle.std.specs.Prelude.{◌≡◌, ℕ};
     ghost use Rattle.sci_core.specs.Core.{node_at};
     ghost use Rattle.std.proofs.Common.{refl, subst, ◌∙◌};
-    ghost use Rattle.sci_runs.specs.Deeds.{Takes, takes_nothing, takes_on};
-    ghost use Rattle.sci_runs.specs.Recorded.{SparesOthers};
+    ghost use Rattle.sci_runs.specs.{Deeds.{Takes, takes_nothing, takes_on}, Recorded.{SparesOthers}};
 
     ghost node = { λ seat. node_at seat.recorder.now.core seat.node };
 

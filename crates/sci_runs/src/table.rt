@@ -74,13 +74,9 @@ impl<'a> Table<'a> {
     ghost use Rattle.sci_words.specs.declared.limits.TheConstants.{MAX_OPERATIONS};
     ghost use Rattle.sci_core.specs.Core.{run};
     ghost use Rattle.sci_threads.specs.Shares.{operations_of, size_for};
-    ghost use Rattle.sci_runs.specs.Played.{Begins, IsRound, Played};
-    ghost use Rattle.sci_runs.specs.Players.{IsAnswered, moment_of};
-    ghost use Rattle.sci_runs.specs.Recorded.{raised};
-    ghost use Rattle.sci_history.specs.Audit.{AreWithin};
-    ghost use Rattle.sci_history.specs.Lawful.{Lawful};
-    ghost use Rattle.sci_history.specs.Sequential.{IsSequentiallyConsistent};
-    ghost use Rattle.sci_runs.specs.Runs.{IsRunOf, last_behind, logs_behind};
+    ghost use Rattle.sci_runs.specs.{Played.{Begins, IsRound, Played}, Players.{IsAnswered, moment_of}};
+    ghost use Rattle.sci_runs.specs.{Recorded.{raised}, Runs.{IsRunOf, last_behind, logs_behind}};
+    ghost use Rattle.sci_history.specs.{Audit.{AreWithin}, Lawful.{Lawful}, Sequential.{IsSequentiallyConsistent}};
 
     /// A new machine of the size that the script says, whose nodes have done nothing. Requires the operations of each node.
     /// Refused if memory is.

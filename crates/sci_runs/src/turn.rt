@@ -2,11 +2,8 @@
 
 ghost use Rattle.std.specs.Prelude.{◌≡◌, ◌<◌, true, IfOk};
 ghost use Rattle.sci_core.specs.Core.{node_at};
-ghost use Rattle.sci_policy.specs.Rest.{MayIdle};
-ghost use Rattle.sci_policy.specs.Turn.{is_idle};
-ghost use Rattle.sci_policy.specs.Worker.{HasSameWork, IsNodeTurn};
-ghost use Rattle.sci_runs.specs.Deeds.{IsWholeTurn};
-ghost use Rattle.sci_runs.specs.Recorded.{SparesOthers};
+ghost use Rattle.sci_policy.specs.{Rest.{MayIdle}, Turn.{is_idle}, Worker.{HasSameWork, IsNodeTurn}};
+ghost use Rattle.sci_runs.specs.{Deeds.{IsWholeTurn}, Recorded.{SparesOthers}};
 
 use crate::post::Lent;
 use crate::recorder::Recorder;

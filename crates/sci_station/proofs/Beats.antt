@@ -1,8 +1,7 @@
 -- What is told of an end that was given is so of the end.
 use Rattle.std.proofs.Common.{◌≡◌, ap, subst, ◌∙◌}
 use Rattle.sci_core.specs.Node.{NodeOf}
-use Rattle.sci_lanes.specs.Telling.{IsShown}
-use Rattle.sci_lanes.specs.Ends.{EndOf}
+use Rattle.sci_lanes.specs.{Telling.{IsShown}, Ends.{EndOf}}
 
 -- what is told of the node of an end that was given is so of the end
 pub node_of_end : (node : NodeOf) (given end : EndOf) → node ≡ given.part.node → given ≡ end → node ≡ end.part.node

@@ -1,15 +1,11 @@
 -- Stations of one fabric, or ends of the same lanes, in a vector that is changed.
 use Rattle.std.proofs.Common.{◌≡◌, ℕ, zero, suc, ◌<◌, List, [], ◌∷◌, length, map, take, get_or, set, Some, refl, sym, subst, ◌∙◌, arith}
-use Rattle.std.specs.Prelude.{slice_get}
-use Rattle.std.specs.List.{swap}
+use Rattle.std.specs.{Prelude.{slice_get}, List.{swap}}
 use Rattle.atomic_table.specs.Seated.{TableId}
 use Rattle.sci_core.specs.Size.{Size}
-use Rattle.sci_lanes.specs.Shown.{opening_part}
-use Rattle.sci_lanes.specs.Ends.{EndOf, LanesOf}
-use Rattle.sci_lanes.specs.Gathering.{AreOf, IsOf}
+use Rattle.sci_lanes.specs.{Shown.{opening_part}, Ends.{EndOf, LanesOf}, Gathering.{AreOf, IsOf}}
 use Rattle.sci_lanes.proofs.Opening.{size_opened}
-use Rattle.sci_station.specs.Ends.{IsSameEnd}
-use Rattle.sci_station.specs.Station.{end_in, opening_station}
+use Rattle.sci_station.specs.{Ends.{IsSameEnd}, Station.{end_in, opening_station}}
 use Rattle.sci_core.proofs.Basics.Options.{same_some}
 
 -- an end that is the same is one of the same lanes

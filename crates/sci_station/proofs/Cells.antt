@@ -1,18 +1,14 @@
 -- What an end knows of the next cell after a look and a read.
 use Rattle.std.proofs.Common.{◌≡◌, ◌≢◌, ℕ, ◌%◌, ◌<◌, Bool, true, false, List, [], ◌∷◌, length, set, refl, sym, ap, subst, ◌∙◌}
+use Rattle.std.proofs.lemmas.{Bool.{and_from, eq-eqb, ne_eqb}, List.{get_or-set_same, length-set}}
 use Rattle.std.specs.Prelude.{◌&&◌, not, if◌then◌else◌}
-use Rattle.std.proofs.lemmas.Bool.{and_from, eq-eqb, ne_eqb}
-use Rattle.std.proofs.lemmas.List.{get_or-set_same, length-set}
-use Rattle.sci_lanes.specs.declared.cell.CellId.{CellId}
-use Rattle.sci_lanes.specs.declared.view.Inbound.{Inbound}
-use Rattle.sci_lanes.specs.declared.view.Outbound.{Outbound}
-use Rattle.sci_lanes.specs.declared.view.Part.{Part}
+use Rattle.sci_lanes.specs.declared.{cell.CellId.{CellId}, view.{Inbound.{Inbound}, Outbound.{Outbound}, Part.{Part}}}
 use Rattle.sci_lanes.specs.Cells.{lane_count, receiver_of, sender_of}
-use Rattle.sci_words.specs.declared.event.Event.{Event}
 use Rattle.sci_lanes.specs.Shown.{inbound_at, IsSeen, me_of, no_inbound, no_outbound, outbound_at}
 use Rattle.sci_lanes.specs.Knowing.{found_first, has_sent_more, is_receiving, is_sending, looked_in, looked_out, read_in, filled_out}
 use Rattle.sci_lanes.specs.Telling.{IsFront, IsShown}
 use Rattle.sci_lanes.specs.Ends.{EndOf, IsNextToSend, IsNextToTake, informed_at, lane_at_cell, looked_at, nodes_in, read_at, filled_at}
+use Rattle.sci_words.specs.declared.event.Event.{Event}
 use Rattle.sci_core.specs.Core.{lane_at}
 use Rattle.sci_lanes.proofs.Seats.{sends_in, shown_nodes, takes_in}
 use Rattle.sci_station.proofs.Stills.{fill_still, look_still, still_sends, still_takes}

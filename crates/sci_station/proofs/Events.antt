@@ -1,33 +1,23 @@
 -- What a station may do with what it has received, and what it has to send.
 use Rattle.std.proofs.Common.{◌≡◌, ◌<◌, ℕ, false, List, ◌∷◌, get_or, length, Option, Some, None, refl, sym, ap, subst, ◌∙◌, arith}
+use Rattle.std.proofs.lemmas.List.{append_assoc}
 use Rattle.std.specs.Prelude.{IsSome}
-use Rattle.sci_words.specs.declared.event.AskKind.{AskKind}
-use Rattle.sci_words.specs.declared.event.Event.{Event}
-use Rattle.sci_words.specs.declared.event.Event.TheVariants as event
+use Rattle.sci_words.specs.declared.event.{AskKind.{AskKind}, Event.{Event}}
 use Rattle.sci_packets.specs.declared.packet.Packet.{Packet}
 use Rattle.sci_packets.proofs.Whole.{one_by_words}
 use Rattle.sci_cache.specs.Cache.{Letter, letter_of}
-use Rattle.sci_core.specs.declared.lane.LaneKind.{LaneKind}
-use Rattle.sci_core.specs.declared.lane.LaneKind.TheVariants.{Answers, Requests}
-use Rattle.sci_core.specs.Core.{Takes, side, lane_at, lane_of, lane_place, node_at}
+use Rattle.sci_core.specs.declared.lane.LaneKind.{LaneKind, TheVariants.{Answers, Requests}}
+use Rattle.sci_core.specs.Core.{Takes, side, lane_at, lane_of, lane_place, node_at, node_of}
 use Rattle.sci_core.specs.Node.{NodeOf, is_setback, node_accepting, node_asking, node_refusing, node_serving}
-use Rattle.sci_core.proofs.Tidy.Enabled.{accept_enabled, request_enabled}
+use Rattle.sci_core.proofs.{Tidy.Enabled.{accept_enabled, request_enabled}, Basics.Options.{found}}
 use Rattle.sci_policy.proofs.Targets.{asked_target, waiting_target}
-use Rattle.sci_lanes.specs.declared.cell.CellId.{CellId}
-use Rattle.sci_lanes.specs.declared.view.Part.{Part}
-use Rattle.std.proofs.lemmas.List.{append_assoc}
-use Rattle.sci_core.specs.Core.{node_of}
-use Rattle.sci_core.proofs.Basics.Options.{found}
-use Rattle.sci_lanes.specs.Shown.{inbound_at, me_of}
-use Rattle.sci_station.proofs.Stills.{same_of_still}
-use Rattle.sci_lanes.specs.Telling.{IsShown}
-use Rattle.sci_lanes.specs.Ends.{EndOf, MayFree, lane_at_cell, nodes_in}
-use Rattle.sci_lanes.proofs.Seats.{shown_nodes}
-use Rattle.sci_lanes.proofs.LaneSteps.{words_some}
+use Rattle.sci_lanes.specs.{declared.{cell.CellId.{CellId}, view.Part.{Part}}, Shown.{inbound_at, me_of}}
+use Rattle.sci_lanes.specs.{Telling.{IsShown, IsMade}, Ends.{EndOf, MayFree, lane_at_cell, nodes_in}}
+use Rattle.sci_station.proofs.{Stills.{same_of_still}, Cells.{front_found}}
+use Rattle.sci_lanes.proofs.{Seats.{shown_nodes}, LaneSteps.{words_some}}
 use Rattle.sci_station.specs.Ends.{HasRead, IsStill}
-use Rattle.sci_lanes.specs.Telling.{IsMade}
-use Rattle.sci_station.proofs.Cells.{front_found}
 use Rattle.sci_history.proofs.Order.{all-append}
+use Rattle.sci_words.specs.declared.event.Event.TheVariants as event
 
 -- ---- sending
 

@@ -1,24 +1,14 @@
 -- The log of a node of a reached state, by itself.
 use Rattle.std.proofs.Common.{◌≡◌, ℕ, ◌<◌, ◌≤◌, List, [], ◌∷◌, sym, ap, subst, ◌∙◌, arith}
-use Rattle.std.specs.Prelude.{IsTrue, AllPairs, filter}
-use Rattle.std.specs.List.{AllByRecursion}
-use Rattle.std.proofs.lemmas.List.Elements.{All-from_recursion}
-use Rattle.std.proofs.lemmas.List.Kept.{AllPairs-cons, AllPairs-filter}
-use Rattle.sci_words.specs.declared.stamped.Stamped.{Stamped}
-use Rattle.sci_words.specs.Stamped.{after}
-use Rattle.sci_history.specs.declared.entry.Entry.{Entry}
-use Rattle.sci_history.specs.History.{IsHistory}
+use Rattle.std.proofs.lemmas.List.{Elements.{All-from_recursion}, Kept.{AllPairs-cons, AllPairs-filter}}
+use Rattle.std.specs.{Prelude.{IsTrue, AllPairs, filter}, List.{AllByRecursion}}
+use Rattle.sci_words.specs.{declared.stamped.Stamped.{Stamped}, Stamped.{after}}
+use Rattle.sci_history.specs.{declared.entry.Entry.{Entry}, History.{IsHistory}}
 use Rattle.sci_history.specs.Placed.{is_making, is_of_node, is_on_line}
-use Rattle.sci_history.proofs.Histories.{makers-after, versions-after}
-use Rattle.sci_history.proofs.Order.{all_both}
-use Rattle.sci_core.specs.Node.{NodeOf}
-use Rattle.sci_core.specs.Core.{Core, node_at}
-use Rattle.sci_core.specs.Reached.{IsReached}
-use Rattle.sci_core.proofs.ReachedLaws.{has_history, log_at}
-use Rattle.sci_core.proofs.WellFormed.WellFormedSteps.{reachable}
-use Rattle.sci_lanes.specs.declared.view.Part.{Part}
-use Rattle.sci_lanes.specs.Shown.{me_of}
-use Rattle.sci_lanes.specs.Telling.{IsShown}
+use Rattle.sci_history.proofs.{Histories.{makers-after, versions-after}, Order.{all_both}}
+use Rattle.sci_core.specs.{Node.{NodeOf}, Core.{Core, node_at}, Reached.{IsReached}}
+use Rattle.sci_core.proofs.{ReachedLaws.{has_history, log_at}, WellFormed.WellFormedSteps.{reachable}}
+use Rattle.sci_lanes.specs.{declared.view.Part.{Part}, Shown.{me_of}, Telling.{IsShown}}
 use Rattle.sci_station.specs.OneLog.{IsOneLog}
 
 -- a later entry of a line's history

@@ -1,38 +1,28 @@
 -- How many answers a node owes another after each event.
 use Rattle.std.proofs.Common.{◌≡◌, ◌≢◌, ◌<◌, ◌+◌, ◌/◌, ◌%◌, ℕ, List, [], ◌∷◌, ◌++◌, length, Option, Some, None, refl, sym, ap, subst, ◌∙◌, arith, inl, inr}
-use Rattle.std.specs.Prelude.{◌==◌, IfSome, slice_get}
-use Rattle.std.proofs.lemmas.Bool.{cases_eq, eq-eqb, ne_eqb}
-use Rattle.std.proofs.lemmas.Grind.{get_or-set_at}
+use Rattle.std.proofs.lemmas.{Bool.{cases_eq, eq-eqb, ne_eqb}, Grind.{get_or-set_at}}
 use Rattle.std.proofs.lemmas.List.{get_or-set_other, get_or-set_same, length_push}
-use Rattle.sci_words.specs.declared.event.Event.{Event}
-use Rattle.sci_words.specs.declared.event.Event.TheVariants as event
+use Rattle.std.specs.Prelude.{◌==◌, IfSome, slice_get}
+use Rattle.sci_words.specs.declared.{event.{Event.{Event}, AskKind.{AskKind}}, operation.Op.{Op}}
 use Rattle.sci_history.specs.declared.entry.Entry.{Entry}
 use Rattle.sci_cache.specs.Cache.{Letter}
-use Rattle.sci_core.specs.declared.lane.LaneKind.{LaneKind}
-use Rattle.sci_core.specs.declared.lane.LaneKind.TheVariants.{Answers, Requests}
-use Rattle.sci_core.specs.Core.{Changes, Core, Sends, Takes, changes, lane_at, lane_of, lane_place, node_at, node_of, performs, sends, sent_by, side, stepping}
-use Rattle.sci_core.specs.Core.{with_lane, with_node}
-use Rattle.sci_core.specs.Draining.{one_if}
+use Rattle.sci_core.specs.declared.lane.LaneKind.{LaneKind, TheVariants.{Answers, Requests}}
+use Rattle.sci_core.specs.Core.{Changes, Core, Sends, Takes, changes, lane_at, lane_of, lane_place, node_at, node_of, performs, sends, sent_by, side}
+use Rattle.sci_core.specs.{Core.{stepping, with_lane, with_node}, Draining.{one_if}}
 use Rattle.sci_core.specs.Node.{NodeOf, no_node, node_accepting, node_asking, node_issuing, node_performing, node_refusing, node_serving}
-use Rattle.sci_core.specs.Size.{Size}
-use Rattle.sci_core.specs.WellFormed.{IsInLane, IsWellFormed}
-use Rattle.sci_core.proofs.Step.Applied.{front_holds}
-use Rattle.sci_core.proofs.Settling.Drains.{Took, made_by, some_node, took_from}
-use Rattle.sci_core.proofs.Basics.Options.{of_some}
-use Rattle.sci_core.proofs.WellFormed.Parts.{SendsWell, part_asking}
-use Rattle.sci_core.proofs.Step.Places.{place_answers, place_from, place_requests, place_to}
-use Rattle.sci_core.proofs.Step.Sides.{steps_by_sides}
-use Rattle.sci_core.proofs.Step.Steps.{lane_below}
+use Rattle.sci_core.specs.{Size.{Size}, WellFormed.{IsInLane, IsWellFormed}}
+use Rattle.sci_core.proofs.Step.{Applied.{front_holds}, Places.{place_answers, place_from, place_requests, place_to}}
+use Rattle.sci_core.proofs.Step.{Sides.{steps_by_sides}, Steps.{lane_below}}
+use Rattle.sci_core.proofs.{Settling.Drains.{Took, made_by, some_node, took_from}, Basics.Options.{of_some}}
+use Rattle.sci_core.proofs.WellFormed.{Parts.{SendsWell, part_asking}, WellFormedSteps.{StepsWell, stepping_well}}
 use Rattle.sci_core.proofs.Tidy.TidyRuns.{node_below}
-use Rattle.sci_core.proofs.WellFormed.WellFormedSteps.{StepsWell, stepping_well}
+use Rattle.sci_core.proofs.Tidy.WaitingNodes.{Accepts, Answers as AnswersTo, AsksOnce, Stays, accept_accepts, ask_once, issue_stays, perform_stays}
+use Rattle.sci_core.proofs.Tidy.WaitingNodes.{refuse_answers, reply_replies, serve_answers}
 use Rattle.sci_lanes.proofs.Events.{by_option, takes_what}
 use Rattle.sci_turn.specs.Posts.{OthersLead}
 use Rattle.sci_turn.proofs.Working.{other_node}
-use Rattle.sci_words.specs.declared.event.AskKind.{AskKind}
-use Rattle.sci_words.specs.declared.operation.Op.{Op}
-use Rattle.sci_core.proofs.Tidy.WaitingNodes.{Accepts, Answers as AnswersTo, AsksOnce, Stays, accept_accepts, ask_once, issue_stays, perform_stays}
-use Rattle.sci_core.proofs.Tidy.WaitingNodes.{refuse_answers, reply_replies, serve_answers}
 use Rattle.sci_station.specs.Posts.{answers_to, owed}
+use Rattle.sci_words.specs.declared.event.Event.TheVariants as event
 
 -- ---- a node and a lane change
 

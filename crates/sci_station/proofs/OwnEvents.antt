@@ -1,13 +1,10 @@
 -- The events of one node in a schedule that goes on.
-use Rattle.std.proofs.Common.{◌≡◌, ℕ, Bool, List, [], ◌∷◌, ◌++◌, refl, ap, ◌∙◌, arith}
-use Rattle.std.specs.Prelude.{cond}
-use Rattle.std.proofs.lemmas.Bool.{ne_eqb}
+use Rattle.std.proofs.{Common.{◌≡◌, ℕ, Bool, List, [], ◌∷◌, ◌++◌, refl, ap, ◌∙◌, arith}, lemmas.Bool.{ne_eqb}}
 use Rattle.std.proofs.lemmas.List.{append-nil}
+use Rattle.std.specs.Prelude.{cond}
 use Rattle.sci_words.specs.declared.event.Event.{Event}
 use Rattle.sci_core.specs.Core.{node_of}
-use Rattle.sci_lanes.specs.declared.view.Part.{Part}
-use Rattle.sci_lanes.specs.Shown.{AreOfOthers, IsSeen, me_of}
-use Rattle.sci_lanes.specs.Telling.{IsMade}
+use Rattle.sci_lanes.specs.{declared.view.Part.{Part}, Shown.{AreOfOthers, IsSeen, me_of}, Telling.{IsMade}}
 use Rattle.sci_turn.specs.Moves.{own_of}
 use Rattle.sci_turn.proofs.Turns.{own_one, own_join}
 

@@ -1,33 +1,22 @@
 -- An end of the lanes as its node's post.
 use Rattle.std.proofs.Common.{◌≡◌, ℕ, List, [], ◌∷◌, ◌++◌, Option, Some, None, refl, sym, ap, subst, ◌∙◌, arith}
-use Rattle.std.specs.Prelude.{IsSome, unwrap_or}
 use Rattle.std.proofs.lemmas.List.{append-nil, append_assoc}
+use Rattle.std.specs.Prelude.{IsSome, unwrap_or}
 use Rattle.sci_words.specs.declared.event.Event.{Event}
-use Rattle.sci_cache.specs.Cache.{Letter}
+use Rattle.sci_cache.specs.Cache.{Letter, letter_of}
 use Rattle.sci_core.specs.WellFormed.{IsWellFormed}
-use Rattle.sci_core.specs.Core.{Core, Takes, lane_of, node_at, run, run_from, side, step, stepping}
-use Rattle.sci_core.specs.Node.{NodeOf}
-use Rattle.sci_core.specs.Size.{Size}
-use Rattle.sci_lanes.specs.declared.view.Part.{Part}
+use Rattle.sci_core.specs.{Core.{Core, Takes, lane_of, node_at, run, run_from, side, step, stepping}, Node.{NodeOf}}
+use Rattle.sci_core.specs.{Size.{Size}, declared.lane.LaneKind.{LaneKind}}
+use Rattle.sci_lanes.specs.declared.{view.Part.{Part}, cell.CellId.{CellId}}
 use Rattle.sci_lanes.specs.Shown.{AreEnabled, AreOfOthers, IsSeen, me_of}
-use Rattle.sci_lanes.specs.Telling.{IsMade as WasMade, IsSameNode, IsShown, size_in, state_of}
-use Rattle.sci_lanes.specs.Ends.{EndOf}
-use Rattle.sci_lanes.proofs.Events.{run_further, taken_lane}
+use Rattle.sci_lanes.specs.Telling.{IsMade as WasMade, IsSameNode, IsShown, size_in, state_of, IsTaken as WasTaken, lane_taken}
+use Rattle.sci_lanes.specs.Ends.{EndOf, MayFree, lane_at_cell, nodes_in}
+use Rattle.sci_lanes.proofs.{Events.{run_further, taken_lane}, Calls.{one_spelled}, Seats.{shown_nodes}}
 use Rattle.sci_core.proofs.WellFormed.WellFormedSteps.{reached_well, run_well}
-use Rattle.sci_turn.specs.Posts.{IsMade, IsPost, IsStill, OthersLead, PostOf, node_in}
-use Rattle.sci_turn.specs.Posts.{IsFront, IsTaken, MayTakeFront}
-use Rattle.sci_lanes.specs.Telling.{IsTaken as WasTaken, lane_taken}
-use Rattle.sci_lanes.proofs.Calls.{one_spelled}
+use Rattle.sci_turn.specs.Posts.{IsMade, IsPost, IsStill, OthersLead, PostOf, node_in, IsFront, IsTaken, MayTakeFront}
 use Rattle.sci_turn.proofs.Working.{other_stays}
-use Rattle.sci_core.specs.declared.lane.LaneKind.{LaneKind}
-use Rattle.sci_cache.specs.Cache.{letter_of}
 use Rattle.sci_packets.specs.declared.packet.Packet.{Packet}
-use Rattle.sci_lanes.specs.declared.cell.CellId.{CellId}
-use Rattle.sci_lanes.specs.Ends.{MayFree, lane_at_cell, nodes_in}
-use Rattle.sci_lanes.proofs.Seats.{shown_nodes}
-use Rattle.sci_station.specs.Ends.{HasRead}
-use Rattle.sci_station.specs.Posts.{StationPostOf, post_of}
-use Rattle.sci_station.specs.Station.{StationOf}
+use Rattle.sci_station.specs.{Ends.{HasRead}, Posts.{StationPostOf, post_of}, Station.{StationOf}}
 use Rattle.sci_station.proofs.Events.{front_read}
 
 some_step : (core : Core) (o : Option Core) → IsSome o → o ≡ Some (unwrap_or o core)

@@ -1,42 +1,29 @@
 -- What a station remembers stays so.
-use Rattle.std.proofs.Common.{◌≡◌, ◌≢◌, ◌<◌, ◌≤◌, ◌+◌, ◌/◌, ◌%◌, ◌⊎◌, ℕ, Bool, true, false, List, [], ◌∷◌, length, get_or, mul_assoc, set, Option, Some, None}
-use Rattle.std.proofs.Common.{refl, sym, ap, subst, ◌∙◌, arith, inl, inr}
-use Rattle.std.specs.Prelude.{IfSome, slice_index}
+use Rattle.std.proofs.Common.{◌≡◌, ◌≢◌, ◌<◌, ◌≤◌, ◌+◌, ◌/◌, ◌%◌, ◌⊎◌, ℕ, Bool, true, false, List, [], ◌∷◌, length, get_or, mul_assoc, set, Option, Some}
+use Rattle.std.proofs.Common.{None, refl, sym, ap, subst, ◌∙◌, arith, inl, inr}
 use Rattle.std.proofs.lemmas.Bool.{cases_eq, cases_lt, ne_eqb}
 use Rattle.std.proofs.lemmas.List.{get_or-set_other, get_or-set_same, get_or_past, set_past}
-use Rattle.sci_words.specs.declared.event.Event.{Event}
-use Rattle.sci_words.specs.declared.event.Event.TheVariants as event
-use Rattle.sci_words.specs.declared.operation.Op.{Op}
+use Rattle.std.specs.Prelude.{IfSome, slice_index}
+use Rattle.sci_words.specs.declared.{event.Event.{Event}, operation.Op.{Op}}
 use Rattle.sci_history.specs.declared.entry.Entry.{Entry}
 use Rattle.sci_cache.specs.Cache.{Letter}
-use Rattle.sci_packets.specs.declared.packet.Packet.{Packet}
-use Rattle.sci_packets.specs.Spelling.{SpellsInWords}
-use Rattle.sci_core.specs.declared.lane.LaneKind.{LaneKind}
-use Rattle.sci_core.specs.declared.lane.LaneKind.TheVariants.{Answers, Requests}
+use Rattle.sci_packets.specs.{declared.packet.Packet.{Packet}, Spelling.{SpellsInWords}}
+use Rattle.sci_core.specs.declared.lane.LaneKind.{LaneKind, TheVariants.{Answers, Requests}}
 use Rattle.sci_core.specs.Core.{Changes, Core, Sends, Takes, changes, lane_at, lane_of, lane_place, node_at, node_of, performs, side, stepping}
-use Rattle.sci_core.specs.Draining.{one_if}
-use Rattle.sci_core.specs.Node.{NodeOf}
-use Rattle.sci_core.specs.Size.{Size}
-use Rattle.sci_core.specs.Reached.{IsReached}
+use Rattle.sci_core.specs.{Draining.{one_if}, Node.{NodeOf}, Size.{Size}, Reached.{IsReached}}
 use Rattle.sci_core.specs.WellFormed.{IsWellFormed}
 use Rattle.sci_core.proofs.Step.Places.{place_answers, place_below, place_from, place_requests}
 use Rattle.sci_core.proofs.WellFormed.WellFormedSteps.{reached_stepping, reached_well}
-use Rattle.sci_lanes.specs.declared.cell.CellId.{CellId}
-use Rattle.sci_lanes.specs.declared.view.Inbound.{Inbound}
-use Rattle.sci_lanes.specs.declared.view.Part.{Part}
-use Rattle.sci_lanes.specs.Cells.{lane_count}
-use Rattle.sci_lanes.specs.Ends.{EndOf, HasIssued, HasPerformed, lane_at_cell, nodes_in}
-use Rattle.sci_lanes.proofs.Seats.{me_below, shown_nodes}
-use Rattle.sci_lanes.proofs.Opening.{lane_opened, node_opened}
-use Rattle.sci_lanes.specs.Shown.{inbound_at, me_of}
+use Rattle.sci_lanes.specs.{declared.{cell.CellId.{CellId}, view.{Inbound.{Inbound}, Part.{Part}}}, Cells.{lane_count}}
+use Rattle.sci_lanes.specs.{Ends.{EndOf, HasIssued, HasPerformed, lane_at_cell, nodes_in}, Shown.{inbound_at, me_of}}
 use Rattle.sci_lanes.specs.Telling.{IsSameNode, IsShown, state_of}
+use Rattle.sci_lanes.proofs.{Seats.{me_below, shown_nodes}, Opening.{lane_opened, node_opened}}
 use Rattle.sci_turn.specs.Posts.{IsMade, IsPost, IsStill as IsStillPost, OthersLead, PostOf, nodes_in as nodes_at}
-use Rattle.sci_station.specs.declared.receiving.Seen.{Seen}
-use Rattle.sci_station.specs.Ends.{HasRead, HasSeen, IsStill, LeavesOthers}
+use Rattle.sci_station.specs.{declared.receiving.Seen.{Seen}, Ends.{HasRead, HasSeen, IsStill, LeavesOthers}}
 use Rattle.sci_station.specs.Posts.{IsRead, KeptOf, Remembers, answers_to, is_kept, owed, packet_in, post_of}
 use Rattle.sci_station.proofs.Owing.{adds_one, changed_owes, others_owe, sent_owes, taken_owes, takes_one}
-use Rattle.sci_station.proofs.Posts.{is_post, made_post, node_there, post_nodes, still_post}
-use Rattle.sci_station.proofs.Stills.{same_of_still}
+use Rattle.sci_station.proofs.{Posts.{is_post, made_post, node_there, post_nodes, still_post}, Stills.{same_of_still}}
+use Rattle.sci_words.specs.declared.event.Event.TheVariants as event
 
 -- ---- sizes
 

@@ -1,10 +1,8 @@
 -- Words that are those of a packet.
 use Rattle.std.proofs.Common.{◌≡◌, ℕ, ◌+◌, ◌<◌, ◌≤◌, List, [], ◌∷◌, ◌++◌, length, get_or, set, take, drop, refl, sym, ap, subst, ◌∙◌, arith, inl, inr}
+use Rattle.std.proofs.{Math.Seq.{take-append_seam}, lemmas.List.{ext_get_or, take_more_set, take-take}}
 use Rattle.std.specs.Prelude.{Result, Ok, Err}
-use Rattle.std.proofs.Math.Seq.{take-append_seam}
-use Rattle.std.proofs.lemmas.List.{ext_get_or, take_more_set, take-take}
-use Rattle.sci_packets.specs.declared.fault.PacketFault.{PacketFault}
-use Rattle.sci_packets.specs.declared.packet.Packet.{Packet}
+use Rattle.sci_packets.specs.declared.{fault.PacketFault.{PacketFault}, packet.Packet.{Packet}}
 use Rattle.sci_packets.specs.Spelling.{CountsWords, SpellsInWords, words_of}
 use Rattle.sci_packets.proofs.WordLaws.{count_of}
 use Rattle.sci_cache.specs.Cache.{Letter}

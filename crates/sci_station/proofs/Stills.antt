@@ -1,17 +1,14 @@
 -- Ends that have made no event.
 use Rattle.std.proofs.Common.{◌≡◌, List, get_or, set, ℕ, Bool, true, false, refl, sym, ap, subst, ◌∙◌, arith}
+use Rattle.std.proofs.lemmas.List.{append_assoc, get_or-set_other}
 use Rattle.std.specs.Prelude.{if◌then◌else◌}
 use Rattle.sci_core.proofs.Basics.Lists.{at_place_set}
-use Rattle.sci_lanes.specs.declared.cell.CellId.{CellId}
-use Rattle.sci_lanes.specs.declared.view.Inbound.{Inbound}
-use Rattle.sci_lanes.specs.declared.view.Outbound.{Outbound}
-use Rattle.sci_lanes.specs.declared.view.Part.{Part}
-use Rattle.std.proofs.lemmas.List.{append_assoc, get_or-set_other}
-use Rattle.sci_words.specs.declared.event.Event.{Event}
+use Rattle.sci_lanes.specs.declared.{cell.CellId.{CellId}, view.{Inbound.{Inbound}, Outbound.{Outbound}, Part.{Part}}}
 use Rattle.sci_lanes.specs.Shown.{inbound_at, me_of, no_inbound, no_outbound, outbound_at, IsSeen}
 use Rattle.sci_lanes.specs.Knowing.{has_sent_more, filled_out, is_receiving, is_sending, looked_in, looked_out, read_in, with_lane_known}
 use Rattle.sci_lanes.specs.Ends.{EndOf, IsNextToSend, IsNextToTake, filled_at, informed_at, lane_at_cell, looked_at, read_at, with_part}
 use Rattle.sci_lanes.specs.Cells.{lane_number}
+use Rattle.sci_words.specs.declared.event.Event.{Event}
 use Rattle.sci_core.specs.Node.{NodeOf}
 use Rattle.sci_station.specs.Ends.{IsSameEnd, IsStill, LeavesOthers}
 use Rattle.sci_history.proofs.Order.{all-append}

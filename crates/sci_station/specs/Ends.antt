@@ -2,16 +2,10 @@
 use Rattle.std.specs.Prelude.{◌≡◌, ◌≢◌, ℕ, [], ◌∷◌}
 use Rattle.sci_cache.specs.Cache.{Letter}
 use Rattle.sci_words.specs.declared.event.Event.{Event}
-use Rattle.sci_core.specs.declared.lane.LaneKind.{LaneKind}
-use Rattle.sci_core.specs.Core.{Sends, side}
-use Rattle.sci_core.specs.Node.{NodeOf}
-use Rattle.sci_lanes.specs.Shown.{inbound_at, IsSeen, outbound_at}
-use Rattle.sci_lanes.specs.Telling.{IsSameNode, IsShown}
-use Rattle.sci_lanes.specs.declared.cell.CellId.{CellId}
-use Rattle.sci_lanes.specs.declared.view.Part.{Part}
-use Rattle.sci_lanes.specs.Ends.{EndOf, IsNextToTake, lane_at_cell}
-use Rattle.sci_packets.specs.Spelling.{SpellsInWords}
-use Rattle.sci_packets.specs.declared.packet.Packet.{Packet}
+use Rattle.sci_core.specs.{declared.lane.LaneKind.{LaneKind}, Core.{Sends, side}, Node.{NodeOf}}
+use Rattle.sci_lanes.specs.{Shown.{inbound_at, IsSeen, outbound_at}, Telling.{IsSameNode, IsShown}}
+use Rattle.sci_lanes.specs.{declared.{cell.CellId.{CellId}, view.Part.{Part}}, Ends.{EndOf, IsNextToTake, lane_at_cell}}
+use Rattle.sci_packets.specs.{Spelling.{SpellsInWords}, declared.packet.Packet.{Packet}}
 use Rattle.sci_station.specs.declared.receiving.Seen.{Seen}
 
 -- an end of the same table, of the same node in a machine of the same size

@@ -1,7 +1,6 @@
 -- What one log says by itself.
 use Rattle.std.specs.Prelude.{◌≤◌, ◌<◌, IsTrue, ℕ, List, filter, AllPairs}
-use Rattle.sci_history.specs.declared.entry.Entry.{Entry}
-use Rattle.sci_history.specs.Placed.{is_making, is_on_line}
+use Rattle.sci_history.specs.{declared.entry.Entry.{Entry}, Placed.{is_making, is_on_line}}
 
 -- a later entry on a line: its serial is above, its version not below, and above if it is of a maker
 pub record ComesLater (x y : Entry) : Type 0 where

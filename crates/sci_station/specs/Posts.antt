@@ -1,14 +1,10 @@
 -- A station's end of the lanes as its node's post, and what the node remembers of them.
 use Rattle.std.specs.Prelude.{◌≡◌, ◌≢◌, ◌<◌, ◌≤◌, ◌+◌, ◌==◌, ℕ, Bool, true, false, List, length, slice_index, slice_index_or, Option, None, Some}
 use Rattle.sci_packets.specs.declared.packet.Packet.{Packet}
-use Rattle.sci_core.specs.declared.lane.LaneKind.{LaneKind}
-use Rattle.sci_core.specs.declared.lane.LaneKind.TheVariants.{Answers, Requests}
-use Rattle.sci_core.specs.Core.{Core, lane_of, node_at}
-use Rattle.sci_core.specs.Draining.{one_if}
+use Rattle.sci_core.specs.declared.lane.LaneKind.{LaneKind, TheVariants.{Answers, Requests}}
+use Rattle.sci_core.specs.{Core.{Core, lane_of, node_at}, Draining.{one_if}}
 use Rattle.sci_cache.specs.Cache.{Letter}
-use Rattle.sci_lanes.specs.declared.cell.CellId.{CellId}
-use Rattle.sci_lanes.specs.Ends.{EndOf, nodes_in}
-use Rattle.sci_lanes.specs.Shown.{me_of}
+use Rattle.sci_lanes.specs.{declared.cell.CellId.{CellId}, Ends.{EndOf, nodes_in}, Shown.{me_of}}
 use Rattle.sci_lanes.specs.Telling.{IsShown, state_of}
 use Rattle.sci_turn.specs.Posts.{PostOf}
 use Rattle.sci_station.specs.Ends.{HasRead}

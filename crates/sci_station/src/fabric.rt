@@ -31,14 +31,11 @@ pub struct Finished {
 
 impl Fabric {
     ghost use Rattle.std.specs.Prelude.{◌≡◌, ◌≤◌, IfErr, IfOk, length, map};
-    ghost use Rattle.sci_history.specs.Audit.{AreWithin};
-    ghost use Rattle.sci_history.specs.Lawful.{Lawful};
-    ghost use Rattle.sci_history.specs.Sequential.{IsSequentiallyConsistent};
+    ghost use Rattle.sci_history.specs.{Audit.{AreWithin}, Lawful.{Lawful}, Sequential.{IsSequentiallyConsistent}};
     ghost use Rattle.sci_lanes.specs.declared.gather.FinishFault.TheVariants.{Memory, Missing};
-    ghost use Rattle.sci_lanes.specs.Gathering.{AreAll, AreGathered, AreOf, HaveLogs, IsStateOf};
+    ghost use Rattle.sci_lanes.specs.{Gathering.{AreAll, AreGathered, AreOf, HaveLogs, IsStateOf}, Ends.{opening_ends}};
     ghost use Rattle.sci_words.specs.declared.limits.TheConstants.{MAX_OPERATIONS};
     ghost use Rattle.sci_core.specs.Size.{size_of};
-    ghost use Rattle.sci_lanes.specs.Ends.{opening_ends};
     ghost use Rattle.sci_station.specs.Station.{end_in, opening_station};
 
     /// The lanes of a machine of this size, and its stations, numbered from 0. Each may submit `limit` operations;

@@ -25,8 +25,7 @@ impl Model for Kept {
 
 impl Kept {
     ghost use Rattle.std.specs.Prelude.{◌≡◌, ◌<◌, ℕ, false, Some, option_copied, slice_set};
-    ghost use Rattle.sci_core.specs.declared.lane.LaneKind.{LaneKind};
-    ghost use Rattle.sci_core.specs.declared.lane.LaneKind.TheVariants.{Requests};
+    ghost use Rattle.sci_core.specs.declared.lane.LaneKind.{LaneKind, TheVariants.{Requests}};
     ghost use Rattle.sci_station.specs.Posts.{is_kept, packet_in};
     ghost use Rattle.sci_words.specs.declared.limits.TheConstants.{MAX_NODES};
 

@@ -3,9 +3,7 @@
 ghost use Rattle.std.specs.Prelude.{◌≡◌, ◌++◌, ◌∷◌, [], List};
 ghost use Rattle.sci_words.specs.declared.event.Event.{Event};
 ghost use Rattle.sci_core.specs.Core.{node_of};
-ghost use Rattle.sci_lanes.specs.declared.view.Part.{Part};
-ghost use Rattle.sci_lanes.specs.Shown.{IsSeen, me_of};
-ghost use Rattle.sci_lanes.specs.Telling.{IsMade};
+ghost use Rattle.sci_lanes.specs.{declared.view.Part.{Part}, Shown.{IsSeen, me_of}, Telling.{IsMade}};
 ghost use Rattle.sci_turn.specs.Moves.{own_of};
 
 /// A schedule of which an end knows a beginning has no other events of the end's node than those that it knows.

@@ -53,12 +53,9 @@ impl HasEnd for StationPost {
 
 impl StationPost {
     ghost use Rattle.std.specs.Prelude.{◌≡◌, ◌≢◌, [], false, None, IfSome, IsErr, IsOk};
-    ghost use Rattle.sci_station.specs.Budgets.{HasNoMore};
-    ghost use Rattle.sci_station.specs.Ends.{HasSeen, IsStill};
+    ghost use Rattle.sci_station.specs.{Budgets.{HasNoMore}, Ends.{HasSeen, IsStill}, Posts.{IsRead, is_kept}};
     ghost use Rattle.sci_core.specs.Node.{node_issuing, node_performing};
-    ghost use Rattle.sci_lanes.specs.Ends.{HasIssued, HasPerformed};
-    ghost use Rattle.sci_lanes.specs.Telling.{IsSameNode, IsShown};
-    ghost use Rattle.sci_station.specs.Posts.{IsRead, is_kept};
+    ghost use Rattle.sci_lanes.specs.{Ends.{HasIssued, HasPerformed}, Telling.{IsSameNode, IsShown}};
 
     /// The post at an end in whose machine nothing was done yet.
     pub(crate) fn new(end: LaneEnd) -> StationPost
@@ -154,9 +151,7 @@ impl StationPost {
 
 impl Post for StationPost {
     ghost use Rattle.std.specs.Prelude.{◌≢◌, None};
-    ghost use Rattle.sci_station.specs.Budgets.{HasNoMore};
-    ghost use Rattle.sci_station.specs.Ends.{IsSameEnd};
-    ghost use Rattle.sci_station.specs.Posts.{IsRead, post_of};
+    ghost use Rattle.sci_station.specs.{Budgets.{HasNoMore}, Ends.{IsSameEnd}, Posts.{IsRead, post_of}};
     ghost use Rattle.std.proofs.Common.{arith, refl, ◌∙◌};
 
     type Stop = Spent;

@@ -2,11 +2,9 @@
 
 ghost use Rattle.std.specs.Prelude.{◌≡◌, ◌≢◌, ◌<◌, ◌≤◌, ℕ, [], ◌∷◌, length, take, None, IfOk, IfSome, IsErr, IsOk};
 ghost use Rattle.sci_core.specs.Core.{lane_of, lane_place};
-ghost use Rattle.sci_lanes.specs.Shown.{inbound_at, me_of};
-ghost use Rattle.sci_lanes.specs.Telling.{IsShown, state_of};
+ghost use Rattle.sci_lanes.specs.{Shown.{inbound_at, me_of}, Telling.{IsShown, state_of}};
 ghost use Rattle.sci_lanes.specs.Ends.{IsNextToTake, lane_at_cell, nodes_in};
-ghost use Rattle.sci_station.specs.Budgets.{HasNoMore};
-ghost use Rattle.sci_station.specs.Ends.{HasRead, HasSeen, IsStill, LeavesOthers};
+ghost use Rattle.sci_station.specs.{Budgets.{HasNoMore}, Ends.{HasRead, HasSeen, IsStill, LeavesOthers}};
 
 use crate::budget::{Budget, Spent};
 use crate::sending::PACKET_WORDS;

@@ -5,11 +5,9 @@ ghost use Rattle.sci_cache.specs.Cache.{letter_of};
 ghost use Rattle.sci_core.specs.Core.{Sends, lane_of, lane_place, node_of, side};
 ghost use Rattle.sci_core.specs.declared.lane.LaneKind.TheVariants.{Requests};
 ghost use Rattle.sci_words.specs.declared.limits.TheConstants.{LANE_CELLS};
-ghost use Rattle.sci_lanes.specs.Shown.{me_of, outbound_at};
-ghost use Rattle.sci_lanes.specs.Telling.{IsMade, SomeLineWaits, state_of};
+ghost use Rattle.sci_lanes.specs.{Shown.{me_of, outbound_at}, Telling.{IsMade, SomeLineWaits, state_of}};
 ghost use Rattle.sci_lanes.specs.Ends.{IsNextToSend, lane_at_cell, nodes_in};
-ghost use Rattle.sci_station.specs.Budgets.{HasNoMore};
-ghost use Rattle.sci_station.specs.Ends.{IsSameEnd, IsSentBy, IsStill, LeavesOthers};
+ghost use Rattle.sci_station.specs.{Budgets.{HasNoMore}, Ends.{IsSameEnd, IsSentBy, IsStill, LeavesOthers}};
 
 use crate::budget::{Budget, Spent};
 use sci_core::LaneKind;

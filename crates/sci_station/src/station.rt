@@ -38,21 +38,13 @@ impl HasEnd for Station {
 
 impl Station {
     ghost use Rattle.std.specs.Prelude.{◌≡◌, ◌<◌, ◌≤◌, [], true, Some, None, IfErr, IfOk, IfSome, IsErr, IsOk};
-    ghost use Rattle.sci_core.specs.Node.{node_issuing, node_performing};
-    ghost use Rattle.sci_core.specs.Work.{IsIssued, IsLogged};
-    ghost use Rattle.sci_policy.specs.Rest.{MayIdle};
-    ghost use Rattle.sci_policy.specs.Turn.{MayPerform, is_idle, submit_fault};
-    ghost use Rattle.sci_policy.specs.Worker.{HasSameWork, IsNodeTurn};
+    ghost use Rattle.sci_core.specs.{Node.{node_issuing, node_performing}, Work.{IsIssued, IsLogged}};
+    ghost use Rattle.sci_policy.specs.{Rest.{MayIdle}, Turn.{MayPerform, is_idle, submit_fault}};
+    ghost use Rattle.sci_policy.specs.{Worker.{HasSameWork, IsNodeTurn}, Policy.{turned}};
     ghost use Rattle.sci_words.specs.declared.event.Event.TheVariants.{Issue, Perform};
-    ghost use Rattle.sci_lanes.specs.Shown.{me_of};
-    ghost use Rattle.sci_lanes.specs.Telling.{IsMade};
-    ghost use Rattle.sci_policy.specs.Policy.{turned};
-    ghost use Rattle.sci_turn.specs.Far.{HasAskedAll};
-    ghost use Rattle.sci_turn.specs.Idle.{IsIdleTurn};
-    ghost use Rattle.sci_turn.specs.Moves.{IsTurn};
-    ghost use Rattle.sci_station.specs.Ends.{IsSameEnd};
-    ghost use Rattle.sci_station.specs.Posts.{post_of};
-    ghost use Rattle.sci_station.specs.OneLog.{IsOneLog};
+    ghost use Rattle.sci_lanes.specs.{Shown.{me_of}, Telling.{IsMade}};
+    ghost use Rattle.sci_turn.specs.{Far.{HasAskedAll}, Idle.{IsIdleTurn}, Moves.{IsTurn}};
+    ghost use Rattle.sci_station.specs.{Ends.{IsSameEnd}, Posts.{post_of}, OneLog.{IsOneLog}};
     ghost use Rattle.sci_station.specs.Station.{beaten_to, node_in, opening_station, schedule_in};
 
     /// The station of an end in whose machine nothing was done yet.

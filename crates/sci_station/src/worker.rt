@@ -7,8 +7,7 @@ use sci_words::Op;
 use std::alloc::AllocError;
 
 impl Worker for Station {
-    ghost use Rattle.sci_station.specs.Ends.{IsSameEnd};
-    ghost use Rattle.sci_station.specs.Station.{node_in};
+    ghost use Rattle.sci_station.specs.{Ends.{IsSameEnd}, Station.{node_in}};
     ghost use Rattle.std.proofs.Common.{rules};
 
     ghost node = { node_in };

@@ -1,7 +1,6 @@
 -- A refusal of a line or a node that the machine doesn't have is told of the whole input.
 use Rattle.std.proofs.Common.{ℕ, List, Bool, Option, inl, inr, arith}
-use Rattle.sci_statistics.specs.declared.counting.StatsRequest.{StatsRequest}
-use Rattle.sci_statistics.specs.StatsAnswer.{IsStatsFault}
+use Rattle.sci_statistics.specs.{declared.counting.StatsRequest.{StatsRequest}, StatsAnswer.{IsStatsFault}}
 use Rattle.sci_command.proofs.Refusals.{AllowsMemory, asked_memory}
 
 pub stats_memory : (request : StatsRequest) (known : Option (List ℕ)) (failed : Bool) → AllowsMemory (λ kind line. IsStatsFault request kind known failed line)

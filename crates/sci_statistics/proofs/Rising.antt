@@ -1,12 +1,10 @@
 -- Levels behind one event after another.
 use mir.Val.{bool_byte}
 use Rattle.std.proofs.Common.{◌≡◌, ◌<◌, ◌≤◌, ℕ, ◌+◌, ◌-◌, ◌*◌, List, [], ◌∷◌, Bool, true, false, length, map, max, take, get_or, arith, sym, ap, ◌∙◌}
-use Rattle.std.specs.Prelude.{cond, count_by, sum}
-use Rattle.std.specs.List.{fold, range_with_len}
 use Rattle.std.proofs.lemmas.List.FromFn.{map-range_with_len_more, sum_by-map-range_with_len_more}
 use Rattle.std.proofs.lemmas.List.Sums.{fold-append, sum_by_more}
-use Rattle.sci_statistics.specs.declared.levels.Level.{Level}
-use Rattle.sci_statistics.specs.declared.passage.Passage.{Passage}
+use Rattle.std.specs.{Prelude.{cond, count_by, sum}, List.{fold, range_with_len}}
+use Rattle.sci_statistics.specs.declared.{levels.Level.{Level}, passage.Passage.{Passage}}
 use Rattle.sci_statistics.specs.Levels.{begins, ends, level_at}
 
 -- what has begun and ended in the first i events, and the levels behind them

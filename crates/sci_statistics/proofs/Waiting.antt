@@ -1,15 +1,10 @@
 -- The wait of one operation after another.
 use Rattle.std.proofs.Common.{◌≡◌, ◌<◌, ℕ, ◌+◌, ◌-◌, ◌==◌, List, [], ◌∷◌, ◌++◌, Bool, true, false, Option, Some, None, length, take, get_or, set, reverse}
 use Rattle.std.proofs.Common.{arith, sym, ap, ◌∙◌, refl, get_or-set_same, get_or-set_other, length-set}
-use Rattle.std.proofs.lemmas.Bool.{eqb-true, eqb-false}
-use Rattle.std.specs.Prelude.{not, option_map, cond}
-use Rattle.std.specs.List.{filter_map, prefix_len, range_with_len, cons_option}
-use Rattle.std.proofs.lemmas.List.{append-nil, take_more, reverse-append}
-use Rattle.std.proofs.lemmas.List.Elements.{filter_map-append}
-use Rattle.std.proofs.lemmas.Option.{slice_get-get_or}
-use Rattle.sci_statistics.specs.declared.kind.Access.{Access}
-use Rattle.sci_statistics.specs.declared.passage.Passage.{Passage}
-use Rattle.sci_statistics.specs.declared.waits.Wait.{Wait}
+use Rattle.std.proofs.lemmas.{Bool.{eqb-true, eqb-false}, List.{append-nil, take_more, reverse-append}}
+use Rattle.std.proofs.lemmas.{List.Elements.{filter_map-append}, Option.{slice_get-get_or}}
+use Rattle.std.specs.{Prelude.{not, option_map, cond}, List.{filter_map, prefix_len, range_with_len, cons_option}}
+use Rattle.sci_statistics.specs.declared.{kind.Access.{Access}, passage.Passage.{Passage}, waits.Wait.{Wait}}
 use Rattle.sci_statistics.specs.Measures.{is_line}
 use Rattle.sci_statistics.specs.Waits.{issued_line, performed_at, since_issue, wait_at, wait_behind}
 use Rattle.sci_statistics.proofs.Parts.{range_more}

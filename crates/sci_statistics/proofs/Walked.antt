@@ -2,8 +2,7 @@
 use Rattle.std.proofs.Common.{◌≡◌, Option, Some, None, sym, ap}
 use Rattle.sci_words.specs.declared.event.Event.{Event}
 use Rattle.sci_history.specs.declared.entry.Entry.{Entry}
-use Rattle.sci_core.specs.Core.{Core, stepping}
-use Rattle.sci_core.specs.Done.{made_by, performed}
+use Rattle.sci_core.specs.{Core.{Core, stepping}, Done.{made_by, performed}}
 
 -- an event that isn't enabled makes no entry
 pub nobody_made : (core : Core) (e : Event) → stepping core e ≡ None → None ≡ made_by core e

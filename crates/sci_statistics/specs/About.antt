@@ -1,11 +1,10 @@
 -- Which packet an event sends or takes, and which line it is about.
 use Rattle.std.specs.Prelude.{ℕ, nat_lt, ◌&&◌, Option, Some, None, if◌then◌else◌, slice_get}
 use Rattle.sci_words.specs.declared.event.Event.{Event}
-use Rattle.sci_words.specs.declared.event.Event.TheVariants as event
 use Rattle.sci_cache.specs.Cache.{Letter}
-use Rattle.sci_core.specs.declared.lane.LaneKind.{LaneKind}
-use Rattle.sci_core.specs.declared.lane.LaneKind.TheVariants.{Requests, Answers}
+use Rattle.sci_core.specs.declared.lane.LaneKind.{LaneKind, TheVariants.{Requests, Answers}}
 use Rattle.sci_core.specs.Core.{Core, Side, Idle, Changes, Sends, Takes, side, node_at, node_of, lane_of}
+use Rattle.sci_words.specs.declared.event.Event.TheVariants as event
 
 -- the packet that a node's side of an event sends, if it sends one
 abbrev pub sent_in : Side → Option Letter

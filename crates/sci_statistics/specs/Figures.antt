@@ -1,16 +1,12 @@
 -- The figures of a schedule: each is a count of passages that meet a test, or a sum over passages.
 use Rattle.std.specs.Prelude.{ℕ, ◌-◌, true, false, not, List, filter, count_by, length}
 use Rattle.sci_packets.specs.declared.command.Command.TheVariants.{Cread, Claim, Clear, Purge, Roll, Wback, Cdata, Purged, Rolled, Wbok}
-use Rattle.sci_statistics.specs.declared.kind.Access.TheVariants.{Load, Maker}
-use Rattle.sci_statistics.specs.declared.kind.EventKind.{EventKind}
+use Rattle.sci_statistics.specs.declared.kind.{Access.TheVariants.{Load, Maker}, EventKind.{EventKind}}
 use Rattle.sci_statistics.specs.declared.kind.EventKind.TheVariants.{Issue, Perform, Ask, Serve, Refuse, Reply, Accept}
-use Rattle.sci_statistics.specs.declared.levels.Level.TheVariants.{Members}
-use Rattle.sci_statistics.specs.declared.passage.Passage.{Passage}
-use Rattle.sci_statistics.specs.declared.event_figures.Tally.{Tally}
-use Rattle.sci_statistics.specs.declared.event_figures.EventFigures.{EventFigures}
+use Rattle.sci_statistics.specs.declared.{levels.Level.TheVariants.{Members}, passage.Passage.{Passage}}
+use Rattle.sci_statistics.specs.declared.event_figures.{Tally.{Tally}, EventFigures.{EventFigures}}
 use Rattle.sci_statistics.specs.declared.line_figures.LineFigures.{LineFigures}
-use Rattle.sci_statistics.specs.declared.node_figures.NodeFigures.{NodeFigures}
-use Rattle.sci_statistics.specs.Levels.{level_figures}
+use Rattle.sci_statistics.specs.{declared.node_figures.NodeFigures.{NodeFigures}, Levels.{level_figures}}
 use Rattle.sci_statistics.specs.Measures.{comes, enters, has_made, has_sent, is_at, is_on, serves}
 
 -- ---- events

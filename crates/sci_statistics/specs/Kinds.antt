@@ -1,13 +1,9 @@
 -- The kinds of events and of operations.
 use Rattle.std.specs.Prelude.{ℕ, Bool, ◌==◌, if◌then◌else◌}
-use Rattle.sci_words.specs.declared.event.Event.{Event}
-use Rattle.sci_words.specs.declared.event.Event.TheVariants as event
-use Rattle.sci_words.specs.declared.operation.Op.{Op}
-use Rattle.sci_words.specs.Operation.{is_maker}
-use Rattle.sci_statistics.specs.declared.kind.Access.{Access}
-use Rattle.sci_statistics.specs.declared.kind.Access.TheVariants.{Load, Maker}
-use Rattle.sci_statistics.specs.declared.kind.EventKind.{EventKind}
+use Rattle.sci_words.specs.{declared.{event.Event.{Event}, operation.Op.{Op}}, Operation.{is_maker}}
+use Rattle.sci_statistics.specs.declared.kind.{Access.{Access, TheVariants.{Load, Maker}}, EventKind.{EventKind}}
 use Rattle.sci_statistics.specs.declared.kind.EventKind.TheVariants.{Issue, Perform, Ask, Serve, Refuse, Reply, Accept}
+use Rattle.sci_words.specs.declared.event.Event.TheVariants as event
 
 abbrev pub kind_of : Event → EventKind
 kind_of (event.Issue n op) = Issue

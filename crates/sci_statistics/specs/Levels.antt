@@ -2,10 +2,8 @@
 use Rattle.std.specs.Prelude.{ℕ, ◌-◌, Bool, ◌||◌, List, length, map, take, max, count_by, is_some, sum}
 use Rattle.std.specs.List.{fold, range_with_len}
 use Rattle.sci_packets.specs.declared.command.Command.TheVariants.{Purge, Roll, Wback, Clear, Purged, Rolled, Wbok}
-use Rattle.sci_statistics.specs.declared.levels.Level.{Level}
-use Rattle.sci_statistics.specs.declared.levels.Level.TheVariants.{Packets, Members}
-use Rattle.sci_statistics.specs.declared.levels.LevelFigures.{LevelFigures}
-use Rattle.sci_statistics.specs.declared.passage.Passage.{Passage}
+use Rattle.sci_statistics.specs.declared.levels.Level.{Level, TheVariants.{Packets, Members}}
+use Rattle.sci_statistics.specs.declared.{levels.LevelFigures.{LevelFigures}, passage.Passage.{Passage}}
 use Rattle.sci_statistics.specs.Measures.{enters, has_sent, serves}
 
 -- a packet is sent, or a cache enters the list

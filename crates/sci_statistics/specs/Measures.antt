@@ -1,13 +1,9 @@
 -- What a passage is, and what happened in it: the tests and the sizes that figures count and add up.
 use Rattle.std.specs.Prelude.{ℕ, ◌==◌, Bool, false, ◌&&◌, ◌||◌, not, Option, Some, None, is_some, if◌then◌else◌}
-use Rattle.sci_packets.specs.declared.command.Command.{Command}
-use Rattle.sci_packets.specs.declared.command.Command.TheVariants.{Mread, Fread}
+use Rattle.sci_packets.specs.declared.command.Command.{Command, TheVariants.{Mread, Fread}}
 use Rattle.sci_packets.specs.Table.{command_number, packet_bytes}
-use Rattle.sci_statistics.specs.declared.kind.Access.{Access}
-use Rattle.sci_statistics.specs.declared.kind.EventKind.{EventKind}
-use Rattle.sci_statistics.specs.declared.kind.EventKind.TheVariants.{Serve}
-use Rattle.sci_statistics.specs.declared.passage.Passage.{Passage}
-use Rattle.sci_statistics.specs.Kinds.{is_access, is_kind}
+use Rattle.sci_statistics.specs.declared.kind.{Access.{Access}, EventKind.{EventKind, TheVariants.{Serve}}}
+use Rattle.sci_statistics.specs.{declared.passage.Passage.{Passage}, Kinds.{is_access, is_kind}}
 
 -- ---- the event
 

@@ -1,19 +1,12 @@
 -- What came of each event of a schedule.
 use Rattle.std.specs.Prelude.{ℕ, nat_lt, List, [], ◌∷◌, Option, Some, None, if◌then◌else◌, is_some}
-use Rattle.sci_words.specs.declared.event.Event.{Event}
-use Rattle.sci_words.specs.declared.extent.Extent.{Extent}
-use Rattle.sci_words.specs.declared.limits.TheConstants.{MAX_OPERATIONS}
-use Rattle.sci_packets.specs.declared.command.Command.{Command}
-use Rattle.sci_packets.specs.Table.{command_of}
+use Rattle.sci_words.specs.declared.{event.Event.{Event}, extent.Extent.{Extent}, limits.TheConstants.{MAX_OPERATIONS}}
+use Rattle.sci_packets.specs.{declared.command.Command.{Command}, Table.{command_of}}
 use Rattle.sci_history.specs.declared.entry.Entry.{Entry}
 use Rattle.sci_cache.specs.Cache.{Letter}
-use Rattle.sci_core.specs.Core.{Core, node_at, node_of, opening, step, stepping}
-use Rattle.sci_core.specs.Done.{made_by}
-use Rattle.sci_core.specs.Size.{size_of}
-use Rattle.sci_statistics.specs.declared.kind.Access.{Access}
-use Rattle.sci_statistics.specs.declared.passage.Passage.{Passage}
-use Rattle.sci_statistics.specs.About.{letter_sent, letter_taken, line_about}
-use Rattle.sci_statistics.specs.Kinds.{access_of, kind_of}
+use Rattle.sci_core.specs.{Core.{Core, node_at, node_of, opening, step, stepping}, Done.{made_by}, Size.{size_of}}
+use Rattle.sci_statistics.specs.declared.{kind.Access.{Access}, passage.Passage.{Passage}}
+use Rattle.sci_statistics.specs.{About.{letter_sent, letter_taken, line_about}, Kinds.{access_of, kind_of}}
 
 -- what an operation does that was performed, if one was
 abbrev pub access_in : Option Entry → Option Access

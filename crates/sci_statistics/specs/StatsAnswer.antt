@@ -2,31 +2,19 @@
 use denote.Ref.{Bor}
 use Rattle.std.specs.Prelude.{◌≡◌, ◌<◌, ◌⊎◌, ℕ, ◌+◌, ◌*◌, ◌/◌, ◌%◌, Bool, List, [], ◌∷◌, ◌++◌, codes, count_by, map, Option, Some, None}
 use Rattle.std.specs.List.{flat_map, range_with_len, sum_by}
-use Rattle.sci_packets.specs.declared.command.Command.{Command}
-use Rattle.sci_packets.specs.declared.command.TheConstants.Command.{ALL}
-use Rattle.sci_packets.specs.Table.{command_name}
-use Rattle.sci_statistics.specs.declared.event_figures.EventFigures.{EventFigures}
-use Rattle.sci_statistics.specs.declared.levels.Level.TheVariants.{Packets}
+use Rattle.sci_packets.specs.{declared.command.{Command.{Command}, TheConstants.Command.{ALL}}, Table.{command_name}}
+use Rattle.sci_statistics.specs.declared.{event_figures.EventFigures.{EventFigures}, levels.Level.TheVariants.{Packets}}
 use Rattle.sci_statistics.specs.declared.line_figures.LineFigures.{LineFigures}
-use Rattle.sci_statistics.specs.declared.node_figures.NodeFigures.{NodeFigures}
-use Rattle.sci_statistics.specs.declared.passage.Passage.{Passage}
-use Rattle.sci_statistics.specs.declared.waits.NodeWaits.{NodeWaits}
-use Rattle.sci_statistics.specs.declared.waits.WaitFigures.{WaitFigures}
-use Rattle.sci_statistics.specs.Figures.{at_node, event_figures, line_figures, node_figures, on_line}
-use Rattle.sci_statistics.specs.Levels.{level_figures}
-use Rattle.sci_statistics.specs.Measures.{has_sent, sends, sent_bytes}
-use Rattle.sci_statistics.specs.Passages.{passages}
-use Rattle.sci_statistics.specs.Waits.{node_waits}
-use Rattle.sci_text.specs.declared.fault.TextFaultKind.{TextFaultKind}
-use Rattle.sci_text.specs.declared.fault.TextFaultKind.TheVariants.{Range}
-use Rattle.sci_text.specs.Number.{number, field}
-use Rattle.sci_text.specs.Schedule.{ScheduleValue, IsSchedule, schedule_text}
-use Rattle.sci_command.specs.declared.outcome.Outcome.{Outcome}
-use Rattle.sci_command.specs.Answer.{IsDoneBy}
-use Rattle.sci_command.specs.Input.{IsReadAs}
+use Rattle.sci_statistics.specs.declared.{node_figures.NodeFigures.{NodeFigures}, passage.Passage.{Passage}}
+use Rattle.sci_statistics.specs.declared.waits.{NodeWaits.{NodeWaits}, WaitFigures.{WaitFigures}}
 use Rattle.sci_statistics.specs.declared.counting.StatsRequest.{StatsRequest}
+use Rattle.sci_statistics.specs.Figures.{at_node, event_figures, line_figures, node_figures, on_line}
+use Rattle.sci_statistics.specs.{Levels.{level_figures}, Measures.{has_sent, sends, sent_bytes}, Passages.{passages}}
+use Rattle.sci_statistics.specs.{Waits.{node_waits}, Beginning.{before}}
+use Rattle.sci_text.specs.{declared.fault.TextFaultKind.{TextFaultKind, TheVariants.{Range}}, Number.{number, field}}
+use Rattle.sci_text.specs.Schedule.{ScheduleValue, IsSchedule, schedule_text}
+use Rattle.sci_command.specs.{declared.outcome.Outcome.{Outcome}, Answer.{IsDoneBy}, Input.{IsReadAs}}
 use Rattle.sci_command.specs.AskedLine.{HasLine, IsAskedFault}
-use Rattle.sci_statistics.specs.Beginning.{before}
 
 -- ---- figures
 

@@ -1,17 +1,10 @@
 -- How many events pass between the Issue of an operation and its Perform.
-use Rattle.std.specs.Prelude.{ℕ, true, ◌&&◌, not, Option, Some, None, if◌then◌else◌, List, filter, length, map, max, min, option_map, reverse, slice_get, sum}
-use Rattle.std.specs.Prelude.{take}
-use Rattle.std.specs.List.{filter_map, prefix_len, range_with_len, reduce}
-use Rattle.std.specs.Option.{unwrap_or}
-use Rattle.sci_statistics.specs.declared.kind.Access.{Access}
-use Rattle.sci_statistics.specs.declared.kind.Access.TheVariants.{Load, Maker}
-use Rattle.sci_statistics.specs.declared.kind.EventKind.TheVariants.{Issue}
-use Rattle.sci_statistics.specs.declared.passage.Passage.{Passage}
-use Rattle.sci_statistics.specs.declared.waits.Wait.{Wait}
-use Rattle.sci_statistics.specs.declared.waits.WaitFigures.{WaitFigures}
-use Rattle.sci_statistics.specs.declared.waits.NodeWaits.{NodeWaits}
-use Rattle.sci_statistics.specs.Kinds.{is_access}
-use Rattle.sci_statistics.specs.Measures.{comes, is_at, is_line}
+use Rattle.std.specs.Prelude.{ℕ, true, ◌&&◌, not, Option, Some, None, if◌then◌else◌, List, filter, length, map, max, min, option_map, reverse, slice_get}
+use Rattle.std.specs.{Prelude.{sum, take}, List.{filter_map, prefix_len, range_with_len, reduce}, Option.{unwrap_or}}
+use Rattle.sci_statistics.specs.declared.kind.Access.{Access, TheVariants.{Load, Maker}}
+use Rattle.sci_statistics.specs.declared.{kind.EventKind.TheVariants.{Issue}, passage.Passage.{Passage}}
+use Rattle.sci_statistics.specs.declared.waits.{Wait.{Wait}, WaitFigures.{WaitFigures}, NodeWaits.{NodeWaits}}
+use Rattle.sci_statistics.specs.{Kinds.{is_access}, Measures.{comes, is_at, is_line}}
 
 -- the line about which an event is an enabled Issue of a node, if it is one
 unfoldable pub issued_line : ℕ → Passage → Option ℕ

@@ -2,7 +2,8 @@
 
 ghost use Rattle.std.specs.Prelude.{◌≡◌, option_map};
 ghost use Rattle.sci_cache.specs.Cache.{letter_of};
-ghost use Rattle.sci_statistics.specs.About.{front_of, letter_sent, letter_taken, line_about as line_about_of, line_changed as line_changed_of, line_in as line_in_of};
+ghost use Rattle.sci_statistics.specs.About.{front_of, letter_sent, letter_taken, line_about as line_about_of, line_changed as line_changed_of};
+ghost use Rattle.sci_statistics.specs.About.{line_in as line_in_of};
 
 use sci_core::{LaneKind, Machine};
 use sci_packets::Packet;

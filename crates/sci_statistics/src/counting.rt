@@ -1,7 +1,6 @@
 //! The command `stats`: figures of a schedule.
 
-ghost use Rattle.std.specs.Prelude.{◌≡◌, ◌≤◌, ◌++◌, true, false, length, IfOk, OnOk};
-ghost use Rattle.std.specs.List.{flat_map};
+ghost use Rattle.std.specs.{Prelude.{◌≡◌, ◌≤◌, ◌++◌, true, false, length, IfOk, OnOk}, List.{flat_map}};
 ghost use Rattle.sci_words.specs.declared.limits.TheConstants.{MAX_EVENTS};
 ghost use Rattle.sci_command.specs.Answer.{HasAnswered};
 ghost use Rattle.sci_text.specs.Tap.{has_failed};

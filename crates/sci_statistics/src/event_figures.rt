@@ -1,8 +1,7 @@
 //! How many events of each kind there were.
 
 ghost use Rattle.std.specs.Prelude.{◌≡◌, count_by, not};
-ghost use Rattle.sci_statistics.specs.Measures.{comes, is_flag};
-ghost use Rattle.sci_statistics.specs.Figures.{event_figures, tally_of};
+ghost use Rattle.sci_statistics.specs.{Measures.{comes, is_flag}, Figures.{event_figures, tally_of}};
 
 use crate::kind::EventKind;
 use crate::passage::Passage;

@@ -2,7 +2,8 @@
 
 ghost use Rattle.std.specs.Prelude.{◌≡◌, ◌<◌, ◌≤◌, ◌/◌, ◌++◌, IfOk, OnOk, codes, length, map};
 ghost use Rattle.sci_words.specs.declared.limits.TheConstants.{MAX_EVENTS};
-ghost use Rattle.sci_statistics.specs.StatsAnswer.{command_row, event_rows, figure_text, figures_text, group_of as group_text, hundredths_of, line_text, mean_text, named, node_rows, packets_text, wait_group as wait_group_text, wait_text, waits_text};
+ghost use Rattle.sci_statistics.specs.StatsAnswer.{command_row, event_rows, figure_text, figures_text, group_of as group_text, hundredths_of, line_text};
+ghost use Rattle.sci_statistics.specs.StatsAnswer.{mean_text, named, node_rows, packets_text, wait_group as wait_group_text, wait_text, waits_text};
 
 use crate::event_figures::EventFigures;
 use crate::levels::{Level, LevelFigures};

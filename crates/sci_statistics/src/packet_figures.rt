@@ -1,7 +1,6 @@
 //! How many packets of each kind were sent.
 
-ghost use Rattle.std.specs.Prelude.{◌≡◌, ◌≤◌, count_by, length};
-ghost use Rattle.std.specs.List.{sum_by};
+ghost use Rattle.std.specs.{Prelude.{◌≡◌, ◌≤◌, count_by, length}, List.{sum_by}};
 ghost use Rattle.sci_words.specs.declared.limits.TheConstants.{MAX_EVENTS};
 ghost use Rattle.sci_statistics.specs.Measures.{has_sent, sends, sent_bytes};
 

@@ -1,7 +1,9 @@
 //! What came of one event of a schedule.
 
 ghost use Rattle.std.specs.Prelude.{◌≡◌, ◌≤◌};
-ghost use Rattle.sci_statistics.specs.Measures.{comes as comes_of, enters as enters_of, has_made as has_made_of, has_sent as has_sent_of, is_at as is_at_of, is_on as is_on_of, is_serve as is_serve_of, leaves as leaves_of, sends as sends_of, sent_bytes as sent_bytes_of, serves as serves_of, takes as takes_of};
+ghost use Rattle.sci_statistics.specs.Measures.{comes as comes_of, enters as enters_of, has_made as has_made_of, has_sent as has_sent_of};
+ghost use Rattle.sci_statistics.specs.Measures.{is_at as is_at_of, is_on as is_on_of, is_serve as is_serve_of, leaves as leaves_of, sends as sends_of};
+ghost use Rattle.sci_statistics.specs.Measures.{sent_bytes as sent_bytes_of, serves as serves_of, takes as takes_of};
 
 use crate::kind::{Access, EventKind};
 use sci_packets::Command;

@@ -1,10 +1,10 @@
 //! How many events pass between the Issue of an operation and its Perform.
 
 ghost use Rattle.std.specs.Prelude.{◌≡◌, ◌≤◌, EachIndex, IfOk, length, map, max, min, slice_index, sum};
-ghost use Rattle.std.specs.List.{reduce};
-ghost use Rattle.std.specs.Option.{unwrap_or};
+ghost use Rattle.std.specs.{List.{reduce}, Option.{unwrap_or}};
 ghost use Rattle.sci_words.specs.declared.limits.TheConstants.{MAX_EVENTS};
-ghost use Rattle.sci_statistics.specs.Waits.{issued_line as issued_line_of, node_waits, performed_at as performed_at_of, wait_figures, waits as waits_of, waits_by as waits_by_of};
+ghost use Rattle.sci_statistics.specs.Waits.{issued_line as issued_line_of, node_waits, performed_at as performed_at_of, wait_figures, waits as waits_of};
+ghost use Rattle.sci_statistics.specs.Waits.{waits_by as waits_by_of};
 
 use crate::kind::{Access, EventKind};
 use crate::passage::Passage;

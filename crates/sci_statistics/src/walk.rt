@@ -1,11 +1,9 @@
 //! The walk along the events of a schedule.
 
 ghost use Rattle.std.specs.Prelude.{◌≡◌, ◌≤◌, IfOk, OnOk, IfSome, is_some, option_map, length};
-ghost use Rattle.sci_words.specs.declared.event.Event.TheVariants.{Perform};
-ghost use Rattle.sci_words.specs.declared.limits.TheConstants.{MAX_EVENTS};
+ghost use Rattle.sci_words.specs.declared.{event.Event.TheVariants.{Perform}, limits.TheConstants.{MAX_EVENTS}};
 ghost use Rattle.sci_cache.specs.Cache.{letter_of};
-ghost use Rattle.sci_core.specs.Core.{step, stepping};
-ghost use Rattle.sci_core.specs.Done.{made_by};
+ghost use Rattle.sci_core.specs.{Core.{step, stepping}, Done.{made_by}};
 ghost use Rattle.sci_statistics.specs.Passages.{access_in as access_in_of, command_in as command_in_of, passage_of, passages_from, waiting_at};
 
 use crate::about::{line_about, sent, taken};

@@ -1,14 +1,10 @@
 -- The events of a schedule's text, one after another.
 use Rattle.std.proofs.Common.{◌≡◌, ℕ, ◌+◌, ◌<◌, List, [], ◌∷◌, ◌++◌, length, sym, ap, ◌∙◌, append_assoc, arith, rules}
-use Rattle.std.proofs.lemmas.List.{flat_map_more, length-append}
-use Rattle.std.proofs.lemmas.List.Elements.{All-append}
-use Rattle.sci_words.specs.declared.limits.TheConstants.{MAX_EVENTS}
-use Rattle.sci_words.specs.declared.event.Event.{Event}
-use Rattle.sci_text.specs.declared.fault.TextFault.{TextFault}
-use Rattle.sci_text.specs.declared.fault.TextFaultKind.{TextFaultKind}
+use Rattle.std.proofs.lemmas.List.{flat_map_more, length-append, Elements.{All-append}}
+use Rattle.sci_words.specs.declared.{limits.TheConstants.{MAX_EVENTS}, event.Event.{Event}}
+use Rattle.sci_text.specs.declared.fault.{TextFault.{TextFault}, TextFaultKind.{TextFaultKind}}
 use Rattle.sci_text.specs.declared.fault.TextFaultKind.TheVariants.{Syntax, Range, TooMany, Read, Write, Memory}
-use Rattle.sci_text.specs.FirstFault.{IsRefusalOf, IsRefusal}
-use Rattle.sci_text.specs.Script.{machine_line}
+use Rattle.sci_text.specs.{FirstFault.{IsRefusalOf, IsRefusal}, Script.{machine_line}}
 use Rattle.sci_text.specs.Schedule.{IsEventWithin, event_line, schedule_text}
 use Rattle.sci_text.specs.ScheduleEvents.{EventsOf, AreBefore, schedule_with}
 use Rattle.sci_text.specs.ScheduleFault.{EventFault, IsScheduleFault}

@@ -1,6 +1,5 @@
 -- Whether a line is too long, from the bytes that stand behind it.
-use Rattle.std.proofs.Common.{◌≡◌, ℕ, ◌+◌, ◌<◌, ◌≤◌, List, ◌++◌, length, ap, arith}
-use Rattle.std.proofs.lemmas.List.{length-append}
+use Rattle.std.proofs.{Common.{◌≡◌, ℕ, ◌+◌, ◌<◌, ◌≤◌, List, ◌++◌, length, ap, arith}, lemmas.List.{length-append}}
 use Rattle.sci_words.specs.declared.limits.TheConstants.{MAX_TEXT_LINE_BYTES}
 use Rattle.sci_text.specs.FirstFault.{IsShort}
 

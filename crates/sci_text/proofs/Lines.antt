@@ -1,19 +1,17 @@
 -- Lines of a format: what is read of them, and their faults.
 use Rattle.std.proofs.Common.{◌≡◌, ℕ, ◌+◌, ◌<◌, ◌≤◌, List, ◌++◌, length, Option, Some, None, refl, sym, ap, subst, ◌∙◌, inl, inr, ◌⊎◌}
-use Rattle.std.specs.Option.{SomeIff}
 use Rattle.std.proofs.lemmas.Option.{none-some, some_pair_parts, same_Some}
+use Rattle.std.specs.Option.{SomeIff}
 use Rattle.sci_words.specs.declared.limits.TheConstants.{MAX_TEXT_LINE_BYTES}
 use Rattle.sci_text.specs.declared.fault.TextFaultKind.{TextFaultKind}
 use Rattle.sci_text.specs.declared.fault.TextFaultKind.TheVariants.{Syntax, Range, TooMany, Read, Write, Memory}
 use Rattle.sci_text.specs.FirstFault.{IsShort, Says, LineFault}
 use denote.Ref.{Bor}
 use Rattle.std.specs.Prelude.{option_map}
-use Rattle.sci_text.specs.declared.script.PushFault.{PushFault}
-use Rattle.sci_text.specs.declared.script.PushFault.TheVariants as push
-use Rattle.sci_text.specs.Script.{Refusal, kind_of}
+use Rattle.sci_text.specs.{declared.script.PushFault.{PushFault}, Script.{Refusal, kind_of}}
 use Rattle.sci_text.specs.Reading.{Gives, IsUnsaid, read_of}
-use Rattle.sci_text.proofs.FirstFaults.{SaysOne}
-use Rattle.sci_text.proofs.LineLengths.{line_short, line_long}
+use Rattle.sci_text.proofs.{FirstFaults.{SaysOne}, LineLengths.{line_short, line_long}}
+use Rattle.sci_text.specs.declared.script.PushFault.TheVariants as push
 
 -- How a kind of lines is written and read. Whatever follows, what is written is read again; and what is read is the line of one
 -- value, which comes out if it fits.

@@ -1,23 +1,16 @@
 -- Texts of a machine's size and a list of lines: what is told of their faults, and that each is of one value. This is one
 -- proof for scripts and schedules.
-use Rattle.std.proofs.Common.{◌≡◌, ℕ, ◌+◌, ◌<◌, ◌≤◌, List, [], ◌∷◌, ◌++◌, length, Some, Result, Ok, Err, sym, ap, subst, ◌∙◌, append_assoc, arith, inl, inr}
-use Rattle.std.proofs.Common.{◌⊎◌}
-use Rattle.std.specs.Prelude.{IfOk, IfErr, Option, option_map}
-use Rattle.std.specs.List.{flat_map, AllByRecursion}
-use Rattle.std.proofs.lemmas.List.{append-nil, length-append}
+use Rattle.std.proofs.Common.{◌≡◌, ℕ, ◌+◌, ◌<◌, ◌≤◌, List, [], ◌∷◌, ◌++◌, length, Some, Result, Ok, Err, sym, ap, subst, ◌∙◌, append_assoc, arith, inl}
+use Rattle.std.proofs.{Common.{inr, ◌⊎◌}, lemmas.List.{append-nil, length-append}}
+use Rattle.std.specs.{Prelude.{IfOk, IfErr, Option, option_map}, List.{flat_map, AllByRecursion}}
 use Rattle.sci_words.specs.declared.limits.TheConstants.{MAX_TEXT_LINE_BYTES}
-use Rattle.sci_text.specs.declared.fault.TextFault.{TextFault}
-use Rattle.sci_text.specs.declared.fault.TextFaultKind.{TextFaultKind}
-use Rattle.sci_text.specs.declared.fault.TextFaultKind.TheVariants.{Memory}
+use Rattle.sci_text.specs.declared.fault.{TextFault.{TextFault}, TextFaultKind.{TextFaultKind, TheVariants.{Memory}}}
 use Rattle.sci_text.specs.FirstFault.{Says, LineFault, IsFirstFault, IsToldAt, IsRefusal, GivesOnly, HasOneFault, HasNoFault, IsOfOne}
 use denote.Ref.{Bor}
-use Rattle.sci_text.specs.declared.script.PushFault.{PushFault}
-use Rattle.sci_text.specs.Reading.{Gives, IsUnsaid, read_of}
-use Rattle.sci_text.specs.Script.{machine_line, Refusal, kind_of}
-use Rattle.sci_text.specs.ScriptFault.{MachineFault}
+use Rattle.sci_text.specs.{declared.script.PushFault.{PushFault}, Reading.{Gives, IsUnsaid, read_of}}
+use Rattle.sci_text.specs.{Script.{machine_line, Refusal, kind_of}, ScriptFault.{MachineFault}}
 use Rattle.sci_text.proofs.FirstFaults.{SaysOne, one_line_fault, no_line_fault, GoesOnWith, meet_lists, GoesRight, Meets, IsGrammar, one_first_fault}
-use Rattle.sci_text.proofs.FirstFaults.{no_first_fault}
-use Rattle.sci_text.proofs.FirstFaults.{line_fault_is, told_at, read_as}
+use Rattle.sci_text.proofs.FirstFaults.{no_first_fault, line_fault_is, told_at, read_as}
 use Rattle.sci_text.proofs.Lines.{Line, same_line, one_line, said_fault, refused_fault}
 use Rattle.sci_text.proofs.ScriptReads.{Size, machine_format, is_size, limits_fit}
 

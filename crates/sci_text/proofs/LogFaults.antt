@@ -1,31 +1,22 @@
 -- The faults of a log's lines, from what was read of them.
-use Rattle.std.proofs.Common.{◌≡◌, ℕ, ◌+◌, ◌^◌, ◌<◌, ◌≤◌, List, [], ◌∷◌, ◌++◌, length, Option, Some, None, refl, sym, ap, subst, ◌∙◌, append_assoc, arith, inl}
-use Rattle.std.proofs.Common.{inr, ◌⊎◌}
-use Rattle.std.specs.Prelude.{codes, true, false}
-use Rattle.std.specs.Option.{is_some}
+use Rattle.std.proofs.Common.{◌≡◌, ℕ, ◌+◌, ◌^◌, ◌<◌, ◌≤◌, List, [], ◌∷◌, ◌++◌, length, Option, Some, None, refl, sym, ap, subst, ◌∙◌, append_assoc, arith}
+use Rattle.std.proofs.Common.{inl, inr, ◌⊎◌}
+use Rattle.std.specs.{Prelude.{codes, true, false}, Option.{is_some}}
 use denote.Ref.{Bor}
-use Rattle.std.proofs.Math.ListN.{set}
-use Rattle.std.proofs.lemmas.Bool.{cases_lt}
-use Rattle.sci_history.specs.Placed.{log_of}
+use Rattle.std.proofs.{Math.ListN.{set}, lemmas.{Bool.{cases_lt}, Option.{none-some, some_pair_parts}}}
+use Rattle.sci_history.specs.{Placed.{log_of}, declared.entry.Entry.{Entry}}
 use Rattle.std.specs.Option.{SomeIff}
-use Rattle.std.proofs.lemmas.Option.{none-some, some_pair_parts}
 use Rattle.sci_words.specs.declared.limits.TheConstants.{MAX_TEXT_LINE_BYTES, MAX_LINES, WORDS_PER_LINE}
 use Rattle.sci_words.specs.declared.stamped.Stamped.{Stamped}
-use Rattle.sci_history.specs.declared.entry.Entry.{Entry}
-use Rattle.sci_text.specs.declared.log_form.Form.{Form}
-use Rattle.sci_text.specs.declared.fault.TextFaultKind.TheVariants.{Syntax, Range, TooMany}
-use Rattle.sci_text.specs.FirstFault.{Says}
-use Rattle.sci_text.specs.Number.{number, field}
-use Rattle.sci_text.specs.Operation.{operation}
+use Rattle.sci_text.specs.declared.{log_form.Form.{Form}, fault.TextFaultKind.TheVariants.{Syntax, Range, TooMany}}
+use Rattle.sci_text.specs.{FirstFault.{Says}, Number.{number, field}, Operation.{operation}}
 use Rattle.sci_text.specs.Log.{log_line, last_line, entry_line, issue_text, outcome_text}
 use Rattle.sci_text.specs.LogValue.{IsSize, BeginsLog, Front, HasRoom, StampedFits, Answers, IsForm, HasAllLines, EntryFits, AreNumbersWithin, entry_count}
 use Rattle.sci_text.specs.LogFault.{SizeFault, SaysEntry, LogLineFault}
 use Rattle.sci_text.specs.LogReading.{BeginsLast, NoLast, AddsLast, AddsEntry, IsLatest, log_line_read, last_line_read, entry_line_read}
 use Rattle.sci_text.specs.Reading.{Gives, fitting, after, number_read}
-use Rattle.sci_text.proofs.Numbers.{fitting_below, Ends, number_again, ends_field}
-use Rattle.sci_text.proofs.Words.{after_again, after_found}
-use Rattle.sci_text.proofs.Numbers.{fitting_some}
-use Rattle.sci_text.proofs.LineLengths.{line_short, line_long}
+use Rattle.sci_text.proofs.Numbers.{fitting_below, Ends, number_again, ends_field, fitting_some}
+use Rattle.sci_text.proofs.{Words.{after_again, after_found}, LineLengths.{line_short, line_long}}
 use Rattle.sci_text.proofs.LogReads.{SizeSaid, log_line_again, log_line_found, LastSaid, last_line_again, last_line_found, EntrySaid, EntryReads}
 use Rattle.sci_text.proofs.LogReads.{entry_line_again, entry_line_found}
 

@@ -3,19 +3,13 @@ use Rattle.std.proofs.Common.{◌≡◌, ℕ, ◌<◌, ◌≤◌, ◌^◌, List,
 use Rattle.std.proofs.lemmas.Option.{none-some, some_pair_parts}
 use Rattle.sci_words.specs.declared.stamped.Stamped.{Stamped}
 use Rattle.sci_history.specs.declared.entry.Entry.{Entry}
-use Rattle.sci_text.specs.declared.log_form.Form.{Form}
-use Rattle.sci_text.specs.declared.fault.TextFaultKind.{TextFaultKind}
+use Rattle.sci_text.specs.declared.{log_form.Form.{Form}, fault.TextFaultKind.{TextFaultKind}}
 use Rattle.sci_text.specs.Log.{log_line, last_lines, entry_lines}
 use Rattle.sci_text.specs.LogValue.{format_1, format_2, IsSize, IsForm, HasAllLines, BeginsLog}
-use Rattle.sci_text.specs.LogReading.{BeginsLast, log_line_read}
-use Rattle.sci_text.specs.LogFault.{SizeFault}
-use Rattle.sci_text.specs.FirstFault.{Says}
+use Rattle.sci_text.specs.{LogReading.{BeginsLast, log_line_read}, LogFault.{SizeFault}, FirstFault.{Says}}
 use Rattle.sci_text.specs.Reading.{fitting}
-use Rattle.sci_text.proofs.FirstFaults.{SaysOne, one_line_fault, no_line_fault}
-use Rattle.sci_text.proofs.Numbers.{fitting_some}
-use Rattle.sci_text.proofs.Numbers.{fitting_below}
-use Rattle.sci_text.proofs.LogReads.{SizeSaid, log_line_again}
-use Rattle.sci_text.proofs.LogShort.{size_short}
+use Rattle.sci_text.proofs.{FirstFaults.{SaysOne, one_line_fault, no_line_fault}, Numbers.{fitting_some, fitting_below}}
+use Rattle.sci_text.proofs.{LogReads.{SizeSaid, log_line_again}, LogShort.{size_short}}
 use Rattle.sci_text.proofs.LogUnique.{begins_last, text_of, apart}
 
 -- ---- the first line

@@ -1,30 +1,19 @@
 -- The front of a log grows by the lines that are read.
-use Rattle.std.proofs.Common.{◌≡◌, ℕ, zero, suc, ◌+◌, ◌<◌, ◌≤◌, List, [], ◌∷◌, ◌++◌, length, Option, Some, None, refl, sym, ap, subst, ◌∙◌, append_assoc, arith}
-use Rattle.std.proofs.Common.{inl, inr, ◌⊎◌}
-use Rattle.std.proofs.Math.ListN.{set}
-use Rattle.std.specs.Prelude.{codes, All}
-use Rattle.std.specs.List.{flat_map}
-use Rattle.std.proofs.lemmas.Bool.{cases_eq}
+use Rattle.std.proofs.Common.{◌≡◌, ℕ, zero, suc, ◌+◌, ◌<◌, ◌≤◌, List, [], ◌∷◌, ◌++◌, length, Option, Some, None, refl, sym, ap, subst, ◌∙◌, append_assoc}
+use Rattle.std.proofs.{Common.{arith, inl, inr, ◌⊎◌}, Math.ListN.{set}, lemmas.Bool.{cases_eq}}
 use Rattle.std.proofs.lemmas.List.{append-nil, length-append, length-set, get_or-set_same, get_or-set_other}
-use Rattle.std.proofs.lemmas.List.Elements.{All-push, All-same}
-use Rattle.std.proofs.lemmas.List.Concat.{flat_map-append}
+use Rattle.std.proofs.lemmas.List.{Elements.{All-push, All-same}, Concat.{flat_map-append}}
+use Rattle.std.specs.{Prelude.{codes, All}, List.{flat_map}}
 use Rattle.sci_words.specs.declared.limits.TheConstants.{MAX_NODES, MAX_LINES, WORDS_PER_LINE}
 use Rattle.sci_words.specs.declared.stamped.Stamped.{Stamped}
-use Rattle.sci_history.specs.declared.entry.Entry.{Entry}
-use Rattle.sci_history.specs.Placed.{log_of}
-use Rattle.sci_text.specs.declared.log_form.Form.{Form}
-use Rattle.sci_text.specs.declared.fault.TextFault.{TextFault}
-use Rattle.sci_text.specs.declared.fault.TextFaultKind.{TextFaultKind}
-use Rattle.sci_text.specs.declared.fault.TextFaultKind.TheVariants.{Syntax, Memory}
-use Rattle.sci_text.specs.FirstFault.{IsRefusal, IsToldAt}
-use Rattle.sci_text.specs.Number.{number, field}
-use Rattle.sci_text.specs.Log.{last_line, last_lines, issue_text, entry_line, entry_lines}
+use Rattle.sci_history.specs.{declared.entry.Entry.{Entry}, Placed.{log_of}}
+use Rattle.sci_text.specs.declared.{log_form.Form.{Form}, fault.{TextFault.{TextFault}, TextFaultKind.{TextFaultKind}}}
+use Rattle.sci_text.specs.{declared.fault.TextFaultKind.TheVariants.{Syntax, Memory}, FirstFault.{IsRefusal, IsToldAt}}
+use Rattle.sci_text.specs.{Number.{number, field}, Log.{last_line, last_lines, issue_text, entry_line, entry_lines}}
 use Rattle.sci_text.specs.LogValue.{StampedFits, EntryFits, Front, front_of, IsFront, IsForm, HasAllLines, HasRoom, HasNoExtra, first_line, front_text}
-use Rattle.sci_text.specs.LogValue.{entry_count, BeginsLog}
-use Rattle.sci_text.specs.LogFault.{first_lines, LogLineFault, IsLogFault}
+use Rattle.sci_text.specs.{LogValue.{entry_count, BeginsLog}, LogFault.{first_lines, LogLineFault, IsLogFault}}
 use Rattle.sci_text.specs.LogReading.{BeginsLast, NoLast, IsRefusalAfter, AddsLast, AddsEntry, IsLatest, no_logs}
-use Rattle.sci_text.proofs.FirstFaults.{line_fault_is, told_at}
-use Rattle.sci_text.proofs.LogFaults.{neither}
+use Rattle.sci_text.proofs.{FirstFaults.{line_fault_is, told_at}, LogFaults.{neither}}
 
 -- ---- `last` lines
 

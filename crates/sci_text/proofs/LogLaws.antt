@@ -1,10 +1,8 @@
 -- Laws of the texts of logs.
 use Rattle.std.proofs.Common.{ℕ, ◌≤◌, List, length, sym, ap, arith, inl, inr}
-use Rattle.sci_words.specs.declared.limits.TheConstants.{MAX_LINES, MAX_OPERATIONS}
-use Rattle.sci_words.specs.declared.stamped.Stamped.{Stamped}
+use Rattle.sci_words.specs.declared.{limits.TheConstants.{MAX_LINES, MAX_OPERATIONS}, stamped.Stamped.{Stamped}}
 use Rattle.sci_history.specs.declared.entry.Entry.{Entry}
-use Rattle.sci_text.specs.declared.log_form.Form.{Form}
-use Rattle.sci_text.specs.Log.{log_text}
+use Rattle.sci_text.specs.{declared.log_form.Form.{Form}, Log.{log_text}}
 use Rattle.sci_text.specs.LogValue.{format_2, IsSize, IsForm, EntryFits, HasAllLines, AreLogsOf, AreLogs, IsLogs}
 
 -- what a form says of its limits

@@ -1,18 +1,12 @@
 -- Two fronts of the same bytes are one, or one of them goes on with the next line of the other, which is right there.
-use Rattle.std.proofs.Common.{◌≡◌, ℕ, zero, suc, ◌+◌, ◌<◌, ◌≤◌, ◌^◌, List, [], ◌∷◌, ◌++◌, length, Option, Some, None, refl, sym, ap, subst, ◌∙◌, append_assoc}
-use Rattle.std.proofs.Common.{arith, inl, inr, ◌⊎◌}
-use Rattle.std.specs.Prelude.{codes, All}
-use Rattle.std.specs.List.{flat_map, filter, AllByRecursion}
-use Rattle.std.proofs.lemmas.Bool.{eq-eqb}
-use Rattle.std.proofs.lemmas.List.{append-nil, length-append}
-use Rattle.std.proofs.lemmas.List.Elements.{recursion_from_All, filter-append}
+use Rattle.std.proofs.Common.{◌≡◌, ℕ, zero, suc, ◌+◌, ◌<◌, ◌≤◌, ◌^◌, List, [], ◌∷◌, ◌++◌, length, Option, Some, None, refl, sym, ap, subst, ◌∙◌}
+use Rattle.std.proofs.{Common.{append_assoc, arith, inl, inr, ◌⊎◌}, lemmas.Bool.{eq-eqb}}
+use Rattle.std.proofs.lemmas.List.{append-nil, length-append, Elements.{recursion_from_All, filter-append}}
 use Rattle.std.proofs.lemmas.Option.{some_pair_parts}
-use Rattle.sci_words.specs.declared.limits.TheConstants.{MAX_NODES, MAX_LINES}
-use Rattle.sci_words.specs.declared.stamped.Stamped.{Stamped}
-use Rattle.sci_history.specs.declared.entry.Entry.{Entry}
-use Rattle.sci_history.specs.Placed.{log_of, AreOwn, is_of_node}
-use Rattle.sci_text.specs.declared.log_form.Form.{Form}
-use Rattle.sci_text.specs.declared.fault.TextFaultKind.{TextFaultKind}
+use Rattle.std.specs.{Prelude.{codes, All}, List.{flat_map, filter, AllByRecursion}}
+use Rattle.sci_words.specs.declared.{limits.TheConstants.{MAX_NODES, MAX_LINES}, stamped.Stamped.{Stamped}}
+use Rattle.sci_history.specs.{declared.entry.Entry.{Entry}, Placed.{log_of, AreOwn, is_of_node}}
+use Rattle.sci_text.specs.declared.{log_form.Form.{Form}, fault.TextFaultKind.{TextFaultKind}}
 use Rattle.sci_text.specs.Log.{last_line, last_lines, entry_line, entry_lines}
 use Rattle.sci_text.specs.LogValue.{StampedFits, EntryFits, Front, front_of, IsFront, HasAllLines, HasRoom, HasNoExtra, IsForm, entry_count}
 use Rattle.sci_text.specs.LogReading.{BeginsLast, last_line_read, entry_line_read}

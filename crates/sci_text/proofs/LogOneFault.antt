@@ -1,18 +1,15 @@
 -- The text of a log has no line with a fault, and bytes have one first line that is faulty in a log, and one fault there.
 use Rattle.std.proofs.Common.{◌≡◌, ℕ, ◌<◌, List, [], length, Result, Ok, Err, sym, ap, subst, ◌∙◌, arith, inl, inr, ◌⊎◌}
-use Rattle.std.specs.Prelude.{IfOk, IfErr}
 use Rattle.std.proofs.lemmas.List.{append-nil}
+use Rattle.std.specs.Prelude.{IfOk, IfErr}
 use Rattle.sci_words.specs.declared.stamped.Stamped.{Stamped}
 use Rattle.sci_history.specs.declared.entry.Entry.{Entry}
-use Rattle.sci_text.specs.declared.log_form.Form.{Form}
-use Rattle.sci_text.specs.declared.fault.TextFault.{TextFault}
-use Rattle.sci_text.specs.declared.fault.TextFaultKind.{TextFaultKind}
+use Rattle.sci_text.specs.declared.{log_form.Form.{Form}, fault.{TextFault.{TextFault}, TextFaultKind.{TextFaultKind}}}
 use Rattle.sci_text.specs.FirstFault.{IsRefusal, GivesOnly, HasNoFault}
 use Rattle.sci_text.specs.LogValue.{Front, front_of, front_text, IsFront, HasAllLines, IsLogs}
 use Rattle.sci_text.specs.LogFault.{BeginsFront, GoesOn, line_count, SaysNext, NextFits, HasNoRoomFor, LogLineFault, SizeFault, IsLogFault}
 use Rattle.sci_text.proofs.FirstFaults.{GoesRight, Meets, IsGrammar, one_line_fault, one_first_fault, no_first_fault, read_as}
-use Rattle.sci_text.proofs.LogUnique.{OnePartition}
-use Rattle.sci_text.proofs.LogMeets.{OwnEntries, meet_fronts, one_log_line}
+use Rattle.sci_text.proofs.{LogUnique.{OnePartition}, LogMeets.{OwnEntries, meet_fronts, one_log_line}}
 use Rattle.sci_text.proofs.LogForms.{one_size_fault, size_right, same_forms, whole_first}
 
 -- ---- one fault of a line

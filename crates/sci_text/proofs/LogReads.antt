@@ -1,33 +1,23 @@
 -- A line of a log that is written is read again, and what is read as one was written so.
 use Rattle.std.proofs.Common.{◌≡◌, ℕ, ◌^◌, ◌<◌, ◌≤◌, List, [], ◌∷◌, ◌++◌, length, Option, Some, None, refl, sym, ap, subst, ◌∙◌, append_assoc, arith}
-use Rattle.std.specs.Prelude.{codes, option_map}
-use Rattle.std.specs.List.{flat_map, AllByRecursion}
-use Rattle.std.specs.Option.{SomeIff}
-use Rattle.std.proofs.lemmas.Bool.{cases_lt, lt-ltb, le-ltb}
-use Rattle.std.proofs.lemmas.List.Elements.{All-from_recursion, recursion_from_All}
+use Rattle.std.proofs.lemmas.{Bool.{cases_lt, lt-ltb, le-ltb}, List.Elements.{All-from_recursion, recursion_from_All}}
 use Rattle.std.proofs.lemmas.Option.{some_pair_parts}
-use Rattle.sci_words.specs.declared.limits.TheConstants.{WORDS_PER_LINE}
-use Rattle.sci_words.specs.declared.operation.LockOp.TheVariants.{MaskSwap}
-use Rattle.sci_words.specs.declared.operation.Act.{Act}
-use Rattle.sci_words.specs.declared.operation.Act.TheVariants.{Load, Store, Lock}
-use Rattle.sci_words.specs.declared.operation.Op.{Op}
-use Rattle.sci_words.specs.declared.operation.Reply.{Reply}
-use Rattle.sci_words.specs.declared.operation.Reply.TheVariants.{Stored, Got}
-use Rattle.sci_words.specs.declared.stamped.Stamped.{Stamped}
+use Rattle.std.specs.{Prelude.{codes, option_map}, List.{flat_map, AllByRecursion}, Option.{SomeIff}}
+use Rattle.sci_words.specs.declared.{limits.TheConstants.{WORDS_PER_LINE}, operation.LockOp.TheVariants.{MaskSwap}}
+use Rattle.sci_words.specs.declared.operation.{Act.{Act, TheVariants.{Load, Store, Lock}}, Op.{Op}, Reply.{Reply}}
+use Rattle.sci_words.specs.declared.{operation.Reply.TheVariants.{Stored, Got}, stamped.Stamped.{Stamped}}
 use Rattle.sci_history.specs.declared.entry.Entry.{Entry}
-use Rattle.sci_text.specs.declared.operation.Command.{Command}
-use Rattle.sci_text.specs.Number.{number, field}
+use Rattle.sci_text.specs.{declared.operation.Command.{Command}, Number.{number, field}}
 use Rattle.sci_text.specs.Operation.{act_word, act_operands, operation}
 use Rattle.sci_text.specs.Log.{reply_text, version_text, log_line, last_line, issue_text, outcome_text, entry_line}
 use Rattle.sci_text.specs.LogValue.{StampedFits, Answers, ReplyFits}
 use Rattle.sci_text.specs.Reading.{◌>>=◌, both, fitting, field_read, number_read, after, byte, command_read, pair_read, operation_read}
-use Rattle.sci_text.specs.LogReading.{version_read, eight, words_read, stamped_of, last_line_read, reply_read, serial_of, entry_of, issue_read, outcome_read}
-use Rattle.sci_text.specs.LogReading.{entry_line_read, log_line_read}
+use Rattle.sci_text.specs.LogReading.{version_read, eight, words_read, stamped_of, last_line_read, reply_read, serial_of, entry_of, issue_read}
+use Rattle.sci_text.specs.LogReading.{outcome_read, entry_line_read, log_line_read}
 use Rattle.sci_text.proofs.Numbers.{fitting_below, fitting_above, Ends, number_again, number_found, field_again, ends_field, field_found}
 use Rattle.sci_text.proofs.Words.{after_again, after_found}
-use Rattle.sci_text.proofs.Operations.{fitting_is, mapped, number_as, number_made, both_is, byte_is, bind_some, pair_again, pair_found}
-use Rattle.sci_text.proofs.Operations.{command_of, command_again, OpFits}
-use Rattle.sci_text.proofs.Operations.{operation_again, operation_found}
+use Rattle.sci_text.proofs.Operations.{fitting_is, mapped, number_as, number_made, both_is, byte_is, bind_some, pair_again, pair_found, command_of}
+use Rattle.sci_text.proofs.Operations.{command_again, OpFits, operation_again, operation_found}
 
 -- the same value under a condition that says the same
 pub some_iff_as : {A : Type 0} (P Q : Type 0) (o : Option A) (x : A) → (P → Q) → (Q → P) → SomeIff o P x → SomeIff o Q x

@@ -1,20 +1,13 @@
 -- Lines of logs are short.
 use Rattle.std.proofs.Common.{◌≡◌, ℕ, ◌+◌, ◌*◌, ◌^◌, ◌<◌, ◌≤◌, List, [], ◌∷◌, ◌++◌, length, arith}
-use Rattle.std.specs.Prelude.{codes}
-use Rattle.std.specs.List.{flat_map, AllByRecursion}
-use Rattle.std.proofs.lemmas.List.{length-append}
-use Rattle.std.proofs.lemmas.List.Elements.{recursion_from_All}
-use Rattle.sci_words.specs.declared.operation.Reply.{Reply}
-use Rattle.sci_words.specs.declared.operation.Reply.TheVariants.{Stored, Got}
-use Rattle.sci_words.specs.declared.stamped.Stamped.{Stamped}
+use Rattle.std.proofs.lemmas.List.{length-append, Elements.{recursion_from_All}}
+use Rattle.std.specs.{Prelude.{codes}, List.{flat_map, AllByRecursion}}
+use Rattle.sci_words.specs.declared.{operation.Reply.{Reply, TheVariants.{Stored, Got}}, stamped.Stamped.{Stamped}}
 use Rattle.sci_history.specs.declared.entry.Entry.{Entry}
 use Rattle.sci_text.specs.Number.{number, field}
 use Rattle.sci_text.specs.Log.{reply_text, version_text, log_line, last_line, issue_text, outcome_text, entry_line}
-use Rattle.sci_text.specs.LogValue.{IsSize, ReplyFits}
-use Rattle.sci_text.specs.FirstFault.{IsShort}
-use Rattle.sci_text.proofs.LogReads.{EntryReads}
-use Rattle.sci_text.proofs.LogFronts.{GoodLast}
-use Rattle.sci_text.proofs.Numbers.{number_short, field_short}
+use Rattle.sci_text.specs.{LogValue.{IsSize, ReplyFits}, FirstFault.{IsShort}}
+use Rattle.sci_text.proofs.{LogReads.{EntryReads}, LogFronts.{GoodLast}, Numbers.{number_short, field_short}}
 use Rattle.sci_text.proofs.Operations.{operation_short}
 
 version_short : (version : ℕ) → version < 2 ^ 64 → length (version_text version) ≤ 22

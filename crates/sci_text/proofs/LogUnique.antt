@@ -1,22 +1,14 @@
 -- A text is of one log.
 use Rattle.std.proofs.Common.{◌≡◌, ℕ, suc, ◌<◌, ◌≤◌, List, [], ◌∷◌, ◌++◌, length, Option, Some, None, refl, sym, ap, subst, ◌∙◌, append_assoc, arith}
-use Rattle.std.specs.Prelude.{All}
-use Rattle.std.specs.List.{flat_map, AllByRecursion}
-use Rattle.std.specs.Option.{SomeIff}
-use Rattle.std.proofs.lemmas.List.Concat.{flat_map-append}
-use Rattle.std.proofs.lemmas.List.Elements.{recursion_from_All}
+use Rattle.std.proofs.lemmas.List.{Concat.{flat_map-append}, Elements.{recursion_from_All}}
 use Rattle.std.proofs.lemmas.Option.{some_pair_parts, same_Some}
-use Rattle.sci_words.specs.declared.limits.TheConstants.{MAX_NODES}
-use Rattle.sci_words.specs.declared.stamped.Stamped.{Stamped}
-use Rattle.sci_history.specs.declared.entry.Entry.{Entry}
-use Rattle.sci_history.specs.Placed.{log_of, AreOwn}
-use Rattle.sci_text.specs.declared.log_form.Form.{Form}
-use Rattle.sci_text.specs.Log.{last_line, last_lines, entry_line, entry_lines}
+use Rattle.std.specs.{Prelude.{All}, List.{flat_map, AllByRecursion}, Option.{SomeIff}}
+use Rattle.sci_words.specs.declared.{limits.TheConstants.{MAX_NODES}, stamped.Stamped.{Stamped}}
+use Rattle.sci_history.specs.{declared.entry.Entry.{Entry}, Placed.{log_of, AreOwn}}
+use Rattle.sci_text.specs.{declared.log_form.Form.{Form}, Log.{last_line, last_lines, entry_line, entry_lines}}
 use Rattle.sci_text.specs.LogValue.{StampedFits, Answers, EntryFits, front_of, IsFront, front_text}
-use Rattle.sci_text.specs.LogReading.{BeginsLast, last_line_read}
-use Rattle.sci_text.specs.Reading.{fitting}
-use Rattle.sci_text.proofs.LogReads.{LastSaid, last_line_again, EntryReads}
-use Rattle.sci_text.proofs.LogFaults.{fits_reads}
+use Rattle.sci_text.specs.{LogReading.{BeginsLast, last_line_read}, Reading.{fitting}}
+use Rattle.sci_text.proofs.{LogReads.{LastSaid, last_line_again, EntryReads}, LogFaults.{fits_reads}}
 use Rattle.sci_text.proofs.LogFronts.{GoodLast, last_begins}
 
 -- two values of which the first fits, if the same was read of them

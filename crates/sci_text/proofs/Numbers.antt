@@ -1,16 +1,12 @@
 -- A number that is written is read again, and what is read as a number is written so.
 use Rattle.std.proofs.Common.{◌≡◌, ℕ, zero, suc, ◌+◌, ◌-◌, ◌*◌, ◌^◌, ◌<◌, ◌≤◌, Bool, true, false, cond, eqb, List, [], ◌∷◌, ◌++◌, get_or, map, Option}
-use Rattle.std.proofs.Common.{Some, None, refl, sym, ap, ◌∙◌, append_assoc, arith, inl, inr, ◌⊎◌}
+use Rattle.std.proofs.Common.{Some, None, refl, sym, ap, ◌∙◌, append_assoc, arith, inl, inr, ◌⊎◌, length, ltb}
+use Rattle.std.proofs.lemmas.{Bool.{cases_lt, cases_Bool, eqb-true, eqb-false}, Option.{cond_some, some_pair_parts}}
+use Rattle.std.proofs.lemmas.{Bool.Decides.{nat_tests}, List.{map-append, length-map}}
+use Rattle.std.proofs.lemmas.Int.Digits.{length-digits_of-le, digits_of_step, all_below_base_digits_of, first_digits_of, number_digits_of}
+use Rattle.std.proofs.lemmas.Nat.{div-mul-add, mod-mul-add}
 use Rattle.std.specs.List.{AllByRecursion}
 use Rattle.std.specs.Int.Digits.{digits_of, number_from_digits, number_from_digits_after, AllBelowBase}
-use Rattle.std.proofs.lemmas.Bool.{cases_lt, cases_Bool, eqb-true, eqb-false}
-use Rattle.std.proofs.lemmas.Option.{cond_some, some_pair_parts}
-use Rattle.std.proofs.lemmas.Bool.Decides.{nat_tests}
-use Rattle.std.proofs.Common.{length, ltb}
-use Rattle.std.proofs.lemmas.List.{map-append, length-map}
-use Rattle.std.proofs.lemmas.Int.Digits.{length-digits_of-le}
-use Rattle.std.proofs.lemmas.Nat.{div-mul-add, mod-mul-add}
-use Rattle.std.proofs.lemmas.Int.Digits.{digits_of_step, all_below_base_digits_of, first_digits_of, number_digits_of}
 use Rattle.sci_text.specs.Number.{number, field}
 use Rattle.sci_text.specs.Reading.{is_digit, fitting, with_digit, digits_read, number_read, field_read}
 

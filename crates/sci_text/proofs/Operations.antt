@@ -1,24 +1,18 @@
 -- An operation that is written is read again, and what is read as one was written so.
 use Rattle.std.proofs.Common.{◌≡◌, ℕ, ◌^◌, ◌<◌, ◌≤◌, ltb, List, ◌++◌, length, Option, Some, None, refl, sym, ap, subst, ◌∙◌, append_assoc, arith}
-use Rattle.std.specs.Prelude.{option_map}
-use Rattle.std.specs.Option.{SomeIff}
-use Rattle.std.proofs.lemmas.Bool.{cases_lt, lt-ltb, le-ltb}
-use Rattle.std.proofs.lemmas.Option.{none-some, cond_some, some_pair_parts}
+use Rattle.std.proofs.lemmas.{Bool.{cases_lt, lt-ltb, le-ltb}, Option.{none-some, cond_some, some_pair_parts}}
+use Rattle.std.proofs.lemmas.List.{length-append}
+use Rattle.std.specs.{Prelude.{option_map}, Option.{SomeIff}}
 use Rattle.sci_words.specs.declared.operation.LockOp.{LockOp}
 use Rattle.sci_words.specs.declared.operation.LockOp.TheVariants.{MaskSwap, CompareSwap, FetchAdd, BoundedAdd, WrapAdd}
-use Rattle.sci_words.specs.declared.operation.Act.{Act}
-use Rattle.sci_words.specs.declared.operation.Act.TheVariants.{Load, Store, Lock}
-use Rattle.sci_words.specs.declared.operation.Op.{Op}
-use Rattle.sci_text.specs.declared.operation.Command.{Command}
-use Rattle.sci_text.specs.declared.operation.Command.TheVariants as commands
-use Rattle.sci_text.specs.Number.{field}
+use Rattle.sci_words.specs.declared.operation.{Act.{Act, TheVariants.{Load, Store, Lock}}, Op.{Op}}
+use Rattle.sci_text.specs.{declared.operation.Command.{Command}, Number.{field}}
 use Rattle.sci_text.specs.Operation.{act_word, act_operands, operation, ActFits}
-use Rattle.sci_text.specs.Reading.{◌>>=◌, fitting, field_read, after, byte, both, spelled}
-use Rattle.sci_text.specs.Reading.{command_word, all_commands, command_read, pair_read, one, two, operands_read, made}
-use Rattle.sci_text.specs.Reading.{operation_after, operation_read}
+use Rattle.sci_text.specs.Reading.{◌>>=◌, fitting, field_read, after, byte, both, spelled, command_word, all_commands, command_read, pair_read, one, two}
+use Rattle.sci_text.specs.Reading.{operands_read, made, operation_after, operation_read}
 use Rattle.sci_text.proofs.Numbers.{fitting_below, fitting_above, Ends, field_again, ends_field, field_found, field_short}
-use Rattle.std.proofs.lemmas.List.{length-append}
 use Rattle.sci_text.proofs.Words.{spelled_found}
+use Rattle.sci_text.specs.declared.operation.Command.TheVariants as commands
 
 -- ---- what stands for a value if it fits
 

@@ -1,10 +1,7 @@
 -- What comes of a result whose fault is told of a line.
-use Rattle.std.proofs.Common.{◌≡◌, ℕ, Result, Ok, Err, sym, ap, subst, ◌∙◌}
+use Rattle.std.proofs.{Common.{◌≡◌, ℕ, Result, Ok, Err, sym, ap, subst, ◌∙◌}, lemmas.Option.{none-some, same_Some}}
 use Rattle.std.specs.Result.{IfOk, IfErr, IsErrAnd, MatchResult, result_ok, result_err}
-use Rattle.std.proofs.lemmas.Option.{none-some, same_Some}
-use Rattle.sci_text.specs.declared.fault.TextFault.{TextFault}
-use Rattle.sci_text.specs.declared.fault.TextFaultKind.{TextFaultKind}
-use Rattle.sci_text.specs.FirstFault.{IsToldAt}
+use Rattle.sci_text.specs.{declared.fault.{TextFault.{TextFault}, TextFaultKind.{TextFaultKind}}, FirstFault.{IsToldAt}}
 
 -- the contract of `at_line`
 abbrev pub IsAtLine : {T : Type 0} → ℕ → Result T TextFaultKind → Result T TextFault → Type 0

@@ -1,31 +1,20 @@
 -- An event's line that is written is read again, and what is read as one was written so.
-use Rattle.std.proofs.Common.{◌≡◌, ℕ, ◌<◌, List, [], ◌∷◌, ◌++◌, Option, Some, refl, sym, ap, subst, ◌∙◌, append_assoc}
-use Rattle.std.specs.Prelude.{codes, option_map}
-use Rattle.std.specs.Option.{SomeIff}
-use Rattle.std.proofs.lemmas.Option.{some_pair_parts}
-use Rattle.sci_words.specs.declared.event.AskKind.{AskKind}
-use Rattle.sci_words.specs.declared.event.AskKind.TheVariants.{Mread}
-use Rattle.sci_words.specs.declared.event.TheConstants.AskKind.{ALL}
-use Rattle.sci_words.specs.Event.{kind_word}
-use Rattle.sci_words.specs.declared.event.Event.{Event}
-use Rattle.sci_words.specs.declared.event.Event.TheVariants.{Issue, Perform, Ask, Serve, Refuse, Reply, Accept}
-use Rattle.sci_words.specs.declared.operation.Op.{Op}
-use Rattle.sci_text.specs.declared.schedule_event.Verb.{Verb}
-use Rattle.sci_text.specs.declared.schedule_event.Verb.TheVariants as verbs
-use Rattle.std.proofs.Common.{◌≤◌, length, arith}
-use Rattle.std.proofs.lemmas.List.{length-append}
-use Rattle.sci_text.specs.FirstFault.{IsShort}
-use Rattle.sci_text.proofs.Lines.{Line}
-use Rattle.sci_text.proofs.Operations.{operation_short}
-use Rattle.sci_text.proofs.Numbers.{field_short}
-use Rattle.sci_text.specs.Number.{field}
+use Rattle.std.proofs.Common.{◌≡◌, ℕ, ◌<◌, List, [], ◌∷◌, ◌++◌, Option, Some, refl, sym, ap, subst, ◌∙◌, append_assoc, ◌≤◌, length, arith}
+use Rattle.std.proofs.lemmas.{Option.{some_pair_parts}, List.{length-append}}
+use Rattle.std.specs.{Prelude.{codes, option_map}, Option.{SomeIff}}
+use Rattle.sci_words.specs.declared.event.{AskKind.{AskKind, TheVariants.{Mread}}, TheConstants.AskKind.{ALL}}
+use Rattle.sci_words.specs.declared.event.Event.{Event, TheVariants.{Issue, Perform, Ask, Serve, Refuse, Reply, Accept}}
+use Rattle.sci_words.specs.{declared.operation.Op.{Op}, Event.{kind_word}}
+use Rattle.sci_text.specs.{declared.schedule_event.Verb.{Verb}, FirstFault.{IsShort}, Number.{field}}
 use Rattle.sci_text.specs.Operation.{operation}
 use Rattle.sci_text.specs.Reading.{◌>>=◌, fitting, field_read, after, byte, both, spelled, operation_read}
 use Rattle.sci_text.specs.Schedule.{event_word, first_node, event_details, event_line}
 use Rattle.sci_text.specs.ScheduleReading.{all_verbs, verb_word, kind_read, verb_read, numbered_read, details_read, event_line_read}
-use Rattle.sci_text.proofs.Numbers.{Ends, field_again, ends_field, field_found}
+use Rattle.sci_text.proofs.Lines.{Line}
+use Rattle.sci_text.proofs.Operations.{operation_short, mapped, byte_is, both_is, bind_some, OpFits, operation_again, operation_found}
+use Rattle.sci_text.proofs.Numbers.{field_short, Ends, field_again, ends_field, field_found}
 use Rattle.sci_text.proofs.Words.{after_again, after_found, spelled_found}
-use Rattle.sci_text.proofs.Operations.{mapped, byte_is, both_is, bind_some, OpFits, operation_again, operation_found}
+use Rattle.sci_text.specs.declared.schedule_event.Verb.TheVariants as verbs
 
 -- ---- words
 

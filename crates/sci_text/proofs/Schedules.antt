@@ -1,15 +1,12 @@
 -- A schedule's text is a listing: a line for each event.
 use Rattle.std.proofs.Common.{◌≡◌, ℕ, ◌+◌, ◌*◌, ◌≤◌, List, [], ◌∷◌, ◌++◌, length, refl, ap, arith}
+use Rattle.std.proofs.lemmas.List.{length-append, Elements.{recursion_from_All}}
 use Rattle.std.specs.List.{AllByRecursion}
-use Rattle.std.proofs.lemmas.List.{length-append}
-use Rattle.std.proofs.lemmas.List.Elements.{recursion_from_All}
 use Rattle.sci_words.specs.declared.limits.TheConstants.{MAX_EVENTS, MAX_INPUT_BYTES, MAX_TEXT_LINE_BYTES}
-use Rattle.sci_words.specs.declared.event.Event.{Event}
-use Rattle.sci_words.specs.declared.event.Event.TheVariants.{Issue, Reply}
+use Rattle.sci_words.specs.declared.event.Event.{Event, TheVariants.{Issue, Reply}}
 use Rattle.sci_text.specs.Script.{machine_line}
 use Rattle.sci_text.specs.Schedule.{ScheduleValue, IsSchedule, IsEventWithin, event_lines, event_line, schedule_text}
-use Rattle.sci_text.proofs.ScriptReads.{machine_format, limits_fit}
-use Rattle.sci_text.proofs.ScheduleReads.{EventFits, event_line_format}
+use Rattle.sci_text.proofs.{ScriptReads.{machine_format, limits_fit}, ScheduleReads.{EventFits, event_line_format}}
 use Rattle.sci_text.proofs.Listings.{Listing, all_fit}
 
 within_fits : (nodes lines : ℕ) (event : Event) → nodes ≤ 16 → lines ≤ 64 → IsEventWithin nodes lines event → EventFits event

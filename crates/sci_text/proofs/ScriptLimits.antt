@@ -1,14 +1,10 @@
 -- The limits of a script, and the counts that keep them.
 use Rattle.std.proofs.Common.{◌≡◌, ℕ, ◌+◌, ◌<◌, cond, eqb, List, [], ◌∷◌, ◌++◌, length, get_or, sym, ap, ◌∙◌, arith, inl, inr}
-use Rattle.std.proofs.Math.ListN.{set}
-use Rattle.std.proofs.lemmas.Bool.{cases_eq, eq-eqb, ne_eqb}
-use Rattle.std.proofs.lemmas.List.{length-set, get_or-set_same, get_or-set_other}
-use Rattle.std.proofs.lemmas.List.Elements.{All-push}
+use Rattle.std.proofs.{Math.ListN.{set}, lemmas.Bool.{cases_eq, eq-eqb, ne_eqb}}
+use Rattle.std.proofs.lemmas.List.{length-set, get_or-set_same, get_or-set_other, Elements.{All-push}}
 use Rattle.std.proofs.lemmas.List.Sums.{sum_by-append}
-use Rattle.sci_words.specs.declared.limits.TheConstants.{MAX_NODES, MAX_OPERATIONS}
-use Rattle.sci_words.specs.declared.operation.Op.{Op}
-use Rattle.sci_words.specs.declared.extent.Extent.{Extent}
-use Rattle.sci_words.specs.Extent.{AreWithinLimits}
+use Rattle.sci_words.specs.declared.{limits.TheConstants.{MAX_NODES, MAX_OPERATIONS}, operation.Op.{Op}}
+use Rattle.sci_words.specs.{declared.extent.Extent.{Extent}, Extent.{AreWithinLimits}}
 use Rattle.sci_text.specs.Script.{IsWithin, AreWithin, AreCounts, count_of, IsScript}
 
 pub is_script : (nodes lines slots : ℕ) (counts : List ℕ) (operations : List (ℕ × Op)) → AreWithinLimits nodes lines slots → AreWithin nodes lines operations

@@ -1,22 +1,14 @@
 -- A line that is written is read again, and what is read as one was written so.
-use Rattle.std.proofs.Common.{◌≡◌, ℕ, ◌<◌, List, [], ◌∷◌, ◌++◌, Option, Some, refl, sym, ap, subst, ◌∙◌, append_assoc}
-use Rattle.std.specs.Prelude.{codes, option_map}
-use Rattle.std.specs.Option.{SomeIff}
-use Rattle.std.proofs.lemmas.Option.{some_pair_parts}
-use Rattle.sci_words.specs.declared.operation.Op.{Op}
-use Rattle.std.proofs.Common.{length, arith}
-use Rattle.std.proofs.lemmas.List.{length-append}
-use Rattle.sci_words.specs.Extent.{AreWithinLimits}
-use Rattle.sci_text.specs.FirstFault.{IsShort}
-use Rattle.sci_text.specs.Number.{field}
-use Rattle.sci_text.specs.Operation.{operation}
+use Rattle.std.proofs.Common.{◌≡◌, ℕ, ◌<◌, List, [], ◌∷◌, ◌++◌, Option, Some, refl, sym, ap, subst, ◌∙◌, append_assoc, length, arith}
+use Rattle.std.proofs.lemmas.{Option.{some_pair_parts}, List.{length-append}}
+use Rattle.std.specs.{Prelude.{codes, option_map}, Option.{SomeIff}}
+use Rattle.sci_words.specs.{declared.operation.Op.{Op}, Extent.{AreWithinLimits}}
+use Rattle.sci_text.specs.{FirstFault.{IsShort}, Number.{field}, Operation.{operation}}
 use Rattle.sci_text.specs.Reading.{◌>>=◌, fitting, field_read, after, byte, both, operation_read}
 use Rattle.sci_text.specs.ScriptReading.{size_of, machine_line_read, operation_line_read}
 use Rattle.sci_text.specs.Script.{machine_line, operation_line}
 use Rattle.sci_text.proofs.Numbers.{field_again, ends_field, field_found, field_short}
-use Rattle.sci_text.proofs.Words.{after_again, after_found}
-use Rattle.sci_text.proofs.Lines.{Line}
-use Rattle.sci_text.proofs.ScriptText.{line_nonempty}
+use Rattle.sci_text.proofs.{Words.{after_again, after_found}, Lines.{Line}, ScriptText.{line_nonempty}}
 use Rattle.sci_text.proofs.Operations.{operation_short, mapped, byte_is, both_is, bind_some, OpFits, operation_again, operation_found}
 
 -- ---- the line of the size

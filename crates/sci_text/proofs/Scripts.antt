@@ -1,13 +1,9 @@
 -- A script's text is a listing: a line for each operation.
 use Rattle.std.proofs.Common.{cond, eqb, ◌≡◌, ℕ, ◌<◌, ◌≤◌, List, [], ◌∷◌, ◌++◌, refl, ap, arith}
-use Rattle.std.proofs.lemmas.List.Elements.{recursion_from_All}
-use Rattle.std.proofs.lemmas.List.Sums.{sum_by-append}
-use Rattle.std.proofs.lemmas.Bool.{eq-eqb}
-use Rattle.sci_words.specs.declared.limits.TheConstants.{MAX_OPERATIONS}
-use Rattle.sci_words.specs.declared.operation.Op.{Op}
+use Rattle.std.proofs.lemmas.{List.{Elements.{recursion_from_All}, Sums.{sum_by-append}}, Bool.{eq-eqb}}
+use Rattle.sci_words.specs.declared.{limits.TheConstants.{MAX_OPERATIONS}, operation.Op.{Op}}
 use Rattle.sci_text.specs.Script.{ScriptValue, IsScript, IsWithin, count_of}
-use Rattle.sci_text.proofs.ScriptReads.{operation_line_format}
-use Rattle.sci_text.proofs.Listings.{Listing}
+use Rattle.sci_text.proofs.{ScriptReads.{operation_line_format}, Listings.{Listing}}
 
 pub operation_fits : (s : ScriptValue) → IsScript s → (p : ℕ × Op) → IsWithin s.nodes s.lines p.0 p.1 → operation_line_format.Fits p
 operation_fits s good p within = grind arith

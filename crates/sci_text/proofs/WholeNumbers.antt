@@ -1,11 +1,8 @@
 -- Bytes that are a number, and nothing else.
 use Rattle.std.proofs.Common.{◌≡◌, ◌==◌, ◌↔◌, ◌<◌, ◌^◌, ℕ, true, false, List, [], ◌∷◌, Option, Some, None, length, sym, ap, ◌∙◌, arith}
-use Rattle.std.proofs.lemmas.Bool.{cases_lt, eqb-true}
-use Rattle.std.proofs.lemmas.List.{append-nil}
-use Rattle.sci_text.specs.Number.{number}
-use Rattle.sci_text.specs.Reading.{fitting, number_read}
-use Rattle.sci_text.proofs.Numbers.{fitting_some}
-use Rattle.sci_text.proofs.Numbers.{fitting_above, fitting_below, number_again, number_found}
+use Rattle.std.proofs.lemmas.{Bool.{cases_lt, eqb-true}, List.{append-nil}}
+use Rattle.sci_text.specs.{Number.{number}, Reading.{fitting, number_read}}
+use Rattle.sci_text.proofs.Numbers.{fitting_some, fitting_above, fitting_below, number_again, number_found}
 
 -- what is read, if it is all there is
 abbrev whole_of : Option (Option ℕ × List ℕ) → Option ℕ

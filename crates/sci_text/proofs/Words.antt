@@ -2,9 +2,8 @@
 use Rattle.std.proofs.Common.{◌≡◌, ◌≢◌, ℕ, Bool, true, false, cond, eqb, List, [], ◌∷◌, ◌++◌, Option, Some, None, refl, ap, ◌∙◌}
 use Rattle.std.specs.Prelude.{MatchOption}
 use denote.Ref.{Bor}
-use Rattle.std.proofs.lemmas.Bool.{eqb-true, eq-eqb}
+use Rattle.std.proofs.lemmas.{Bool.{eqb-true, eq-eqb}, Option.{same_Some}}
 use Rattle.std.specs.Prelude.{option_map}
-use Rattle.std.proofs.lemmas.Option.{same_Some}
 use Rattle.sci_text.specs.Reading.{Gives, after, otherwise, spelled}
 
 pub after_again : (word rest : List ℕ) → after word (word ++ rest) ≡ Some rest

@@ -1,12 +1,8 @@
 -- Logs with last contents, and the one text of each in format 2.
-use Rattle.std.specs.Prelude.{ℕ, ◌+◌, List, [], ◌∷◌, ◌++◌, length, codes}
-use Rattle.std.specs.List.{flat_map}
-use Rattle.sci_words.specs.declared.operation.Reply.{Reply}
-use Rattle.sci_words.specs.declared.operation.Reply.TheVariants.{Stored, Got}
-use Rattle.sci_words.specs.declared.stamped.Stamped.{Stamped}
+use Rattle.std.specs.{Prelude.{ℕ, ◌+◌, List, [], ◌∷◌, ◌++◌, length, codes}, List.{flat_map}}
+use Rattle.sci_words.specs.declared.{operation.Reply.{Reply, TheVariants.{Stored, Got}}, stamped.Stamped.{Stamped}}
 use Rattle.sci_history.specs.declared.entry.Entry.{Entry}
-use Rattle.sci_text.specs.Number.{number, field}
-use Rattle.sci_text.specs.Operation.{operation}
+use Rattle.sci_text.specs.{Number.{number, field}, Operation.{operation}}
 
 -- a store has no word to answer
 abbrev pub reply_text : Reply → List ℕ

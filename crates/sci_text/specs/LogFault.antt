@@ -1,12 +1,9 @@
 -- The faults of a log's text.
 use Rattle.std.specs.Prelude.{◌≡◌, ℕ, ◌+◌, ◌<◌, ◌≤◌, ◌⊎◌, List, [], ◌++◌, length, Option, Some, None}
 use Rattle.std.proofs.Common.{inl, inr}
-use Rattle.sci_words.specs.declared.limits.TheConstants.{MAX_LINES, WORDS_PER_LINE}
-use Rattle.sci_words.specs.declared.stamped.Stamped.{Stamped}
-use Rattle.sci_history.specs.declared.entry.Entry.{Entry}
-use Rattle.sci_history.specs.Placed.{log_of}
-use Rattle.sci_text.specs.declared.fault.TextFaultKind.{TextFaultKind}
-use Rattle.sci_text.specs.Log.{log_line, last_line, entry_line}
+use Rattle.sci_words.specs.declared.{limits.TheConstants.{MAX_LINES, WORDS_PER_LINE}, stamped.Stamped.{Stamped}}
+use Rattle.sci_history.specs.{declared.entry.Entry.{Entry}, Placed.{log_of}}
+use Rattle.sci_text.specs.{declared.fault.TextFaultKind.{TextFaultKind}, Log.{log_line, last_line, entry_line}}
 use Rattle.sci_text.specs.FirstFault.{Says, LineFault, IsFirstFault}
 use Rattle.sci_text.specs.LogValue.{IsSize, StampedFits, Answers, EntryFits, entry_count, Front, HasAllLines, HasRoom, IsFront, front_text, BeginsLog}
 

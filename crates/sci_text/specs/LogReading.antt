@@ -2,22 +2,16 @@
 -- was read. No public contract rests on these words; laws in proofs/ join them to the texts.
 use Rattle.std.specs.Prelude.{◌≡◌, ℕ, ◌<◌, ◌≤◌, ◌^◌, List, [], ◌∷◌, ◌++◌, length, codes, Option, Some, None, option_map, replicate, slice_set, nat_lt}
 use Rattle.std.specs.Prelude.{if◌then◌else◌}
-use Rattle.sci_words.specs.declared.operation.Op.{Op}
-use Rattle.sci_words.specs.declared.operation.Reply.{Reply}
-use Rattle.sci_words.specs.declared.operation.Reply.TheVariants.{Stored, Got}
+use Rattle.sci_words.specs.declared.operation.{Op.{Op}, Reply.{Reply, TheVariants.{Stored, Got}}}
 use Rattle.sci_words.specs.declared.stamped.Stamped.{Stamped}
-use Rattle.sci_history.specs.declared.entry.Entry.{Entry}
-use Rattle.sci_text.specs.declared.operation.Command.{Command}
-use Rattle.sci_text.specs.declared.operation.Command.TheVariants as commands
 use Rattle.sci_words.specs.declared.limits.TheConstants.{MAX_NODES, MAX_LINES, WORDS_PER_LINE}
-use Rattle.sci_history.specs.Placed.{log_of}
-use Rattle.sci_text.specs.declared.fault.TextFault.{TextFault}
-use Rattle.sci_text.specs.declared.log_form.Form.{Form}
-use Rattle.sci_text.specs.Log.{last_line, entry_line}
-use Rattle.sci_text.specs.FirstFault.{IsRefusal}
+use Rattle.sci_history.specs.{declared.entry.Entry.{Entry}, Placed.{log_of}}
+use Rattle.sci_text.specs.declared.{operation.Command.{Command}, fault.TextFault.{TextFault}, log_form.Form.{Form}}
+use Rattle.sci_text.specs.{Log.{last_line, entry_line}, FirstFault.{IsRefusal}}
 use Rattle.sci_text.specs.Reading.{◌>>=◌, number_read, field_read, after, byte, command_read, pair_read, operation_read}
 use Rattle.sci_text.specs.LogValue.{StampedFits, EntryFits, Front, HasRoom, first_line, BeginsLog}
 use Rattle.sci_text.specs.LogFault.{SaysLast, IsLogFault}
+use Rattle.sci_text.specs.declared.operation.Command.TheVariants as commands
 
 -- ` @V`
 unfoldable pub version_read : List ℕ → Option (Option ℕ × List ℕ)

@@ -2,17 +2,11 @@
 use Rattle.std.specs.Prelude.{◌≡◌, ℕ, ◌<◌, ◌≤◌, ◌^◌, ◌⊎◌, List, [], ◌++◌, length, codes, All, Option, Some, None}
 use Rattle.std.specs.List.{flat_map}
 use Rattle.sci_words.specs.declared.limits.TheConstants.{MAX_NODES, MAX_LINES, MAX_OPERATIONS, WORDS_PER_LINE, FORMAT_1_NODES, FORMAT_1_SERIALS}
-use Rattle.sci_words.specs.declared.limits.TheConstants.{FORMAT_1_ENTRIES}
-use Rattle.sci_words.specs.declared.operation.Act.{Act}
-use Rattle.sci_words.specs.declared.operation.Act.TheVariants.{Load, Store, Lock}
-use Rattle.sci_words.specs.declared.operation.Reply.{Reply}
-use Rattle.sci_words.specs.declared.operation.Reply.TheVariants.{Stored, Got}
-use Rattle.sci_words.specs.declared.stamped.Stamped.{Stamped}
-use Rattle.sci_history.specs.declared.entry.Entry.{Entry}
-use Rattle.sci_history.specs.Placed.{log_of, AreOwn}
-use Rattle.sci_text.specs.declared.log_form.Form.{Form}
-use Rattle.sci_text.specs.Operation.{ActFits}
-use Rattle.sci_text.specs.Log.{log_line, last_lines, entry_lines}
+use Rattle.sci_words.specs.declared.{limits.TheConstants.{FORMAT_1_ENTRIES}, operation.Act.{Act}}
+use Rattle.sci_words.specs.declared.operation.{Act.TheVariants.{Load, Store, Lock}, Reply.{Reply}}
+use Rattle.sci_words.specs.declared.{operation.Reply.TheVariants.{Stored, Got}, stamped.Stamped.{Stamped}}
+use Rattle.sci_history.specs.{declared.entry.Entry.{Entry}, Placed.{log_of, AreOwn}}
+use Rattle.sci_text.specs.{declared.log_form.Form.{Form}, Operation.{ActFits}, Log.{log_line, last_lines, entry_lines}}
 
 abbrev pub format_1 : Form
 format_1 = record { nodes = FORMAT_1_NODES; serials = FORMAT_1_SERIALS; entries = FORMAT_1_ENTRIES; lines = None }

@@ -1,6 +1,5 @@
 -- Numbers of a text.
-use Rattle.std.specs.Prelude.{ℕ, zero, suc, ◌+◌, List, [], ◌∷◌, map}
-use Rattle.std.specs.Int.Digits.{digits_of}
+use Rattle.std.specs.{Prelude.{ℕ, zero, suc, ◌+◌, List, [], ◌∷◌, map}, Int.Digits.{digits_of}}
 
 -- a number is `0`, or its digits from the first that is not 0; there may be any number of them
 unfoldable pub number : ℕ → List ℕ

@@ -2,9 +2,7 @@
 use Rattle.std.specs.Prelude.{ℕ, ◌<◌, ◌^◌, List, [], ◌++◌, codes}
 use Rattle.sci_words.specs.declared.operation.LockOp.{LockOp}
 use Rattle.sci_words.specs.declared.operation.LockOp.TheVariants.{MaskSwap, CompareSwap, FetchAdd, BoundedAdd, WrapAdd}
-use Rattle.sci_words.specs.declared.operation.Act.{Act}
-use Rattle.sci_words.specs.declared.operation.Act.TheVariants.{Load, Store, Lock}
-use Rattle.sci_words.specs.declared.operation.Op.{Op}
+use Rattle.sci_words.specs.declared.operation.{Act.{Act, TheVariants.{Load, Store, Lock}}, Op.{Op}}
 use Rattle.sci_text.specs.Number.{field}
 
 abbrev pub lock_word : LockOp → List ℕ

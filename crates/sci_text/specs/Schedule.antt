@@ -1,14 +1,9 @@
 -- Schedules: what they say, and the one text of each.
-use Rattle.std.specs.Prelude.{ℕ, ◌<◌, ◌≤◌, List, [], ◌∷◌, ◌++◌, length, codes, All}
-use Rattle.std.specs.List.{flat_map}
-use Rattle.sci_words.specs.declared.limits.TheConstants.{MAX_EVENTS}
-use Rattle.sci_words.specs.declared.event.Event.{Event}
+use Rattle.std.specs.{Prelude.{ℕ, ◌<◌, ◌≤◌, List, [], ◌∷◌, ◌++◌, length, codes, All}, List.{flat_map}}
+use Rattle.sci_words.specs.declared.{limits.TheConstants.{MAX_EVENTS}, event.Event.{Event}}
 use Rattle.sci_words.specs.declared.event.Event.TheVariants.{Issue, Perform, Ask, Serve, Refuse, Reply, Accept}
-use Rattle.sci_words.specs.Event.{kind_word}
-use Rattle.sci_words.specs.Extent.{AreWithinLimits}
-use Rattle.sci_text.specs.declared.script.PushFault.{PushFault}
-use Rattle.sci_text.specs.Number.{field}
-use Rattle.sci_text.specs.Operation.{operation}
+use Rattle.sci_words.specs.{Event.{kind_word}, Extent.{AreWithinLimits}}
+use Rattle.sci_text.specs.{declared.script.PushFault.{PushFault}, Number.{field}, Operation.{operation}}
 use Rattle.sci_text.specs.Script.{IsWithin, Refusal, machine_line}
 
 -- a machine's size, and events in text order

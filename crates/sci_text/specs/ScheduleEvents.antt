@@ -1,7 +1,6 @@
 -- The events of a schedule's text, which are read one after another.
 use Rattle.std.specs.Prelude.{◌≡◌, ℕ, ◌<◌, List, [], ◌∷◌, ◌++◌, length, Option, Some, None}
-use Rattle.sci_words.specs.declared.extent.Extent.{Extent}
-use Rattle.sci_words.specs.declared.event.Event.{Event}
+use Rattle.sci_words.specs.declared.{extent.Extent.{Extent}, event.Event.{Event}}
 use Rattle.sci_text.specs.Schedule.{ScheduleValue, IsSchedule, schedule_text}
 
 -- a text that is being read: the size of its first line, the bytes that are left, and how many events stand before them

@@ -1,9 +1,7 @@
 -- The faults of a schedule's text.
 use Rattle.std.specs.Prelude.{◌≡◌, ℕ, ◌+◌, ◌<◌, ◌≤◌, List, ◌++◌, length}
-use Rattle.sci_words.specs.declared.limits.TheConstants.{MAX_EVENTS}
-use Rattle.sci_words.specs.declared.event.Event.{Event}
-use Rattle.sci_text.specs.declared.fault.TextFaultKind.{TextFaultKind}
-use Rattle.sci_text.specs.FirstFault.{Says, LineFault, IsFirstFault}
+use Rattle.sci_words.specs.declared.{limits.TheConstants.{MAX_EVENTS}, event.Event.{Event}}
+use Rattle.sci_text.specs.{declared.fault.TextFaultKind.{TextFaultKind}, FirstFault.{Says, LineFault, IsFirstFault}}
 use Rattle.sci_text.specs.ScriptFault.{MachineFault}
 use Rattle.sci_text.specs.Schedule.{ScheduleValue, IsSchedule, IsEventWithin, event_line, schedule_text}
 

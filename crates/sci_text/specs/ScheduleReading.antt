@@ -1,14 +1,12 @@
 -- What the private readers of events answer, step by step from left to right: what is read, and the bytes after it. No
 -- public contract rests on these words; laws in proofs/ join them to the texts.
 use Rattle.std.specs.Prelude.{ℕ, List, [], ◌∷◌, Option, Some, option_map, codes}
-use Rattle.sci_words.specs.declared.event.AskKind.{AskKind}
-use Rattle.sci_words.specs.declared.event.TheConstants.AskKind.{ALL}
-use Rattle.sci_words.specs.declared.event.Event.{Event}
-use Rattle.sci_words.specs.declared.event.Event.TheVariants as events
-use Rattle.sci_text.specs.declared.schedule_event.Verb.{Verb}
-use Rattle.sci_text.specs.declared.schedule_event.Verb.TheVariants as verbs
+use Rattle.sci_words.specs.declared.event.{AskKind.{AskKind}, TheConstants.AskKind.{ALL}, Event.{Event}}
 use Rattle.sci_words.specs.Event.{kind_word}
+use Rattle.sci_text.specs.declared.schedule_event.Verb.{Verb}
 use Rattle.sci_text.specs.Reading.{◌>>=◌, field_read, after, byte, both, spelled, operation_read}
+use Rattle.sci_words.specs.declared.event.Event.TheVariants as events
+use Rattle.sci_text.specs.declared.schedule_event.Verb.TheVariants as verbs
 
 unfoldable pub kind_read : List ℕ → Option (AskKind × List ℕ)
 kind_read bytes = spelled kind_word ALL bytes

@@ -1,15 +1,12 @@
 -- Scripts: what they say, and the one text of each.
 use Rattle.std.specs.Prelude.{◌≡◌, ℕ, ◌<◌, ◌≤◌, ◌==◌, List, [], ◌∷◌, ◌++◌, length, codes, All, count_by, slice_index}
 use Rattle.std.specs.List.{flat_map}
-use Rattle.sci_words.specs.declared.limits.TheConstants.{MAX_NODES, MAX_OPERATIONS, WORDS_PER_LINE}
-use Rattle.sci_words.specs.declared.operation.Op.{Op}
+use Rattle.sci_words.specs.declared.{limits.TheConstants.{MAX_NODES, MAX_OPERATIONS, WORDS_PER_LINE}, operation.Op.{Op}}
 use Rattle.sci_words.specs.Extent.{AreWithinLimits}
-use Rattle.sci_text.specs.declared.script.PushFault.{PushFault}
-use Rattle.sci_text.specs.declared.script.PushFault.TheVariants as push
-use Rattle.sci_text.specs.declared.fault.TextFaultKind.{TextFaultKind}
-use Rattle.sci_text.specs.declared.fault.TextFaultKind.TheVariants as kinds
-use Rattle.sci_text.specs.Number.{field}
+use Rattle.sci_text.specs.{declared.{script.PushFault.{PushFault}, fault.TextFaultKind.{TextFaultKind}}, Number.{field}}
 use Rattle.sci_text.specs.Operation.{operation, ActFits}
+use Rattle.sci_text.specs.declared.script.PushFault.TheVariants as push
+use Rattle.sci_text.specs.declared.fault.TextFaultKind.TheVariants as kinds
 
 -- a machine's size, and operations with their nodes, in text order
 pub record ScriptValue : Type 0 where

@@ -1,6 +1,5 @@
 -- Why a text is not written whole.
-use Rattle.std.specs.Prelude.{◌≡◌, ℕ, List, take, Bool, true, false, Option}
-use Rattle.std.specs.Io.KnownBytes.{Appends, Keeps}
+use Rattle.std.specs.{Prelude.{◌≡◌, ℕ, List, take, Bool, true, false, Option}, Io.KnownBytes.{Appends, Keeps}}
 use Rattle.sci_text.specs.declared.fault.TextFaultKind.{TextFaultKind}
 use Rattle.sci_text.specs.declared.fault.TextFaultKind.TheVariants.{Syntax, Range, TooMany, Read, Write, Memory}
 

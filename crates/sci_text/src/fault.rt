@@ -1,7 +1,6 @@
 //! Why a text is refused, or couldn't be read or written.
 
-ghost use Rattle.std.specs.Prelude.{◌≡◌, Ok};
-ghost use Rattle.std.specs.Result.{IsErrAnd, MatchResult};
+ghost use Rattle.std.specs.{Prelude.{◌≡◌, Ok}, Result.{IsErrAnd, MatchResult}};
 ghost use Rattle.sci_text.specs.FirstFault.{IsToldAt};
 
 use std::alloc::AllocError;

@@ -2,8 +2,7 @@
 
 ghost use Rattle.std.specs.Prelude.{◌≡◌, ◌+◌, ◌<◌, ◌≤◌, OnOk, IfOk, IfErr, Some, length, option_map};
 ghost use Rattle.sci_words.specs.declared.limits.TheConstants.{MAX_TEXT_LINE_BYTES};
-ghost use Rattle.sci_text.specs.declared.fault.TextFaultKind.TheVariants.{Syntax};
-ghost use Rattle.sci_text.specs.Reading.{IsUnsaid, read_of};
+ghost use Rattle.sci_text.specs.{declared.fault.TextFaultKind.TheVariants.{Syntax}, Reading.{IsUnsaid, read_of}};
 
 use crate::fault::TextFaultKind;
 use sci_words::MAX_TEXT_LINE_BYTES;

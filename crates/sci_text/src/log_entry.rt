@@ -2,7 +2,8 @@
 
 ghost use Rattle.std.specs.Prelude.{◌≡◌};
 ghost use Rattle.sci_text.specs.Reading.{Gives};
-ghost use Rattle.sci_text.specs.LogReading.{version_read, eight, words_read, stamped_of, last_line_read, reply_read, serial_of, entry_of, issue_read, outcome_read, entry_line_read, log_line_read};
+ghost use Rattle.sci_text.specs.LogReading.{version_read, eight, words_read, stamped_of, last_line_read, reply_read, serial_of, entry_of, issue_read};
+ghost use Rattle.sci_text.specs.LogReading.{outcome_read, entry_line_read, log_line_read};
 
 use crate::number::{Number, field, number};
 use crate::operation::{Command, after, byte, command_of, operation_after, pair};

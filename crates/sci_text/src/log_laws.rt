@@ -3,9 +3,7 @@
 ghost use Rattle.std.specs.Prelude.{◌≡◌, ℕ, List};
 ghost use Rattle.sci_words.specs.declared.stamped.Stamped.{Stamped};
 ghost use Rattle.sci_history.specs.declared.entry.Entry.{Entry};
-ghost use Rattle.sci_text.specs.FirstFault.{HasNoFault, HasOneFault};
-ghost use Rattle.sci_text.specs.Log.{log_text};
-ghost use Rattle.sci_text.specs.LogValue.{AreLogs, IsLogs};
+ghost use Rattle.sci_text.specs.{FirstFault.{HasNoFault, HasOneFault}, Log.{log_text}, LogValue.{AreLogs, IsLogs}};
 ghost use Rattle.sci_text.specs.LogFault.{IsLogFault};
 
 use sci_history::one_partition;

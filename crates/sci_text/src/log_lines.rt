@@ -3,8 +3,7 @@
 ghost use Rattle.std.specs.Prelude.{◌≡◌, ◌<◌, ◌≤◌, ◌⊎◌, ◌++◌, ℕ, Some, length, IfOk, IfErr, OnErr};
 ghost use Rattle.std.specs.Bool.{OnTrue, OnFalse};
 ghost use Rattle.sci_words.specs.declared.limits.TheConstants.{MAX_LINES};
-ghost use Rattle.sci_text.specs.declared.fault.TextFaultKind.TheVariants.{Memory};
-ghost use Rattle.sci_text.specs.FirstFault.{IsRefusal};
+ghost use Rattle.sci_text.specs.{declared.fault.TextFaultKind.TheVariants.{Memory}, FirstFault.{IsRefusal}};
 ghost use Rattle.sci_text.specs.Log.{entry_lines, last_lines};
 ghost use Rattle.sci_text.specs.LogReading.{AddsEntry, AddsLast, BeginsLast, IsLatest, IsRefusalAfter, NoLast, no_logs};
 ghost use Rattle.sci_text.specs.LogValue.{AreLogs, HasAllLines, IsForm, IsFront, IsLogs, front_of};

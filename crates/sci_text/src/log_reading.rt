@@ -2,13 +2,10 @@
 
 ghost use Rattle.std.specs.Prelude.{ℕ, List, ◌≡◌, ◌≤◌, false, length, IfOk, OnOk, IfErr, Some};
 ghost use Rattle.std.specs.Io.KnownBytes.{IsAtEnd};
-ghost use Rattle.sci_words.specs.declared.limits.TheConstants.{MAX_INPUT_BYTES};
-ghost use Rattle.sci_words.specs.declared.stamped.Stamped.{Stamped};
+ghost use Rattle.sci_words.specs.declared.{limits.TheConstants.{MAX_INPUT_BYTES}, stamped.Stamped.{Stamped}};
 ghost use Rattle.sci_history.specs.declared.entry.Entry.{Entry};
-ghost use Rattle.sci_text.specs.Tap.{tapped, has_failed, is_called_again};
-ghost use Rattle.sci_text.specs.LogValue.{AreLogs, IsLogs};
-ghost use Rattle.sci_text.specs.LogFault.{IsLogFault};
-ghost use Rattle.sci_text.specs.FirstFault.{AreRead, GivesOnly, IsTold};
+ghost use Rattle.sci_text.specs.{Tap.{tapped, has_failed, is_called_again}, LogValue.{AreLogs, IsLogs}};
+ghost use Rattle.sci_text.specs.{LogFault.{IsLogFault}, FirstFault.{AreRead, GivesOnly, IsTold}};
 
 use crate::fault::TextFault;
 use crate::log_laws::{no_log_fault, one_log};

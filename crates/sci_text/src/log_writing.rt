@@ -1,14 +1,12 @@
 //! Writing logs: the whole text is made first, and then written.
 
-ghost use Rattle.std.specs.Prelude.{◌≡◌, ◌+◌, ◌≤◌, ◌++◌, false, length, IfOk, IfErr, OnOk};
-ghost use Rattle.std.specs.List.{flat_map};
+ghost use Rattle.std.specs.{Prelude.{◌≡◌, ◌+◌, ◌≤◌, ◌++◌, false, length, IfOk, IfErr, OnOk}, List.{flat_map}};
 ghost use Rattle.std.specs.Io.KnownBytes.{Appends};
 ghost use Rattle.sci_words.specs.declared.limits.TheConstants.{MAX_TEXT_LINE_BYTES};
 ghost use Rattle.sci_text.specs.Number.{field as field_text};
-ghost use Rattle.sci_text.specs.Log.{entry_line as entry_text, entry_lines, issue_text, last_line as last_text, last_lines, log_line as log_line_text, log_text, outcome_text, reply_text, version_text};
-ghost use Rattle.sci_text.specs.LogValue.{AreLogs, IsLogs};
-ghost use Rattle.sci_text.specs.Tap.{has_failed, is_called_again, tapped};
-ghost use Rattle.sci_text.specs.Writing.{IsWriteFault};
+ghost use Rattle.sci_text.specs.Log.{entry_line as entry_text, entry_lines, issue_text, last_line as last_text, last_lines, log_line as log_line_text};
+ghost use Rattle.sci_text.specs.{Log.{log_text, outcome_text, reply_text, version_text}, LogValue.{AreLogs, IsLogs}};
+ghost use Rattle.sci_text.specs.{Tap.{has_failed, is_called_again, tapped}, Writing.{IsWriteFault}};
 
 use crate::fault::TextFault;
 use crate::line_end::LineEnd;

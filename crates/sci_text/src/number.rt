@@ -1,8 +1,7 @@
 //! Numbers in decimal digits.
 
 ghost use Rattle.std.specs.Prelude.{◌≡◌, ◌↔◌, ◌≤◌, ◌<◌, ◌^◌, ℕ, Some};
-ghost use Rattle.sci_text.specs.Number.{number};
-ghost use Rattle.sci_text.specs.Reading.{Gives, with_digit, digits_read, number_read, field_read};
+ghost use Rattle.sci_text.specs.{Number.{number}, Reading.{Gives, with_digit, digits_read, number_read, field_read}};
 
 /// A number of a text, or None if it is 2^64 or more.
 pub type Number = Option<u64>;

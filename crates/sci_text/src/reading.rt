@@ -1,9 +1,7 @@
 //! Reading an input to its end.
 
-ghost use Rattle.std.specs.Prelude.{◌≡◌, ◌<◌, false, length, IfOk, OnOk, IfErr};
-ghost use Rattle.std.specs.Io.KnownBytes.{IsAtEnd};
-ghost use Rattle.sci_text.specs.Tap.{tapped, has_failed, is_called_again};
-ghost use Rattle.sci_text.specs.FirstFault.{AreRead, IsInputFault};
+ghost use Rattle.std.specs.{Prelude.{◌≡◌, ◌<◌, false, length, IfOk, OnOk, IfErr}, Io.KnownBytes.{IsAtEnd}};
+ghost use Rattle.sci_text.specs.{Tap.{tapped, has_failed, is_called_again}, FirstFault.{AreRead, IsInputFault}};
 
 use crate::fault::{TextFault, TextFaultKind};
 use crate::tap::Tap;

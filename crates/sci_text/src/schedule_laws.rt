@@ -3,8 +3,7 @@
 ghost use Rattle.std.specs.Prelude.{◌≤◌, length};
 ghost use Rattle.sci_words.specs.declared.limits.TheConstants.{MAX_INPUT_BYTES};
 ghost use Rattle.sci_text.specs.FirstFault.{IsOfOne, HasNoFault, HasOneFault};
-ghost use Rattle.sci_text.specs.Schedule.{ScheduleValue, IsSchedule, schedule_text};
-ghost use Rattle.sci_text.specs.ScheduleFault.{IsScheduleFault};
+ghost use Rattle.sci_text.specs.{Schedule.{ScheduleValue, IsSchedule, schedule_text}, ScheduleFault.{IsScheduleFault}};
 
 /// The text of a schedule determines the schedule.
 pub fn one_schedule()

@@ -1,8 +1,7 @@
 //! The whole of a schedule's text.
 
 ghost use Rattle.std.specs.Prelude.{◌≡◌, IfOk, IfErr};
-ghost use Rattle.sci_text.specs.Schedule.{IsSchedule, schedule_text};
-ghost use Rattle.sci_text.specs.FirstFault.{IsRefusal};
+ghost use Rattle.sci_text.specs.{Schedule.{IsSchedule, schedule_text}, FirstFault.{IsRefusal}};
 ghost use Rattle.sci_text.specs.ScheduleFault.{IsScheduleFault};
 
 use crate::fault::{TextFault, TextFaultKind};

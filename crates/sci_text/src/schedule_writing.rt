@@ -1,11 +1,10 @@
 //! Writing schedules: the whole text is made first, and then written.
 
-ghost use Rattle.std.specs.Prelude.{◌≡◌, ◌+◌, ◌≤◌, ◌++◌, false, length, IfOk, IfErr, OnOk};
-ghost use Rattle.std.specs.Io.KnownBytes.{Appends};
+ghost use Rattle.std.specs.{Prelude.{◌≡◌, ◌+◌, ◌≤◌, ◌++◌, false, length, IfOk, IfErr, OnOk}, Io.KnownBytes.{Appends}};
 ghost use Rattle.sci_words.specs.declared.limits.TheConstants.{MAX_INPUT_BYTES, MAX_TEXT_LINE_BYTES};
 ghost use Rattle.sci_text.specs.Writing.{IsWriteFault};
-ghost use Rattle.sci_text.specs.Schedule.{IsSchedule, event_details, event_line, event_lines, event_word as word_of_event, first_node as node_of_event, schedule_text as text_of};
-ghost use Rattle.sci_text.specs.Script.{machine_line};
+ghost use Rattle.sci_text.specs.Schedule.{IsSchedule, event_details, event_line, event_lines, event_word as word_of_event, first_node as node_of_event};
+ghost use Rattle.sci_text.specs.{Schedule.{schedule_text as text_of}, Script.{machine_line}};
 ghost use Rattle.sci_text.specs.Tap.{has_failed, is_called_again, tapped};
 
 use crate::fault::TextFault;

@@ -1,8 +1,7 @@
 //! Laws of scripts' texts, each the contract of a function that does nothing.
 
 ghost use Rattle.sci_text.specs.FirstFault.{IsOfOne, HasNoFault, HasOneFault};
-ghost use Rattle.sci_text.specs.Script.{ScriptValue, IsScript, script_text};
-ghost use Rattle.sci_text.specs.ScriptFault.{IsScriptFault};
+ghost use Rattle.sci_text.specs.{Script.{ScriptValue, IsScript, script_text}, ScriptFault.{IsScriptFault}};
 
 /// The text of a script determines the script.
 pub fn one_script()

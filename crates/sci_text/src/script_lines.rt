@@ -1,12 +1,9 @@
 //! Lines of a script, and the whole of its text.
 
 ghost use Rattle.std.specs.Prelude.{◌≡◌, ◌≤◌, ◌⊎◌, ◌++◌, IfOk, IfErr, OnErr, option_map};
-ghost use Rattle.sci_text.specs.declared.fault.TextFaultKind.TheVariants.{Memory};
-ghost use Rattle.sci_text.specs.Reading.{Gives, byte, both};
+ghost use Rattle.sci_text.specs.{declared.fault.TextFaultKind.TheVariants.{Memory}, Reading.{Gives, byte, both}};
 ghost use Rattle.sci_text.specs.ScriptReading.{AddsLine, size_of, machine_line_read, operation_line_read};
-ghost use Rattle.sci_text.specs.Script.{IsScript, machine_line, script_text};
-ghost use Rattle.sci_text.specs.FirstFault.{IsShort};
-ghost use Rattle.sci_text.specs.FirstFault.{IsRefusal};
+ghost use Rattle.sci_text.specs.{Script.{IsScript, machine_line, script_text}, FirstFault.{IsShort, IsRefusal}};
 ghost use Rattle.sci_text.specs.ScriptFault.{IsScriptFault, MachineFault, OperationFault};
 
 use crate::fault::{TextFault, TextFaultKind, at_line};

@@ -1,11 +1,9 @@
 //! Reading a script to its end, and judging it then.
 
-ghost use Rattle.std.specs.Prelude.{◌≡◌, ◌≤◌, false, length, IfOk, OnOk, IfErr, Some};
-ghost use Rattle.std.specs.Io.KnownBytes.{IsAtEnd};
+ghost use Rattle.std.specs.{Prelude.{◌≡◌, ◌≤◌, false, length, IfOk, OnOk, IfErr, Some}, Io.KnownBytes.{IsAtEnd}};
 ghost use Rattle.sci_words.specs.declared.limits.TheConstants.{MAX_INPUT_BYTES};
 ghost use Rattle.sci_text.specs.Tap.{tapped, has_failed, is_called_again};
-ghost use Rattle.sci_text.specs.Script.{ScriptValue, IsScript, script_text};
-ghost use Rattle.sci_text.specs.FirstFault.{AreRead, GivesOnly, IsTold};
+ghost use Rattle.sci_text.specs.{Script.{ScriptValue, IsScript, script_text}, FirstFault.{AreRead, GivesOnly, IsTold}};
 ghost use Rattle.sci_text.specs.ScriptFault.{IsScriptFault};
 
 use crate::fault::TextFault;

@@ -46,9 +46,7 @@ impl<T> Tap<T> {
 }
 
 impl<R: Read> Read for Tap<R> {
-    ghost use Rattle.std.specs.Prelude.{◌≡◌, ◌||◌, is_err};
-    ghost use Rattle.std.specs.Io.{ReadsAtMost};
-    ghost use Rattle.std.specs.Io.KnownBytes.{ReadConsumes};
+    ghost use Rattle.std.specs.{Prelude.{◌≡◌, ◌||◌, is_err}, Io.{ReadsAtMost, KnownBytes.{ReadConsumes}}};
     ghost use Rattle.sci_text.specs.Tap.{tapped, has_failed, is_called_again};
 
     ghost remaining = { λ tap. R.remaining (tapped tap) };
@@ -71,9 +69,7 @@ impl<R: Read> Read for Tap<R> {
 }
 
 impl<W: Write> Write for Tap<W> {
-    ghost use Rattle.std.specs.Prelude.{◌≡◌, ◌||◌, is_err};
-    ghost use Rattle.std.specs.Io.{WritesAtMost};
-    ghost use Rattle.std.specs.Io.KnownBytes.{WriteAppends, Keeps};
+    ghost use Rattle.std.specs.{Prelude.{◌≡◌, ◌||◌, is_err}, Io.{WritesAtMost, KnownBytes.{WriteAppends, Keeps}}};
     ghost use Rattle.sci_text.specs.Tap.{tapped, has_failed, is_called_again, write_fails};
 
     ghost contents = { λ tap. W.contents (tapped tap) };

@@ -1,9 +1,7 @@
 //! Writing a text that was made.
 
-ghost use Rattle.std.specs.Prelude.{◌≡◌, false, IfErr, OnOk};
-ghost use Rattle.std.specs.Io.KnownBytes.{Appends};
-ghost use Rattle.sci_text.specs.Tap.{has_failed, is_called_again, tapped};
-ghost use Rattle.sci_text.specs.Writing.{IsWriteFault};
+ghost use Rattle.std.specs.{Prelude.{◌≡◌, false, IfErr, OnOk}, Io.KnownBytes.{Appends}};
+ghost use Rattle.sci_text.specs.{Tap.{has_failed, is_called_again, tapped}, Writing.{IsWriteFault}};
 
 use crate::fault::{TextFault, TextFaultKind};
 use crate::tap::Tap;

@@ -1,17 +1,12 @@
 -- Shares that go on.
 use Rattle.std.proofs.Common.{◌≡◌, ◌<◌, ℕ, List, All, length, refl, sym, ap, subst, ◌∙◌, inl, inr, Bool, true, IfOk, Result, arith}
+use Rattle.std.proofs.lemmas.{Bool.{cases_eq}, List.{get_or-set_same, get_or-set_other}}
+use Rattle.std.proofs.lemmas.{Option.{get_or_from_slice_get, slice_get-get_or}, Result.{IfOk-weaker}}
 use Rattle.std.specs.Prelude.{slice_index_or, slice_set}
-use Rattle.std.proofs.lemmas.Bool.{cases_eq}
-use Rattle.std.proofs.lemmas.List.{get_or-set_same, get_or-set_other}
-use Rattle.std.proofs.lemmas.Option.{get_or_from_slice_get, slice_get-get_or}
-use Rattle.std.proofs.lemmas.Result.{IfOk-weaker}
 use Rattle.sci_words.specs.declared.operation.Op.{Op}
 use Rattle.sci_history.specs.Sequential.{IsInProgramOrder}
-use Rattle.sci_lanes.specs.Ends.{EndOf}
-use Rattle.sci_lanes.specs.Shown.{me_of}
-use Rattle.sci_drive.specs.declared.driver.Issuing.{Issuing}
-use Rattle.sci_drive.specs.declared.driver.Issuing.TheVariants.{InOrder}
-use Rattle.sci_drive.specs.Driving.{DriverOf}
+use Rattle.sci_lanes.specs.{Ends.{EndOf}, Shown.{me_of}}
+use Rattle.sci_drive.specs.{declared.driver.Issuing.{Issuing, TheVariants.{InOrder}}, Driving.{DriverOf}}
 use Rattle.sci_drive.specs.Script.{IsFrontOf, IsLogOf, IsWholeLogOf}
 use Rattle.sci_drive.proofs.Drives.{log_of, whole_of}
 use Rattle.sci_station.proofs.Stills.{same_itself, same_then}

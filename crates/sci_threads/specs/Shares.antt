@@ -1,22 +1,12 @@
 -- What each node of a machine does of a script.
 use Rattle.std.specs.Prelude.{◌≡◌, ◌<◌, ◌==◌, ℕ, All, Bool, true, List, [], filter, length, map, Result, IfOk, slice_index_or, Vec}
-use Rattle.sci_words.specs.declared.limits.TheConstants.{MAX_OPERATIONS}
-use Rattle.sci_words.specs.declared.operation.Op.{Op}
-use Rattle.sci_words.specs.declared.stamped.Stamped.{Stamped}
-use Rattle.sci_history.specs.declared.entry.Entry.{Entry}
-use Rattle.sci_history.specs.Placed.{log_of}
+use Rattle.sci_words.specs.declared.{limits.TheConstants.{MAX_OPERATIONS}, operation.Op.{Op}, stamped.Stamped.{Stamped}}
+use Rattle.sci_history.specs.{declared.entry.Entry.{Entry}, Placed.{log_of}}
 use Rattle.sci_text.specs.Script.{ScriptValue}
-use Rattle.sci_core.specs.Size.{Size}
-use Rattle.sci_core.specs.Core.{Core}
-use Rattle.sci_core.specs.Outcome.{logs_of}
-use Rattle.sci_core.specs.Sharing.{last_of}
-use Rattle.sci_lanes.specs.Shown.{me_of}
-use Rattle.sci_lanes.specs.Ends.{EndOf}
-use Rattle.sci_lanes.specs.Gathering.{AreMadeBy, IsLedTo}
-use Rattle.sci_drive.specs.declared.driver.Issuing.{Issuing}
-use Rattle.sci_drive.specs.declared.driver.Issuing.TheVariants.{InOrder}
-use Rattle.sci_drive.specs.Driving.{DriverOf, IsDriven, IsInOrder}
-use Rattle.sci_drive.specs.Script.{IsFrontOf, IsLogOf, IsWholeLogOf}
+use Rattle.sci_core.specs.{Size.{Size}, Core.{Core}, Outcome.{logs_of}, Sharing.{last_of}}
+use Rattle.sci_lanes.specs.{Shown.{me_of}, Ends.{EndOf}, Gathering.{AreMadeBy, IsLedTo}}
+use Rattle.sci_drive.specs.declared.driver.Issuing.{Issuing, TheVariants.{InOrder}}
+use Rattle.sci_drive.specs.{Driving.{DriverOf, IsDriven, IsInOrder}, Script.{IsFrontOf, IsLogOf, IsWholeLogOf}}
 use Rattle.sci_station.specs.Ends.{IsSameEnd}
 use Rattle.sci_threads.specs.declared.share.Share.{Share}
 

@@ -2,8 +2,7 @@
 
 ghost use Rattle.std.specs.Prelude.{◌≡◌, IfOk, true, length};
 ghost use Rattle.sci_words.specs.declared.limits.TheConstants.{MAX_OPERATIONS};
-ghost use Rattle.sci_history.specs.Lawful.{Lawful};
-ghost use Rattle.sci_history.specs.Sequential.{AreInProgramOrder, IsSequentiallyConsistent};
+ghost use Rattle.sci_history.specs.{Lawful.{Lawful}, Sequential.{AreInProgramOrder, IsSequentiallyConsistent}};
 ghost use Rattle.sci_core.specs.Outcome.{logs_of};
 ghost use Rattle.sci_lanes.specs.Gathering.{IsLedTo};
 ghost use Rattle.sci_drive.specs.declared.driver.Issuing.TheVariants.{InOrder};

@@ -1,18 +1,16 @@
 -- What comes of an event, as members of an object.
 use Rattle.std.proofs.Common.{◌≡◌, ℕ, Bool, true, false, List, ◌++◌, append_assoc, codes, Option, Some, None, sym, ap, ◌∙◌, refl}
 use Rattle.std.specs.Prelude.{is_none, is_some, not}
-use Rattle.json.specs.Token.{Token}
-use Rattle.json.specs.Written.{Written}
+use Rattle.json.specs.{Token.{Token}, Written.{Written}}
 use Rattle.sci_words.specs.declared.event.Event.{Event}
 use Rattle.sci_history.specs.declared.entry.Entry.{Entry}
-use Rattle.sci_core.specs.declared.obstacle.Obstacle.{Obstacle}
-use Rattle.sci_core.specs.Core.{Core, node_of, stepping}
+use Rattle.sci_core.specs.{declared.obstacle.Obstacle.{Obstacle}, Core.{Core, node_of, stepping}}
 use Rattle.sci_core.specs.Obstacles.{obstacle_to}
 use Rattle.sci_traces.specs.declared.json_event.When.TheVariants.{Before, After}
 use Rattle.sci_traces.specs.JsonMembers.{Adds, text_member, truth_member}
 use Rattle.sci_traces.specs.JsonEvent.{logged_member, moved_members, obstacle_member, obstacle_name, outcome_members, standing_members}
-use Rattle.sci_statistics.specs.About.{line_changed}
 use Rattle.sci_traces.specs.Logged.{entry_logged}
+use Rattle.sci_statistics.specs.About.{line_changed}
 
 adds : (a b c : Written) (t u : List Token) → Adds a b t → Adds b c u → Adds a c (t ++ u)
 adds a b c t u one two = (two.0 ∙ one.0, two.1 ∙ (ap (λ (ts : List Token). ts ++ u) one.1 ∙ append_assoc a.tokens t u))

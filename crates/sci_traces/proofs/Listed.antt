@@ -1,14 +1,9 @@
 -- Lists behind events, one after another.
-use Rattle.std.proofs.Common.{◌≡◌, ◌<◌, ◌≤◌, ℕ, ◌+◌, ◌%◌, List, [], ◌++◌, codes, length, drop, get_or, Option, Some, None, append_assoc, sym, ap, ◌∙◌, subst}
-use Rattle.std.proofs.Common.{refl}
-use Rattle.std.specs.Prelude.{IfSome}
-use Rattle.std.specs.List.{flat_map}
-use Rattle.std.proofs.lemmas.List.{append-nil, drop_all, drop_more}
-use Rattle.sci_words.specs.declared.event.Event.{Event}
-use Rattle.sci_words.specs.declared.stamped.Stamped.{Stamped}
-use Rattle.sci_core.specs.Core.{Core, step, stepping}
-use Rattle.sci_core.specs.Shape.{IsAuthority}
-use Rattle.sci_core.specs.Sharing.{last_at}
+use Rattle.std.proofs.Common.{◌≡◌, ◌<◌, ◌≤◌, ℕ, ◌+◌, ◌%◌, List, [], ◌++◌, codes, length, drop, get_or, Option, Some, None, append_assoc, sym, ap, ◌∙◌}
+use Rattle.std.proofs.{Common.{subst, refl}, lemmas.List.{append-nil, drop_all, drop_more}}
+use Rattle.std.specs.{Prelude.{IfSome}, List.{flat_map}}
+use Rattle.sci_words.specs.declared.{event.Event.{Event}, stamped.Stamped.{Stamped}}
+use Rattle.sci_core.specs.{Core.{Core, step, stepping}, Shape.{IsAuthority}, Sharing.{last_at}}
 use Rattle.sci_core.specs.SharingList.{IsSharingList}
 use Rattle.sci_traces.specs.ListsAnswer.{AreListed, IsAuthorityOf, IsListLine, IsListed, authority_text, home_name_text, last_text, listed_line, list_text}
 use Rattle.sci_traces.specs.ListsAnswer.{member_text, place_text}

@@ -1,13 +1,9 @@
 -- The packets of a schedule, sent one after another.
 use Rattle.std.proofs.Common.{◌≡◌, ◌<◌, ℕ, ◌+◌, List, ◌++◌, length, map, drop, get_or, Option, Some, None, append_assoc, sym, ap, ◌∙◌}
-use Rattle.std.specs.Prelude.{option_map}
-use Rattle.std.specs.List.{flat_map}
-use Rattle.std.specs.Option.{option_to_list}
-use Rattle.std.proofs.lemmas.List.{drop_more, map-append}
-use Rattle.std.proofs.lemmas.List.Concat.{flat_map-append}
+use Rattle.std.proofs.lemmas.List.{drop_more, map-append, Concat.{flat_map-append}}
+use Rattle.std.specs.{Prelude.{option_map}, List.{flat_map}, Option.{option_to_list}}
 use Rattle.sci_words.specs.declared.event.Event.{Event}
-use Rattle.sci_packets.specs.declared.packet.Packet.{Packet}
-use Rattle.sci_packets.specs.Spelling.{spelling}
+use Rattle.sci_packets.specs.{declared.packet.Packet.{Packet}, Spelling.{spelling}}
 use Rattle.sci_cache.specs.Cache.{Letter, letter_of}
 use Rattle.sci_core.specs.Core.{Core, step}
 use Rattle.sci_statistics.specs.About.{letter_sent}

@@ -1,12 +1,10 @@
 -- A trace, one event after another.
-use Rattle.std.proofs.Common.{◌≡◌, ◌<◌, ℕ, ◌+◌, List, [], ◌∷◌, ◌++◌, length, drop, get_or, Bool, true, false, Option, Some, None, append_assoc, sym, ap, ◌∙◌}
-use Rattle.std.proofs.Common.{refl, subst}
+use Rattle.std.proofs.Common.{◌≡◌, ◌<◌, ℕ, ◌+◌, List, [], ◌∷◌, ◌++◌, length, drop, get_or, Bool, true, false, Option, Some, None, append_assoc, sym, ap}
+use Rattle.std.proofs.{Common.{◌∙◌, refl, subst}, lemmas.List.{drop_more, append-nil}}
 use Rattle.std.specs.Prelude.{◌&&◌, not, is_some, is_none, if◌then◌else◌}
-use Rattle.std.proofs.lemmas.List.{drop_more, append-nil}
 use Rattle.sci_words.specs.declared.event.Event.{Event}
 use Rattle.sci_core.specs.Core.{Core, step, stepping}
-use Rattle.sci_command.specs.declared.outcome.Outcome.{Outcome}
-use Rattle.sci_command.specs.declared.outcome.Outcome.TheVariants.{Unlawful}
+use Rattle.sci_command.specs.declared.outcome.Outcome.{Outcome, TheVariants.{Unlawful}}
 use Rattle.sci_traces.specs.declared.tracing.TraceRequest.{TraceRequest}
 use Rattle.sci_traces.specs.TraceAnswer.{is_end, is_traced, shown_text, trace_text, trace_outcome}
 

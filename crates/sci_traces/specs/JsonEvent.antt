@@ -1,25 +1,21 @@
 -- What an event does, as a JSON object.
 use Rattle.std.specs.Prelude.{ℕ, true, false, List, [], ◌∷◌, ◌++◌, codes, Option, Some, None}
-use Rattle.json.specs.Token.{Token, begin_object, end_object}
-use Rattle.json.specs.Print.{print}
-use Rattle.sci_words.specs.declared.event.Event.{Event}
-use Rattle.sci_words.specs.declared.event.Event.TheVariants as event
+use Rattle.json.specs.{Token.{Token, begin_object, end_object}, Print.{print}}
+use Rattle.sci_words.specs.{declared.event.Event.{Event}, Event.{kind_word}}
 use Rattle.sci_history.specs.declared.entry.Entry.{Entry}
 use Rattle.sci_cache.specs.Cache.{Letter}
 use Rattle.sci_core.specs.declared.obstacle.Obstacle.{Obstacle}
-use Rattle.sci_core.specs.declared.obstacle.Obstacle.TheVariants.{NoSuchNode, NoSuchSender, NoSuchLine, NoSuchWord, AlreadyPending, NoIssueLeft, NothingPending}
-use Rattle.sci_core.specs.declared.obstacle.Obstacle.TheVariants.{NotAllowed, NotAsked, NoSlot, NothingUnderWay, AnswerWaits, SetbackComes, NoAnswerWaits}
-use Rattle.sci_core.specs.Core.{Core, node_of, stepping}
+use Rattle.sci_core.specs.declared.obstacle.Obstacle.TheVariants.{NoSuchNode, NoSuchSender, NoSuchLine, NoSuchWord, AlreadyPending, NoIssueLeft}
+use Rattle.sci_core.specs.declared.obstacle.Obstacle.TheVariants.{NothingPending, NotAllowed, NotAsked, NoSlot, NothingUnderWay, AnswerWaits, SetbackComes}
+use Rattle.sci_core.specs.{declared.obstacle.Obstacle.TheVariants.{NoAnswerWaits}, Core.{Core, node_of, stepping}}
 use Rattle.sci_core.specs.Obstacles.{obstacle_to}
-use Rattle.sci_words.specs.Event.{kind_word}
 use Rattle.sci_text.specs.Schedule.{event_word}
 use Rattle.sci_traces.specs.JsonMembers.{number_member, object_member, text_member, truth_member}
 use Rattle.sci_traces.specs.JsonParts.{entry_members, home_members, operation_members, packet_members, state_members}
-use Rattle.sci_traces.specs.declared.json_event.When.{When}
-use Rattle.sci_traces.specs.declared.json_event.When.TheVariants.{Before, After}
-use Rattle.sci_statistics.specs.About.{letter_sent, letter_taken, line_changed}
-use Rattle.sci_traces.specs.Logged.{entry_logged}
+use Rattle.sci_traces.specs.{declared.json_event.When.{When, TheVariants.{Before, After}}, Logged.{entry_logged}}
 use Rattle.sci_traces.specs.Standing.{cache_at, home_at, said}
+use Rattle.sci_statistics.specs.About.{letter_sent, letter_taken, line_changed}
+use Rattle.sci_words.specs.declared.event.Event.TheVariants as event
 
 -- the sender and the node of an event that takes a packet
 unfoldable pub taking_members : ℕ → ℕ → List Token

@@ -1,13 +1,9 @@
 -- Packets, states, operations and entries as members of JSON objects.
 use Rattle.std.specs.Prelude.{ℕ, List, [], ◌++◌, codes, Option, Some, None}
 use Rattle.json.specs.Token.{Token}
-use Rattle.sci_words.specs.declared.operation.Act.{Act}
-use Rattle.sci_words.specs.declared.operation.Act.TheVariants.{Load, Store, Lock}
-use Rattle.sci_words.specs.declared.operation.LockOp.{LockOp}
+use Rattle.sci_words.specs.declared.operation.{Act.{Act, TheVariants.{Load, Store, Lock}}, LockOp.{LockOp}}
 use Rattle.sci_words.specs.declared.operation.LockOp.TheVariants.{MaskSwap, CompareSwap, FetchAdd, BoundedAdd, WrapAdd}
-use Rattle.sci_words.specs.declared.operation.Op.{Op}
-use Rattle.sci_words.specs.declared.operation.Reply.{Reply}
-use Rattle.sci_words.specs.declared.operation.Reply.TheVariants.{Stored, Got}
+use Rattle.sci_words.specs.declared.operation.{Op.{Op}, Reply.{Reply, TheVariants.{Stored, Got}}}
 use Rattle.sci_words.specs.declared.stamped.Stamped.{Stamped}
 use Rattle.sci_packets.specs.declared.body.Body.{Body}
 use Rattle.sci_packets.specs.declared.body.Body.TheVariants.{Roll, Wback, Setback, Mdata, Mgone, Cdata, Purged, Fdata}
@@ -15,8 +11,7 @@ use Rattle.sci_packets.specs.Table.{command_name, command_of}
 use Rattle.sci_history.specs.declared.entry.Entry.{Entry}
 use Rattle.sci_cache.specs.Cache.{Letter}
 use Rattle.sci_cache.specs.State.{CacheState, backward_of, contents_of, forward_of, is_sent, state_name}
-use Rattle.sci_home.specs.declared.state.HomeState.{HomeState}
-use Rattle.sci_home.specs.Serving.{current_of, head_of, home_name}
+use Rattle.sci_home.specs.{declared.state.HomeState.{HomeState}, Serving.{current_of, head_of, home_name}}
 use Rattle.sci_text.specs.Operation.{act_word}
 use Rattle.sci_traces.specs.JsonMembers.{flag_member, null_member, number_member, optional_member, text_member, word_member, words_member}
 

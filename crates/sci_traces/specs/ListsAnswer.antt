@@ -1,22 +1,15 @@
 -- What `lists` writes for its input.
 use Rattle.std.specs.Prelude.{◌≡◌, ℕ, ◌+◌, ◌%◌, ◌<◌, nat_lt, Bool, List, [], ◌∷◌, ◌++◌, codes, Option, Some, None, if◌then◌else◌}
 use Rattle.std.specs.List.{flat_map}
-use Rattle.sci_words.specs.declared.stamped.Stamped.{Stamped}
-use Rattle.sci_words.specs.declared.event.Event.{Event}
+use Rattle.sci_words.specs.declared.{stamped.Stamped.{Stamped}, event.Event.{Event}}
 use Rattle.sci_cache.specs.State.{state_name}
-use Rattle.sci_core.specs.Core.{Core, step, stepping}
-use Rattle.sci_core.specs.Shape.{IsAuthority}
-use Rattle.sci_core.specs.Sharing.{last_at}
+use Rattle.sci_core.specs.{Core.{Core, step, stepping}, Shape.{IsAuthority}, Sharing.{last_at}}
 use Rattle.sci_core.specs.SharingList.{IsSharingList}
 use Rattle.sci_home.specs.Serving.{home_name}
-use Rattle.sci_statistics.specs.About.{line_changed}
-use Rattle.sci_text.specs.Number.{number, field}
-use Rattle.sci_text.specs.Schedule.{ScheduleValue, IsSchedule, schedule_text}
-use Rattle.sci_command.specs.declared.outcome.Outcome.{Outcome}
-use Rattle.sci_command.specs.Answer.{IsDoneBy}
-use Rattle.sci_command.specs.PacketLine.{contents_text}
+use Rattle.sci_statistics.specs.{About.{line_changed}, Beginning.{before}}
+use Rattle.sci_text.specs.{Number.{number, field}, Schedule.{ScheduleValue, IsSchedule, schedule_text}}
+use Rattle.sci_command.specs.{declared.outcome.Outcome.{Outcome}, Answer.{IsDoneBy}, PacketLine.{contents_text}}
 use Rattle.sci_command.specs.AskedLine.{HasLine, IsAskedFault, is_asked}
-use Rattle.sci_statistics.specs.Beginning.{before}
 use Rattle.sci_traces.specs.Standing.{cache_at, home_at, said}
 
 -- the line that an event may change, if the machine has it

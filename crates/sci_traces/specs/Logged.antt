@@ -1,9 +1,9 @@
 -- The entry that an event has put at the end of a log.
 use Rattle.std.specs.Prelude.{ℕ, ◌-◌, nat_lt, length, slice_get, Option, None, if◌then◌else◌}
 use Rattle.sci_words.specs.declared.event.Event.{Event}
-use Rattle.sci_words.specs.declared.event.Event.TheVariants as event
 use Rattle.sci_history.specs.declared.entry.Entry.{Entry}
 use Rattle.sci_core.specs.Core.{Core, node_at}
+use Rattle.sci_words.specs.declared.event.Event.TheVariants as event
 
 -- the last entry of a node's log
 abbrev pub last_entry : Core → ℕ → Option Entry

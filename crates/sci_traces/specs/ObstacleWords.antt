@@ -1,14 +1,12 @@
 -- Why an event isn't enabled, in words.
 use Rattle.std.specs.Prelude.{ℕ, List, [], ◌++◌, codes}
-use Rattle.sci_words.specs.declared.event.Event.{Event}
-use Rattle.sci_words.specs.declared.event.Event.TheVariants as event
+use Rattle.sci_words.specs.{declared.event.Event.{Event}, Event.{kind_word}}
 use Rattle.sci_core.specs.declared.obstacle.Obstacle.{Obstacle}
-use Rattle.sci_core.specs.declared.obstacle.Obstacle.TheVariants.{NoSuchNode, NoSuchSender, NoSuchLine, NoSuchWord, AlreadyPending, NoIssueLeft, NothingPending}
-use Rattle.sci_core.specs.declared.obstacle.Obstacle.TheVariants.{NotAllowed, NotAsked, NoSlot, NothingUnderWay, AnswerWaits, SetbackComes, NoAnswerWaits}
-use Rattle.sci_core.specs.Core.{node_of}
-use Rattle.sci_text.specs.Number.{field}
-use Rattle.sci_words.specs.Event.{kind_word}
-use Rattle.sci_text.specs.Schedule.{first_node}
+use Rattle.sci_core.specs.declared.obstacle.Obstacle.TheVariants.{NoSuchNode, NoSuchSender, NoSuchLine, NoSuchWord, AlreadyPending, NoIssueLeft}
+use Rattle.sci_core.specs.declared.obstacle.Obstacle.TheVariants.{NothingPending, NotAllowed, NotAsked, NoSlot, NothingUnderWay, AnswerWaits, SetbackComes}
+use Rattle.sci_core.specs.{declared.obstacle.Obstacle.TheVariants.{NoAnswerWaits}, Core.{node_of}}
+use Rattle.sci_text.specs.{Number.{field}, Schedule.{first_node}}
+use Rattle.sci_words.specs.declared.event.Event.TheVariants as event
 
 -- the line that an Issue, a Perform or an Ask names
 unfoldable pub line_named : Event → ℕ

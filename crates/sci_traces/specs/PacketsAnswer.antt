@@ -1,19 +1,14 @@
 -- What `packets` writes for its input.
-use Rattle.std.specs.Prelude.{◌≡◌, ℕ, Bool, List, [], ◌∷◌, ◌++◌, map, Option}
-use Rattle.std.specs.List.{flat_map}
+use Rattle.std.specs.{Prelude.{◌≡◌, ℕ, Bool, List, [], ◌∷◌, ◌++◌, map, Option}, List.{flat_map}}
 use Rattle.std.specs.Option.{option_to_list}
 use Rattle.sci_words.specs.declared.event.Event.{Event}
-use Rattle.sci_packets.specs.declared.packet.Packet.{Packet}
-use Rattle.sci_packets.specs.Spelling.{spelling}
+use Rattle.sci_packets.specs.{declared.packet.Packet.{Packet}, Spelling.{spelling}}
 use Rattle.sci_cache.specs.Cache.{Letter, letter_of}
 use Rattle.sci_core.specs.Core.{Core, step}
-use Rattle.sci_statistics.specs.About.{letter_sent}
-use Rattle.sci_statistics.specs.Beginning.{before}
-use Rattle.sci_text.specs.Schedule.{ScheduleValue, IsSchedule, schedule_text}
-use Rattle.sci_text.specs.FirstFault.{IsTold}
+use Rattle.sci_statistics.specs.{About.{letter_sent}, Beginning.{before}}
+use Rattle.sci_text.specs.{Schedule.{ScheduleValue, IsSchedule, schedule_text}, FirstFault.{IsTold}}
 use Rattle.sci_text.specs.ScheduleFault.{IsScheduleFault}
-use Rattle.sci_command.specs.declared.outcome.Outcome.{Outcome}
-use Rattle.sci_command.specs.Answer.{IsDoneBy}
+use Rattle.sci_command.specs.{declared.outcome.Outcome.{Outcome}, Answer.{IsDoneBy}}
 
 -- the packets that events send from a state on, one event after another
 abbrev pub letters_sent : Core → List Event → List Letter

@@ -1,9 +1,7 @@
 -- The states of a line at a node.
 use Rattle.std.specs.Prelude.{◌==◌, ◌%◌, ◌&&◌, nat_lt, ℕ, List, [], Option, Some, None, if◌then◌else◌}
-use Rattle.sci_cache.specs.Cache.{line_of}
-use Rattle.sci_cache.specs.State.{CacheState}
-use Rattle.sci_core.specs.Core.{Core, node_at}
-use Rattle.sci_core.specs.Node.{home_of, lines_of}
+use Rattle.sci_cache.specs.{Cache.{line_of}, State.{CacheState}}
+use Rattle.sci_core.specs.{Core.{Core, node_at}, Node.{home_of, lines_of}}
 use Rattle.sci_home.specs.declared.state.HomeState.{HomeState}
 
 -- its state in the node's cache; none if there is no such node or line

@@ -2,8 +2,7 @@
 use Rattle.std.specs.Prelude.{ℕ, Bool, List, [], ◌++◌, codes, Option, Some, None, if◌then◌else◌}
 use Rattle.sci_words.specs.declared.stamped.Stamped.{Stamped}
 use Rattle.sci_cache.specs.State.{CacheState, backward_of, contents_of, forward_of, is_sent, state_name}
-use Rattle.sci_home.specs.declared.state.HomeState.{HomeState}
-use Rattle.sci_home.specs.Serving.{current_of, head_of, home_name}
+use Rattle.sci_home.specs.{declared.state.HomeState.{HomeState}, Serving.{current_of, head_of, home_name}}
 use Rattle.sci_text.specs.Number.{number, field}
 
 -- a label and a node, if there is one

@@ -1,27 +1,17 @@
 -- What `trace` writes for its input.
-use Rattle.std.specs.Prelude.{◌≡◌, ℕ, ◌+◌, Bool, ◌&&◌, List, [], ◌∷◌, ◌++◌, codes, bytes_eq, Option, Some, None}
-use Rattle.std.specs.Prelude.{is_none, if◌then◌else◌}
+use Rattle.std.specs.Prelude.{◌≡◌, ℕ, ◌+◌, Bool, ◌&&◌, List, [], ◌∷◌, ◌++◌, codes, bytes_eq, Option, Some, None, is_none, if◌then◌else◌}
 use Rattle.sci_words.specs.declared.event.Event.{Event}
 use Rattle.sci_history.specs.declared.entry.Entry.{Entry}
 use Rattle.sci_cache.specs.Cache.{Letter}
-use Rattle.sci_core.specs.declared.obstacle.Obstacle.{Obstacle}
-use Rattle.sci_core.specs.Core.{Core, node_of, step, stepping}
+use Rattle.sci_core.specs.{declared.obstacle.Obstacle.{Obstacle}, Core.{Core, node_of, step, stepping}}
 use Rattle.sci_core.specs.Obstacles.{obstacle_to}
-use Rattle.sci_statistics.specs.About.{letter_sent, letter_taken, line_about, line_changed}
-use Rattle.sci_text.specs.Number.{number, field}
-use Rattle.sci_text.specs.Log.{issue_text, outcome_text}
+use Rattle.sci_statistics.specs.{About.{letter_sent, letter_taken, line_about, line_changed}, Beginning.{before}}
+use Rattle.sci_text.specs.{Number.{number, field}, Log.{issue_text, outcome_text}}
 use Rattle.sci_text.specs.Schedule.{ScheduleValue, IsSchedule, event_line, schedule_text}
-use Rattle.sci_command.specs.declared.outcome.Outcome.{Outcome}
-use Rattle.sci_command.specs.declared.outcome.Outcome.TheVariants.{Done, Unlawful}
-use Rattle.sci_command.specs.Answer.{IsAnswerBy}
-use Rattle.sci_command.specs.PacketLine.{line_of_packet}
-use Rattle.sci_traces.specs.declared.tracing.TraceRequest.{TraceRequest}
-use Rattle.sci_command.specs.AskedLine.{HasLine, IsAskedFault, is_asked}
-use Rattle.sci_traces.specs.JsonEvent.{json_line}
-use Rattle.sci_traces.specs.Logged.{entry_logged}
-use Rattle.sci_statistics.specs.Beginning.{before}
-use Rattle.sci_traces.specs.Standing.{cache_at, home_at, said}
-use Rattle.sci_traces.specs.StateWords.{state_text, home_text}
+use Rattle.sci_command.specs.{declared.outcome.Outcome.{Outcome, TheVariants.{Done, Unlawful}}, Answer.{IsAnswerBy}}
+use Rattle.sci_command.specs.{PacketLine.{line_of_packet}, AskedLine.{HasLine, IsAskedFault, is_asked}}
+use Rattle.sci_traces.specs.{declared.tracing.TraceRequest.{TraceRequest}, JsonEvent.{json_line}, Logged.{entry_logged}}
+use Rattle.sci_traces.specs.{Standing.{cache_at, home_at, said}, StateWords.{state_text, home_text}}
 use Rattle.sci_traces.specs.ObstacleWords.{line_named, obstacle_words}
 
 -- ---- packets

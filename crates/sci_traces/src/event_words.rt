@@ -4,7 +4,8 @@ ghost use Rattle.std.specs.Prelude.{◌≡◌, ◌++◌, IfOk, OnOk, is_some, op
 ghost use Rattle.sci_cache.specs.Cache.{letter_of};
 ghost use Rattle.sci_core.specs.Core.{step, stepping};
 ghost use Rattle.sci_traces.specs.Logged.{entry_logged, last_entry as last_entry_of};
-ghost use Rattle.sci_traces.specs.TraceAnswer.{arrow_text, cache_label, cache_on, cache_text, change_text, changes_text, entry_text, event_text, home_label, home_on, home_words as home_words_of, moved_text, outcome_of, reason_line, reason_text};
+ghost use Rattle.sci_traces.specs.TraceAnswer.{arrow_text, cache_label, cache_on, cache_text, change_text, changes_text, entry_text, event_text};
+ghost use Rattle.sci_traces.specs.TraceAnswer.{home_label, home_on, home_words as home_words_of, moved_text, outcome_of, reason_line, reason_text};
 
 use crate::node_states::{held_at, home_at};
 use crate::obstacle_words::{line_named, push_obstacle};

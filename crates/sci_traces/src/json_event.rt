@@ -3,9 +3,10 @@
 ghost use Rattle.std.specs.Prelude.{◌≡◌, ◌++◌, IfOk, OnOk, is_some, option_map};
 ghost use Rattle.sci_cache.specs.Cache.{letter_of};
 ghost use Rattle.sci_core.specs.Core.{step, stepping};
-ghost use Rattle.sci_traces.specs.JsonMembers.{Adds};
-ghost use Rattle.sci_traces.specs.declared.json_event.When.{When};
-ghost use Rattle.sci_traces.specs.JsonEvent.{cache_member, cache_name, home_member, home_name, json_line, logged_member, moved_members, naming_members, obstacle_name as name_of_obstacle, outcome_members, packet_member, part_members, standing_members, taking_members};
+ghost use Rattle.sci_traces.specs.{JsonMembers.{Adds}, declared.json_event.When.{When}};
+ghost use Rattle.sci_traces.specs.JsonEvent.{cache_member, cache_name, home_member, home_name, json_line, logged_member, moved_members, naming_members};
+ghost use Rattle.sci_traces.specs.JsonEvent.{obstacle_name as name_of_obstacle, outcome_members, packet_member, part_members, standing_members};
+ghost use Rattle.sci_traces.specs.JsonEvent.{taking_members};
 
 use crate::event_words::entry_of;
 use crate::json_members::{write_number, write_text, write_truth};

@@ -1,7 +1,8 @@
 //! The members of JSON objects.
 
 ghost use Rattle.std.specs.Prelude.{◌≡◌, ◌++◌, OnOk};
-ghost use Rattle.sci_traces.specs.JsonMembers.{Adds, flag_member, null_member, number_member, optional_member, text_member, truth_member, word_member, words_member};
+ghost use Rattle.sci_traces.specs.JsonMembers.{Adds, flag_member, null_member, number_member, optional_member, text_member, truth_member, word_member};
+ghost use Rattle.sci_traces.specs.JsonMembers.{words_member};
 
 use json::Writer;
 use sci_words::{Line, Word};

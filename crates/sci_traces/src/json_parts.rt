@@ -1,10 +1,11 @@
 //! Packets, states, operations and entries as members of JSON objects.
 
 ghost use Rattle.std.specs.Prelude.{◌≡◌, ◌++◌, OnOk};
-ghost use Rattle.sci_cache.specs.Cache.{letter_of};
-ghost use Rattle.sci_cache.specs.Held.{state_of};
+ghost use Rattle.sci_cache.specs.{Cache.{letter_of}, Held.{state_of}};
 ghost use Rattle.sci_traces.specs.JsonMembers.{Adds, optional_member};
-ghost use Rattle.sci_traces.specs.JsonParts.{both_members, contents_members, entry_members, home_members, identifier_members, lock_members, operand_members, operation_members, packet_members, reply_member, said_members, state_members, version_member};
+ghost use Rattle.sci_traces.specs.JsonParts.{both_members, contents_members, entry_members, home_members, identifier_members, lock_members};
+ghost use Rattle.sci_traces.specs.JsonParts.{operand_members, operation_members, packet_members, reply_member, said_members, state_members};
+ghost use Rattle.sci_traces.specs.JsonParts.{version_member};
 
 use crate::json_members::{
     write_flag, write_null, write_number, write_text, write_word, write_words,

@@ -2,7 +2,9 @@
 
 ghost use Rattle.std.specs.Prelude.{◌≡◌, ◌++◌, OnOk};
 ghost use Rattle.sci_text.specs.Schedule.{first_node};
-ghost use Rattle.sci_traces.specs.ObstacleWords.{lacking_words, line_named as line_named_of, node_line_words, node_words, obstacle_words, packet_wanted as packet_wanted_of, state_words, unasked_words, waiting_words, word_asked as word_asked_of};
+ghost use Rattle.sci_traces.specs.ObstacleWords.{lacking_words, line_named as line_named_of, node_line_words, node_words, obstacle_words};
+ghost use Rattle.sci_traces.specs.ObstacleWords.{packet_wanted as packet_wanted_of, state_words, unasked_words, waiting_words};
+ghost use Rattle.sci_traces.specs.ObstacleWords.{word_asked as word_asked_of};
 
 use sci_command::push_labelled;
 use sci_core::{Obstacle, node_of};

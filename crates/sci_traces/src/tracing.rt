@@ -3,9 +3,7 @@
 ghost use Rattle.std.specs.Prelude.{◌≡◌, ◌++◌, ◌&&◌, not, false, is_some, IfOk, OnOk};
 ghost use Rattle.sci_text.specs.Tap.{has_failed};
 ghost use Rattle.sci_core.specs.Core.{step, stepping};
-ghost use Rattle.sci_command.specs.Answer.{HasAnswered};
-ghost use Rattle.sci_command.specs.declared.outcome.Outcome.{Outcome};
-ghost use Rattle.sci_command.specs.AskedLine.{IsAskedFault};
+ghost use Rattle.sci_command.specs.{Answer.{HasAnswered}, declared.outcome.Outcome.{Outcome}, AskedLine.{IsAskedFault}};
 ghost use Rattle.sci_traces.specs.TraceAnswer.{is_traced as is_traced_of, IsTrace, IsTraceAnswer, shown_text};
 
 use crate::event_words::push_event;

@@ -1,20 +1,15 @@
 -- How often a turn asks.
 use Rattle.std.proofs.Common.{◌≡◌, ◌≤◌, ◌+◌, ℕ, arith, List, [], ◌∷◌, ◌++◌, Some, refl, sym, ap, subst, ◌∙◌, inl, inr}
-use Rattle.std.specs.Prelude.{IfSome, count_by}
 use Rattle.std.proofs.lemmas.List.Sums.{fold_push}
-use Rattle.sci_words.specs.declared.event.AskKind.{AskKind}
-use Rattle.sci_words.specs.declared.event.Event.{Event}
-use Rattle.sci_words.specs.declared.event.Event.TheVariants as event
+use Rattle.std.specs.Prelude.{IfSome, count_by}
+use Rattle.sci_words.specs.declared.event.{AskKind.{AskKind}, Event.{Event}}
 use Rattle.sci_core.specs.Core.{node_at}
-use Rattle.sci_policy.specs.declared.progress.Progress.{Progress}
-use Rattle.sci_policy.specs.declared.want.Want.TheVariants.{Ask}
-use Rattle.sci_policy.specs.Policy.{PolicyOf, next_policy, next_wanted}
-use Rattle.sci_policy.specs.Turn.{is_ask}
-use Rattle.sci_turn.specs.Posts.{PostOf, node_in}
-use Rattle.sci_turn.specs.Moves.{HasMoved, IsAsked, IsOwn, own_of}
-use Rattle.sci_turn.specs.Idle.{IsHeldUp}
+use Rattle.sci_policy.specs.declared.{progress.Progress.{Progress}, want.Want.TheVariants.{Ask}}
+use Rattle.sci_policy.specs.{Policy.{PolicyOf, next_policy, next_wanted}, Turn.{is_ask}}
+use Rattle.sci_turn.specs.{Posts.{PostOf, node_in}, Moves.{HasMoved, IsAsked, IsOwn, own_of}, Idle.{IsHeldUp}}
 use Rattle.sci_turn.specs.Far.{HasAskedAll}
 use Rattle.sci_turn.proofs.Turns.{moved_more, moved_still}
+use Rattle.sci_words.specs.declared.event.Event.TheVariants as event
 
 -- so many asks at least since some turn came so far
 abbrev pub AsksSo : ℕ → PolicyOf → PostOf → PolicyOf → PostOf → Progress → Progress → Type 0

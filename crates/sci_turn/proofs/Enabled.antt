@@ -1,26 +1,19 @@
 -- What a node can do at its post.
 use Rattle.std.proofs.Common.{◌≡◌, ◌<◌, ℕ, false, List, ◌∷◌, Option, Some, None, refl, sym, ap, subst, ◌∙◌}
 use Rattle.std.specs.Prelude.{IsSome, option_map}
-use Rattle.sci_words.specs.declared.event.AskKind.{AskKind}
-use Rattle.sci_words.specs.declared.event.Event.{Event}
-use Rattle.sci_words.specs.declared.event.Event.TheVariants as event
+use Rattle.sci_words.specs.declared.event.{AskKind.{AskKind}, Event.{Event}}
 use Rattle.sci_cache.specs.Cache.{Letter}
-use Rattle.sci_core.specs.declared.lane.LaneKind.{LaneKind}
-use Rattle.sci_core.specs.declared.lane.LaneKind.TheVariants.{Answers, Requests}
+use Rattle.sci_core.specs.declared.lane.LaneKind.{LaneKind, TheVariants.{Answers, Requests}}
 use Rattle.sci_core.specs.Core.{Core, IsEnabled, Takes, lane_of, node_at, node_of, sends, sent_by, side}
 use Rattle.sci_core.specs.Node.{NodeOf, is_setback, node_accepting, node_asking, node_refusing, node_serving}
 use Rattle.sci_core.specs.Sides.{TakesFront, taken_to}
-use Rattle.sci_core.proofs.Tidy.Enabled.{accept_enabled, request_enabled}
-use Rattle.sci_core.proofs.Basics.Options.{same_some, map_some, found}
-use Rattle.sci_core.proofs.Step.Applied.{waits_replying}
-use Rattle.sci_core.proofs.Step.Sides.{steps_by_sides}
-use Rattle.sci_policy.specs.declared.decision.Decision.{Decision}
-use Rattle.sci_policy.specs.declared.decision.Decision.TheVariants as decision
-use Rattle.sci_policy.specs.Policy.{PolicyOf, decided}
-use Rattle.sci_policy.specs.Turn.{decided_event}
-use Rattle.sci_policy.proofs.Deciding.{refuses_no_setback}
-use Rattle.sci_policy.proofs.Targets.{asked_target, waiting_target}
+use Rattle.sci_core.proofs.{Tidy.Enabled.{accept_enabled, request_enabled}, Basics.Options.{same_some, map_some, found}}
+use Rattle.sci_core.proofs.Step.{Applied.{waits_replying}, Sides.{steps_by_sides}}
+use Rattle.sci_policy.specs.{declared.decision.Decision.{Decision}, Policy.{PolicyOf, decided}, Turn.{decided_event}}
+use Rattle.sci_policy.proofs.{Deciding.{refuses_no_setback}, Targets.{asked_target, waiting_target}}
 use Rattle.sci_turn.specs.Posts.{IsFront, IsPost, MaySend, MayTake, PostOf, node_in, nodes_in}
+use Rattle.sci_words.specs.declared.event.Event.TheVariants as event
+use Rattle.sci_policy.specs.declared.decision.Decision.TheVariants as decision
 
 front_taken : (core : Core) (n from : ℕ) (kind : LaneKind) (taking : NodeOf → Letter → Option NodeOf) (e : Event) (letter : Letter) (rest : List Letter)
     → TakesFront core n kind taking from e → lane_of core kind from n ≡ letter ∷ rest → IsSome (taking (node_at core n) letter) → IsEnabled core e

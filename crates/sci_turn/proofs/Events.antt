@@ -1,23 +1,16 @@
 -- The events of a turn, each made and counted.
 use Rattle.std.proofs.Common.{◌≡◌, ℕ, List, [], ◌∷◌, ◌++◌, Some, None, refl, sym, ap, subst, ◌∙◌}
-use Rattle.sci_words.specs.declared.event.AskKind.{AskKind}
-use Rattle.sci_words.specs.declared.event.Event.{Event}
-use Rattle.sci_words.specs.declared.event.Event.TheVariants as event
+use Rattle.sci_words.specs.declared.event.{AskKind.{AskKind}, Event.{Event}}
 use Rattle.sci_cache.specs.Cache.{Letter}
-use Rattle.sci_core.specs.declared.lane.LaneKind.TheVariants.{Answers, Requests}
-use Rattle.sci_core.specs.Core.{Core, node_at}
-use Rattle.sci_core.specs.Node.{NodeOf}
+use Rattle.sci_core.specs.{declared.lane.LaneKind.TheVariants.{Answers, Requests}, Core.{Core, node_at}, Node.{NodeOf}}
 use Rattle.sci_core.proofs.Basics.Options.{same_some}
-use Rattle.sci_policy.specs.declared.decision.Decision.{Decision}
-use Rattle.sci_policy.specs.declared.decision.Decision.TheVariants as decision
-use Rattle.sci_policy.specs.declared.progress.Progress.{Progress}
-use Rattle.sci_policy.specs.declared.want.Want.TheVariants.{Ask}
-use Rattle.sci_policy.specs.Policy.{PolicyOf, decided, next_policy, next_wanted}
+use Rattle.sci_policy.specs.declared.{decision.Decision.{Decision}, progress.Progress.{Progress}}
+use Rattle.sci_policy.specs.{declared.want.Want.TheVariants.{Ask}, Policy.{PolicyOf, decided, next_policy, next_wanted}}
 use Rattle.sci_policy.specs.Turn.{Counts, IsTurnEvent, counted, decided_event}
-use Rattle.sci_turn.specs.Posts.{IsMade, IsTaken, PostOf, node_in}
-use Rattle.sci_turn.specs.Moves.{Decides, GoesOn, IsAsked, taken_next}
-use Rattle.sci_turn.proofs.Moments.{taken_event}
-use Rattle.sci_turn.proofs.Turns.{goes_made}
+use Rattle.sci_turn.specs.{Posts.{IsMade, IsTaken, PostOf, node_in}, Moves.{Decides, GoesOn, IsAsked, taken_next}}
+use Rattle.sci_turn.proofs.{Moments.{taken_event}, Turns.{goes_made}}
+use Rattle.sci_words.specs.declared.event.Event.TheVariants as event
+use Rattle.sci_policy.specs.declared.decision.Decision.TheVariants as decision
 
 pub goes_accepted : (policy : PolicyOf) (old new : PostOf) (n from : ℕ) (letter : Letter) (told tells : Progress) → n ≡ old.me
     → IsTaken old Answers from letter (event.Accept from n) new → tells ≡ counted told (event.Accept from n)

@@ -1,40 +1,26 @@
 -- A turn that reports nothing has found nothing to do; and then nothing is pending, or an answer of another is awaited.
 use Rattle.std.proofs.Common.{◌≡◌, ◌≤◌, ◌<◌, ℕ, true, if◌then◌else◌, arith, List, [], ◌∷◌, length, Option, Some, None, refl, sym, ap, subst, ◌∙◌, inl, inr}
-use Rattle.std.specs.Prelude.{IfSome, IsSome, is_some, slice_get}
 use Rattle.std.proofs.lemmas.Bool.{cases_lt}
-use Rattle.sci_words.specs.declared.event.AskKind.{AskKind}
-use Rattle.sci_words.specs.declared.event.Event.{Event}
-use Rattle.sci_cache.specs.State.{waits}
-use Rattle.sci_cache.specs.Cache.{Letter}
+use Rattle.std.specs.Prelude.{IfSome, IsSome, is_some, slice_get}
+use Rattle.sci_words.specs.declared.event.{AskKind.{AskKind}, Event.{Event}}
+use Rattle.sci_cache.specs.{State.{waits}, Cache.{Letter}}
 use Rattle.sci_core.specs.declared.lane.LaneKind.TheVariants.{Answers, Requests}
-use Rattle.sci_core.specs.Core.{Core, lane_of, lane_place, node_at, node_of}
-use Rattle.sci_core.specs.Node.{NodeOf, node_asking}
-use Rattle.sci_core.specs.Reached.{IsReached}
-use Rattle.sci_core.specs.Size.{Size}
-use Rattle.sci_core.specs.WellFormed.{IsInLane}
-use Rattle.sci_core.proofs.Step.Applied.{front_holds}
-use Rattle.sci_core.proofs.Settling.Drains.{some_node}
-use Rattle.sci_core.proofs.Tidy.Enabled.{request_enabled}
-use Rattle.sci_core.proofs.Basics.Options.{of_some, found}
-use Rattle.sci_core.proofs.Step.Places.{place_from}
+use Rattle.sci_core.specs.{Core.{Core, lane_of, lane_place, node_at, node_of}, Node.{NodeOf, node_asking}}
+use Rattle.sci_core.specs.{Reached.{IsReached}, Size.{Size}, WellFormed.{IsInLane}}
+use Rattle.sci_core.proofs.{Step.{Applied.{front_holds}, Places.{place_from}}, Settling.Drains.{some_node}}
+use Rattle.sci_core.proofs.{Tidy.Enabled.{request_enabled}, Basics.Options.{of_some, found}}
 use Rattle.sci_core.proofs.WellFormed.WellFormedSteps.{reached_well}
-use Rattle.sci_policy.specs.declared.progress.Progress.{Progress}
-use Rattle.sci_policy.specs.declared.want.Want.{Want}
-use Rattle.sci_policy.specs.declared.want.Want.TheVariants.{Perform, Ask}
+use Rattle.sci_policy.specs.declared.{progress.Progress.{Progress}, want.Want.{Want, TheVariants.{Perform, Ask}}}
 use Rattle.sci_policy.specs.Lines.{state_on}
 use Rattle.sci_policy.specs.Policy.{IsEnabledWant, PolicyOf, decided, next_policy, next_wanted, ticked, turned}
 use Rattle.sci_policy.specs.Rest.{AwaitsOthers, Awaits, MayIdle, MayRest, NothingPending, NothingPends}
 use Rattle.sci_policy.specs.Turn.{decided_event}
-use Rattle.sci_policy.proofs.Alone.{alone_rests, first_only}
-use Rattle.sci_policy.proofs.Deciding.{keep_of, keeps_no_own}
-use Rattle.sci_policy.proofs.Rests.{may_rest}
-use Rattle.sci_policy.proofs.Targets.{asked_target, waiting_target}
-use Rattle.sci_policy.proofs.Wants.{wanted_enabled}
+use Rattle.sci_policy.proofs.{Alone.{alone_rests, first_only}, Deciding.{keep_of, keeps_no_own}, Rests.{may_rest}}
+use Rattle.sci_policy.proofs.{Targets.{asked_target, waiting_target}, Wants.{wanted_enabled}}
 use Rattle.sci_turn.specs.Posts.{IsFull, IsPost, IsStill, OthersLead, PostOf, lane_to, node_in, nodes_in}
 use Rattle.sci_turn.specs.Moves.{taken_next, taking_event}
 use Rattle.sci_turn.specs.Idle.{AsksNothing, IsHeldUp, IsIdleTurn, IsReplyHeldUp, TookNone, WasEmpty, WasSo}
-use Rattle.sci_turn.proofs.Moments.{node_stays, so_after, so_still}
-use Rattle.sci_turn.proofs.Stills.{still_then}
+use Rattle.sci_turn.proofs.{Moments.{node_stays, so_after, so_still}, Stills.{still_then}}
 
 -- what each step of the turn has found
 pub idle_turn : (before begun policy after : PolicyOf) (old replied accepted taken new : PostOf) (told : Progress) → begun ≡ turned before → IsStill old replied

@@ -2,13 +2,10 @@
 use Rattle.std.proofs.Common.{◌≡◌, ◌<◌, ℕ, if◌then◌else◌, List, [], Option, None, sym, ap, subst, ◌∙◌}
 use Rattle.std.specs.Prelude.{Result, Ok, Err, IfOk, is_some, slice_get}
 use Rattle.sci_cache.specs.Cache.{Letter}
-use Rattle.sci_core.specs.declared.lane.LaneKind.TheVariants.{Requests}
-use Rattle.sci_core.specs.Size.{Size}
-use Rattle.sci_policy.specs.Policy.{PolicyOf, decided}
-use Rattle.sci_policy.specs.Turn.{decided_event}
+use Rattle.sci_core.specs.{declared.lane.LaneKind.TheVariants.{Requests}, Size.{Size}}
+use Rattle.sci_policy.specs.{Policy.{PolicyOf, decided}, Turn.{decided_event}}
 use Rattle.sci_turn.specs.Posts.{IsFront, IsSamePost, IsStill, PostOf, lane_to, node_in, nodes_in}
-use Rattle.sci_turn.specs.Moves.{taken_next, taking_event}
-use Rattle.sci_turn.specs.Idle.{WasSo}
+use Rattle.sci_turn.specs.{Moves.{taken_next, taking_event}, Idle.{WasSo}}
 use Rattle.sci_turn.proofs.Stills.{still_itself, still_then}
 
 pub so_now : (P : PostOf → Type 0) (post : PostOf) → P post → WasSo P post post

@@ -1,31 +1,23 @@
 -- What a turn does to its node: the node's own sides of its events, which leave its work.
-use Rattle.std.proofs.Common.{◌≡◌, ◌≢◌, ◌<◌, ℕ, Bool, true, false, if◌then◌else◌, arith, List, [], ◌∷◌, Option, Some, None, refl, sym, ap, subst, ◌∙◌, inl, inr}
-use Rattle.std.specs.Prelude.{IfSome, cond, is_some, nat_lt, unwrap_or}
-use Rattle.std.specs.List.{AllByRecursion}
-use Rattle.std.proofs.lemmas.Bool.{eq-eqb, ne_eqb}
-use Rattle.std.proofs.lemmas.List.{get_or-set_other, get_or-set_same}
+use Rattle.std.proofs.Common.{◌≡◌, ◌≢◌, ◌<◌, ℕ, Bool, true, false, if◌then◌else◌, arith, List, [], ◌∷◌, Option, Some, None, refl, sym, ap, subst, ◌∙◌, inl}
+use Rattle.std.proofs.{Common.{inr}, lemmas.{Bool.{eq-eqb, ne_eqb}, List.{get_or-set_other, get_or-set_same}}}
+use Rattle.std.specs.{Prelude.{IfSome, cond, is_some, nat_lt, unwrap_or}, List.{AllByRecursion}}
 use Rattle.sci_words.specs.declared.event.Event.{Event}
-use Rattle.sci_words.specs.declared.event.Event.TheVariants as event
 use Rattle.sci_packets.specs.declared.body.Body.TheVariants.{Busy}
 use Rattle.sci_cache.specs.Cache.{Letter}
 use Rattle.sci_core.specs.declared.lane.LaneKind.{LaneKind}
 use Rattle.sci_core.specs.Core.{Core, Side, Idle, Changes, Sends, Takes, lane_of, lane_place, node_at, node_of, sends, sent_by, side, step_by, stepping}
 use Rattle.sci_core.specs.Core.{taken_as, taken_from, with_lane, with_node}
 use Rattle.sci_core.specs.Node.{NodeOf, is_setback, no_node, node_accepting, node_asking, node_serving, replied_by, with_answer}
-use Rattle.sci_core.specs.Reached.{IsReached}
-use Rattle.sci_core.specs.Size.{Size}
-use Rattle.sci_core.proofs.Settling.Drains.{some_node}
-use Rattle.sci_core.proofs.Step.NodeSides.{serve_as}
+use Rattle.sci_core.specs.{Reached.{IsReached}, Size.{Size}}
+use Rattle.sci_core.proofs.{Settling.Drains.{some_node}, Step.{NodeSides.{serve_as}, Stepping.{stepping_side}}}
 use Rattle.sci_core.proofs.Basics.Options.{of_some, same_some}
-use Rattle.sci_core.proofs.Step.Stepping.{stepping_side}
 use Rattle.sci_core.proofs.WellFormed.WellFormedSteps.{reached_stepping, reached_well, run_well}
 use Rattle.sci_core.proofs.History.Works.{SameWork, accept_work, ask_work, serve_work}
-use Rattle.sci_policy.specs.declared.progress.Progress.{Progress}
-use Rattle.sci_policy.specs.Policy.{PolicyOf}
-use Rattle.sci_policy.specs.Turn.{IsTurnEvent, MayPerform}
+use Rattle.sci_policy.specs.{declared.progress.Progress.{Progress}, Policy.{PolicyOf}, Turn.{IsTurnEvent, MayPerform}}
 use Rattle.sci_policy.specs.Worker.{HasSameWork, IsNodeTurn, Makes, SidesLead}
-use Rattle.sci_turn.specs.Posts.{IsPost, PostOf, node_in}
-use Rattle.sci_turn.specs.Moves.{IsTurn, Leads, own_of}
+use Rattle.sci_turn.specs.{Posts.{IsPost, PostOf, node_in}, Moves.{IsTurn, Leads, own_of}}
+use Rattle.sci_words.specs.declared.event.Event.TheVariants as event
 
 -- ---- an event of another node
 

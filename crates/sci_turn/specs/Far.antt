@@ -1,12 +1,9 @@
 -- How far a turn goes.
 use Rattle.std.specs.Prelude.{◌≡◌, ◌≤◌, ◌⊎◌, count_by, IfSome, IsSome}
 use Rattle.sci_words.specs.declared.limits.TheConstants.{LANE_CELLS}
-use Rattle.sci_policy.specs.declared.progress.Progress.{Progress}
-use Rattle.sci_policy.specs.Policy.{PolicyOf, next_policy, next_wanted}
+use Rattle.sci_policy.specs.{declared.progress.Progress.{Progress}, Policy.{PolicyOf, next_policy, next_wanted}}
 use Rattle.sci_policy.specs.Turn.{is_ask}
-use Rattle.sci_turn.specs.Posts.{PostOf, node_in}
-use Rattle.sci_turn.specs.Moves.{HasEnded, HasMoved, own_of}
-use Rattle.sci_turn.specs.Idle.{IsHeldUp}
+use Rattle.sci_turn.specs.{Posts.{PostOf, node_in}, Moves.{HasEnded, HasMoved, own_of}, Idle.{IsHeldUp}}
 
 -- the policy was asked once more, and wanted nothing, or what it wanted found its lane full
 pub record WantsNoMore (before : PolicyOf) (after : PolicyOf) (new : PostOf) : Type 0 where

@@ -1,16 +1,10 @@
 -- What a turn that reports nothing has found: nothing that it could do.
 use Rattle.std.specs.Prelude.{◌≡◌, ◌<◌, ℕ, [], None, IfSome}
-use Rattle.sci_core.specs.declared.lane.LaneKind.{LaneKind}
-use Rattle.sci_core.specs.declared.lane.LaneKind.TheVariants.{Requests, Answers}
+use Rattle.sci_core.specs.{declared.lane.LaneKind.{LaneKind, TheVariants.{Requests, Answers}}, Node.{node_asking}}
 use Rattle.sci_words.specs.declared.event.AskKind.{AskKind}
-use Rattle.sci_core.specs.Node.{node_asking}
-use Rattle.sci_policy.specs.declared.progress.Progress.{Progress}
-use Rattle.sci_policy.specs.declared.want.Want.{Want}
-use Rattle.sci_policy.specs.declared.want.Want.TheVariants.{Perform, Ask}
-use Rattle.sci_policy.specs.Policy.{PolicyOf, next_policy, next_wanted, turned}
-use Rattle.sci_policy.specs.Turn.{MadeNothing}
-use Rattle.sci_turn.specs.Posts.{IsFull, IsStill, PostOf, lane_to, node_in, nodes_in}
-use Rattle.sci_turn.specs.Moves.{taken_next}
+use Rattle.sci_policy.specs.declared.{progress.Progress.{Progress}, want.Want.{Want, TheVariants.{Perform, Ask}}}
+use Rattle.sci_policy.specs.{Policy.{PolicyOf, next_policy, next_wanted, turned}, Turn.{MadeNothing}}
+use Rattle.sci_turn.specs.{Posts.{IsFull, IsStill, PostOf, lane_to, node_in, nodes_in}, Moves.{taken_next}}
 
 -- what the policy wants is an ask, and the lane to its target is full
 abbrev pub IsHeldUp : PostOf → Want → Type 0

@@ -1,16 +1,14 @@
 -- What a turn does to a node's post and to its policy.
 use Rattle.std.specs.Prelude.{◌≡◌, ◌≢◌, ◌==◌, ◌⊎◌, ℕ, List, [], ◌∷◌, ◌++◌, slice_get, if◌then◌else◌, Option, Some, None, filter, is_some}
 use Rattle.sci_words.specs.declared.event.Event.{Event}
-use Rattle.sci_words.specs.declared.event.Event.TheVariants as event
 use Rattle.sci_cache.specs.Cache.{Letter}
 use Rattle.sci_core.specs.declared.lane.LaneKind.TheVariants.{Requests}
-use Rattle.sci_core.specs.Core.{Core, lane_of, node_at, node_of, stepping}
-use Rattle.sci_core.specs.Node.{NodeOf}
-use Rattle.sci_policy.specs.declared.progress.Progress.{Progress}
-use Rattle.sci_policy.specs.declared.want.Want.TheVariants.{Ask}
+use Rattle.sci_core.specs.{Core.{Core, lane_of, node_at, node_of, stepping}, Node.{NodeOf}}
+use Rattle.sci_policy.specs.declared.{progress.Progress.{Progress}, want.Want.TheVariants.{Ask}}
 use Rattle.sci_policy.specs.Policy.{PolicyOf, decided, next_policy, next_wanted, turned}
 use Rattle.sci_policy.specs.Turn.{Counts, IsTurnEvent, MadeNothing, counted, decided_event}
 use Rattle.sci_turn.specs.Posts.{IsFurther, IsMade, IsSamePost, IsStill, PostOf, node_in}
+use Rattle.sci_words.specs.declared.event.Event.TheVariants as event
 
 -- ---- which request is taken, and how
 

@@ -1,13 +1,11 @@
 -- A node's post, as the node's turn sees it: the node, and the lanes as far as they are known there.
 use Rattle.std.specs.Prelude.{◌≡◌, ◌≢◌, ◌≤◌, ◌<◌, ℕ, List, [], ◌∷◌, ◌++◌, length, Option, Some, None}
 use Rattle.std.specs.List.{AllByRecursion}
-use Rattle.sci_words.specs.declared.limits.TheConstants.{LANE_CELLS}
-use Rattle.sci_words.specs.declared.event.Event.{Event}
+use Rattle.sci_words.specs.declared.{limits.TheConstants.{LANE_CELLS}, event.Event.{Event}}
 use Rattle.sci_cache.specs.Cache.{Letter}
 use Rattle.sci_core.specs.declared.lane.LaneKind.{LaneKind}
 use Rattle.sci_core.specs.Core.{Core, IsEnabled, Sends, Takes, lane_of, node_at, node_of, side, stepping}
-use Rattle.sci_core.specs.Node.{NodeOf}
-use Rattle.sci_core.specs.Reached.{IsReached}
+use Rattle.sci_core.specs.{Node.{NodeOf}, Reached.{IsReached}}
 
 -- The number of the node, the state of the machine as far as it is known, and the schedule as far as it is known; or none
 -- if the node has the whole machine while it is at its post, so that no event of another comes in between.

@@ -7,11 +7,10 @@ use sci_words::Event;
 /// A node's post: the node itself, and the lanes to it and from it.
 pub trait Post {
     ghost use Rattle.std.specs.Prelude.{◌≡◌, ◌<◌, ◌≤◌, ℕ, true, false, [], IfOk, IfSome, IsErr};
-    ghost use Rattle.sci_cache.specs.Cache.{letter_of};
-    ghost use Rattle.sci_cache.specs.LineSet.{IsBefore};
-    ghost use Rattle.sci_core.specs.declared.lane.LaneKind.{LaneKind};
-    ghost use Rattle.sci_core.specs.declared.lane.LaneKind.TheVariants.{Answers};
-    ghost use Rattle.sci_turn.specs.Posts.{HasTakenFront, IsFront, IsFull, IsMade, IsPost, IsStill, MaySend, MayTakeFront, PostOf, lane_to, node_in, nodes_in};
+    ghost use Rattle.sci_cache.specs.{Cache.{letter_of}, LineSet.{IsBefore}};
+    ghost use Rattle.sci_core.specs.declared.lane.LaneKind.{LaneKind, TheVariants.{Answers}};
+    ghost use Rattle.sci_turn.specs.Posts.{HasTakenFront, IsFront, IsFull, IsMade, IsPost, IsStill, MaySend, MayTakeFront, PostOf, lane_to, node_in};
+    ghost use Rattle.sci_turn.specs.Posts.{nodes_in};
 
     /// Why a turn stops before its end.
     type Stop;

@@ -1,15 +1,11 @@
 //! A node's turn.
 
 ghost use Rattle.std.specs.Prelude.{◌≡◌, ◌<◌, ◌+◌, ◌%◌, ℕ, [], true, false, None, IfOk, IfSome, IsErr, IsOk, IsSome};
-ghost use Rattle.sci_core.specs.declared.lane.LaneKind.TheVariants.{Answers, Requests};
-ghost use Rattle.sci_core.specs.Node.{node_asking};
+ghost use Rattle.sci_core.specs.{declared.lane.LaneKind.TheVariants.{Answers, Requests}, Node.{node_asking}};
 ghost use Rattle.sci_words.specs.declared.event.Event.TheVariants.{Ask};
-ghost use Rattle.sci_policy.specs.Policy.{PolicyOf, turned};
-ghost use Rattle.sci_policy.specs.Rest.{MayIdle};
-ghost use Rattle.sci_policy.specs.Turn.{Counts, MadeNothing, MayPerform, is_idle};
-ghost use Rattle.sci_policy.specs.Worker.{HasSameWork, IsNodeTurn};
-ghost use Rattle.sci_turn.specs.Posts.{IsStill, node_in, nodes_in};
-ghost use Rattle.sci_turn.specs.Moves.{EndsTurn, GoesOn, IsAsked, IsTurn};
+ghost use Rattle.sci_policy.specs.{Policy.{PolicyOf, turned}, Rest.{MayIdle}};
+ghost use Rattle.sci_policy.specs.{Turn.{Counts, MadeNothing, MayPerform, is_idle}, Worker.{HasSameWork, IsNodeTurn}};
+ghost use Rattle.sci_turn.specs.{Posts.{IsStill, node_in, nodes_in}, Moves.{EndsTurn, GoesOn, IsAsked, IsTurn}};
 ghost use Rattle.sci_turn.specs.Far.{AsksAll, HasAskedAll};
 ghost use Rattle.sci_turn.specs.Idle.{AsksNothing, IsIdleTurn, IsReplyHeldUp, TookNone, WasEmpty, WasHeldUp};
 

@@ -1,16 +1,13 @@
 -- Walks, and the refusal of one.
 use Rattle.std.proofs.Common.{◌≡◌, ℕ, ◌<◌, Option, length, arith, refl}
-use Rattle.sci_words.specs.declared.event.Event.{Event}
-use Rattle.sci_words.specs.declared.limits.TheConstants.{MAX_EVENTS}
+use Rattle.sci_words.specs.declared.{event.Event.{Event}, limits.TheConstants.{MAX_EVENTS}}
 use Rattle.sci_text.specs.declared.fault.TextFaultKind.{TextFaultKind}
 use Rattle.sci_text.specs.declared.fault.TextFaultKind.TheVariants.{Syntax, Range, TooMany, Read, Write, Memory}
-use Rattle.sci_text.specs.declared.script.PushFault.{PushFault}
-use Rattle.sci_text.specs.declared.script.PushFault.TheVariants as push
-use Rattle.sci_text.specs.Schedule.{ScheduleValue, IsEventWithin, EventRefusal}
+use Rattle.sci_text.specs.{declared.script.PushFault.{PushFault}, Schedule.{ScheduleValue, IsEventWithin, EventRefusal}}
 use Rattle.sci_text.specs.Script.{kind_of}
 use Rattle.sci_command.proofs.Refusals.{AllowsMemory}
-use Rattle.sci_walks.specs.declared.random.Walk.{Walk}
-use Rattle.sci_walks.specs.RandomAnswer.{IsWalkFault}
+use Rattle.sci_walks.specs.{declared.random.Walk.{Walk}, RandomAnswer.{IsWalkFault}}
+use Rattle.sci_text.specs.declared.script.PushFault.TheVariants as push
 
 -- it is told of the whole
 fault_line : (walk : Walk) (dead : Option ℕ) (kind : TextFaultKind) (line : ℕ) → IsWalkFault walk dead kind line → line ≡ 0

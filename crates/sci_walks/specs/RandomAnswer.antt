@@ -1,14 +1,12 @@
 -- What `random` writes. Which events it draws is tested.
 use Rattle.std.specs.Prelude.{◌≡◌, ℕ, ◌≤◌, List, length, Option, IfSome}
-use Rattle.sci_words.specs.declared.limits.TheConstants.{MAX_EVENTS}
-use Rattle.sci_words.specs.Extent.{AreWithinLimits}
+use Rattle.sci_words.specs.{declared.limits.TheConstants.{MAX_EVENTS}, Extent.{AreWithinLimits}}
 use Rattle.sci_text.specs.declared.fault.TextFaultKind.{TextFaultKind}
-use Rattle.sci_text.specs.declared.fault.TextFaultKind.TheVariants as kinds
 use Rattle.sci_text.specs.Schedule.{ScheduleValue, IsSchedule, schedule_text}
-use Rattle.sci_command.specs.declared.outcome.Outcome.{Outcome}
-use Rattle.sci_command.specs.declared.outcome.Outcome.TheVariants.{Done, Unlawful, Refused}
+use Rattle.sci_command.specs.declared.outcome.Outcome.{Outcome, TheVariants.{Done, Unlawful, Refused}}
 use Rattle.sci_command.specs.Refusal.{IsRefusalBy}
 use Rattle.sci_walks.specs.declared.random.Walk.{Walk}
+use Rattle.sci_text.specs.declared.fault.TextFaultKind.TheVariants as kinds
 
 -- each number is within its limits, and that of the events in a hundred that may be dead
 pub record IsWalk (walk : Walk) (dead : Option ℕ) : Type 0 where

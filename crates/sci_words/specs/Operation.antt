@@ -4,10 +4,7 @@ use Rattle.std.specs.Prelude.{ℕ, nat_lt, ◌&&◌, ◌+◌, ◌%◌, ◌^◌, 
 use Rattle.std.specs.Int.{w64, bit_not}
 use Rattle.sci_words.specs.declared.operation.LockOp.{LockOp}
 use Rattle.sci_words.specs.declared.operation.LockOp.TheVariants.{MaskSwap, CompareSwap, FetchAdd, BoundedAdd, WrapAdd}
-use Rattle.sci_words.specs.declared.operation.Act.{Act}
-use Rattle.sci_words.specs.declared.operation.Act.TheVariants.{Load, Store, Lock}
-use Rattle.sci_words.specs.declared.operation.Op.{Op}
-use Rattle.sci_words.specs.declared.operation.Reply.{Reply}
+use Rattle.sci_words.specs.declared.operation.{Act.{Act, TheVariants.{Load, Store, Lock}}, Op.{Op}, Reply.{Reply}}
 use Rattle.sci_words.specs.declared.operation.Reply.TheVariants.{Stored, Got}
 
 -- the sum of two words, modulo 2^64

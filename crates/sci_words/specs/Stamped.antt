@@ -1,10 +1,7 @@
 -- What a stamped line becomes by an operation.
 use Rattle.std.specs.Prelude.{ℕ, ◌+◌, List, if◌then◌else◌, slice_index, slice_set, replicate}
-use Rattle.sci_words.specs.declared.limits.TheConstants.{WORDS_PER_LINE}
-use Rattle.sci_words.specs.declared.operation.Op.{Op}
-use Rattle.sci_words.specs.declared.operation.Reply.{Reply}
-use Rattle.sci_words.specs.declared.stamped.Stamped.{Stamped}
-use Rattle.sci_words.specs.Operation.{effect, is_maker}
+use Rattle.sci_words.specs.declared.{limits.TheConstants.{WORDS_PER_LINE}, operation.{Op.{Op}, Reply.{Reply}}}
+use Rattle.sci_words.specs.{declared.stamped.Stamped.{Stamped}, Operation.{effect, is_maker}}
 
 -- the reply of an operation to a line of these words
 abbrev pub reply_of : List ℕ → Op → Reply

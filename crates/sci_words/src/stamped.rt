@@ -14,8 +14,7 @@ pub struct Stamped {
 
 impl Stamped {
     ghost use Rattle.std.specs.Prelude.{◌≡◌, ◌+◌, ◌^◌, ◌<◌};
-    ghost use Rattle.sci_words.specs.Operation.{IsMaker};
-    ghost use Rattle.sci_words.specs.Stamped.{after as stamped_after, reply_of};
+    ghost use Rattle.sci_words.specs.{Operation.{IsMaker}, Stamped.{after as stamped_after, reply_of}};
 
     /// What the line becomes by an operation, and the reply: the operation's word by its effect, and the
     /// version one more for a maker. Requires that the word's place is below eight and, for a

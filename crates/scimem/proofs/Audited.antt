@@ -1,14 +1,11 @@
 -- An audit of lawful logs that were written as a text finds them lawful.
 use Rattle.std.proofs.Common.{◌≡◌, ℕ, List, sym, ap, subst, ◌∙◌}
 use Rattle.sci_words.specs.declared.stamped.Stamped.{Stamped}
-use Rattle.sci_history.specs.declared.entry.Entry.{Entry}
-use Rattle.sci_history.specs.declared.verdict.Verdict.TheVariants as verdicts
-use Rattle.sci_history.specs.Lawful.{Lawful}
+use Rattle.sci_history.specs.{declared.entry.Entry.{Entry}, Lawful.{Lawful}}
 use Rattle.sci_text.specs.LogValue.{IsLogs}
-use Rattle.sci_command.specs.declared.outcome.Outcome.{Outcome}
-use Rattle.sci_command.specs.declared.outcome.Outcome.TheVariants.{Done}
-use Rattle.sci_command.specs.VerdictLine.{verdict_text}
+use Rattle.sci_command.specs.{declared.outcome.Outcome.{Outcome, TheVariants.{Done}}, VerdictLine.{verdict_text}}
 use Rattle.scimem.specs.LogAnswer.{outcome_of, IsAuditOf}
+use Rattle.sci_history.specs.declared.verdict.Verdict.TheVariants as verdicts
 
 -- a text is of one log, as sci_text's law says
 abbrev pub OneLog : Type 0

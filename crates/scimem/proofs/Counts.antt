@@ -1,12 +1,8 @@
 -- How many operations each node of a script has.
 use Rattle.std.proofs.Common.{◌≡◌, ℕ, ◌≤◌, cond, eqb, List, [], ◌∷◌, refl, ◌∙◌, arith, inl, inr}
-use Rattle.std.specs.Prelude.{count_by}
-use Rattle.std.specs.List.{AllByRecursion}
-use Rattle.std.proofs.lemmas.Bool.{ne_eqb, cases_lt}
-use Rattle.std.proofs.lemmas.List.Elements.{recursion_from_All}
-use Rattle.std.proofs.lemmas.List.Sums.{sum_by-append}
-use Rattle.sci_words.specs.declared.limits.TheConstants.{MAX_OPERATIONS}
-use Rattle.sci_words.specs.declared.operation.Op.{Op}
+use Rattle.std.proofs.lemmas.{Bool.{ne_eqb, cases_lt}, List.{Elements.{recursion_from_All}, Sums.{sum_by-append}}}
+use Rattle.std.specs.{Prelude.{count_by}, List.{AllByRecursion}}
+use Rattle.sci_words.specs.declared.{limits.TheConstants.{MAX_OPERATIONS}, operation.Op.{Op}}
 use Rattle.sci_text.specs.Script.{ScriptValue, IsScript, IsWithin}
 
 none_of : (nodes lines node : ℕ) (operations : List (ℕ × Op)) → AllByRecursion (λ p. IsWithin nodes lines p.0 p.1) operations → nodes ≤ node

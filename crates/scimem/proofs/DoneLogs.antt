@@ -1,30 +1,19 @@
 -- Logs and last contents of entries that took effect line by line can be written as a text.
 use Rattle.std.proofs.Common.{◌≡◌, ℕ, ◌^◌, ◌<◌, ◌≤◌, true, List, [], ◌∷◌, All, length, map, filter, get_or, refl, sym, ap, subst, ◌∙◌, arith, inl, inr}
-use Rattle.std.specs.Prelude.{◌&&◌, IsTrue}
-use Rattle.std.specs.List.{AllByRecursion, range_with_len}
-use Rattle.std.proofs.lemmas.Bool.{cases_lt, and_from, and_parts, lt-ltb, ltb-true, eqb-true}
-use Rattle.std.proofs.lemmas.List.{get_or_past}
-use Rattle.std.proofs.lemmas.List.Elements.{All-from_recursion}
-use Rattle.std.proofs.lemmas.List.FromFn.{length-map-range_with_len}
+use Rattle.std.proofs.lemmas.{Bool.{cases_lt, and_from, and_parts, lt-ltb, ltb-true, eqb-true}, List.{get_or_past}}
+use Rattle.std.proofs.lemmas.List.{Elements.{All-from_recursion}, FromFn.{length-map-range_with_len}}
+use Rattle.std.specs.{Prelude.{◌&&◌, IsTrue}, List.{AllByRecursion, range_with_len}}
 use Rattle.sci_words.specs.declared.limits.TheConstants.{WORDS_PER_LINE, MAX_NODES, MAX_OPERATIONS}
-use Rattle.sci_words.specs.declared.operation.Act.{Act}
-use Rattle.sci_words.specs.declared.operation.Act.TheVariants.{Load, Store, Lock}
-use Rattle.sci_words.specs.declared.operation.LockOp.{LockOp}
+use Rattle.sci_words.specs.declared.operation.{Act.{Act, TheVariants.{Load, Store, Lock}}, LockOp.{LockOp}}
 use Rattle.sci_words.specs.declared.operation.LockOp.TheVariants.{MaskSwap, CompareSwap, FetchAdd, BoundedAdd, WrapAdd}
-use Rattle.sci_words.specs.declared.operation.Reply.{Reply}
-use Rattle.sci_words.specs.declared.operation.Reply.TheVariants.{Stored, Got}
-use Rattle.sci_words.specs.declared.stamped.Stamped.{Stamped}
-use Rattle.sci_words.specs.Operation.{effect_of_act, is_word, are_words, has_words}
-use Rattle.sci_words.specs.Stamped.{after, zero_stamped}
-use Rattle.sci_history.specs.declared.entry.Entry.{Entry}
-use Rattle.sci_history.specs.History.{IsHistory}
+use Rattle.sci_words.specs.declared.{operation.Reply.{Reply, TheVariants.{Stored, Got}}, stamped.Stamped.{Stamped}}
+use Rattle.sci_words.specs.{Operation.{effect_of_act, is_word, are_words, has_words}, Stamped.{after, zero_stamped}}
+use Rattle.sci_history.specs.{declared.entry.Entry.{Entry}, History.{IsHistory}}
 use Rattle.sci_history.specs.Placed.{log_of, is_of_node, is_on_line}
-use Rattle.sci_history.proofs.Histories.{versions-within}
-use Rattle.sci_history.proofs.Order.{all_weaker, all_both, all-filter, all-passes}
+use Rattle.sci_history.proofs.{Histories.{versions-within}, Order.{all_weaker, all_both, all-filter, all-passes}}
 use Rattle.sci_core.specs.InRange.{IsLine, IsReply}
 use Rattle.sci_core.proofs.WellFormed.Ranges.{HasWords, history_fits, zero_is_line, from_lines, all_mapped}
-use Rattle.sci_text.specs.Operation.{LockFits, ActFits}
-use Rattle.sci_text.specs.Script.{IsWithin}
+use Rattle.sci_text.specs.{Operation.{LockFits, ActFits}, Script.{IsWithin}}
 use Rattle.sci_text.specs.LogValue.{IsSize, format_2, StampedFits, Answers, ReplyFits, EntryFits, AreLogs}
 
 -- ---- operands and replies

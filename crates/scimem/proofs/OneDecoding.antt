@@ -1,13 +1,9 @@
 -- Bytes begin with packets in one way, up to a rest that no packet begins.
 use Rattle.std.proofs.Common.{◌≡◌, ◌∙◌, ℕ, ◌<◌, ◌≤◌, List, [], ◌∷◌, ◌++◌, length, take, drop, All, Some, refl, sym, ap, append_assoc, arith, inl, inr}
-use Rattle.std.proofs.Common.{length-append}
-use Rattle.std.proofs.Math.Seq.{take-append_seam}
-use Rattle.std.proofs.lemmas.Bool.{cases_lt}
+use Rattle.std.proofs.{Common.{length-append}, Math.Seq.{take-append_seam}, lemmas.Bool.{cases_lt}}
 use Rattle.std.proofs.lemmas.List.{take-append-drop, take-append-le, append_cancel_left, append-nil}
 use Rattle.std.proofs.lemmas.List.Elements.{All-head, All-tail}
-use Rattle.sci_packets.specs.declared.packet.Packet.{Packet}
-use Rattle.sci_packets.specs.declared.fault.PacketFault.{PacketFault}
-use Rattle.sci_packets.specs.Fault.{fault_of}
+use Rattle.sci_packets.specs.{declared.{packet.Packet.{Packet}, fault.PacketFault.{PacketFault}}, Fault.{fault_of}}
 use Rattle.sci_packets.specs.Spelling.{IsPacket, Spells, NoneSpells, spelling}
 use Rattle.sci_command.specs.declared.outcome.Outcome.{Outcome}
 use Rattle.scimem.specs.Decoding.{PacketsThen, ArePackets, ArePacketsThenFault, IsDecoded, spellings, packet_lines, refusal, fault_word}

@@ -1,30 +1,21 @@
 -- The logs and the last contents of an oracle can be written as a text, which says them alone.
 use Rattle.std.proofs.Common.{◌≡◌, ℕ, ◌+◌, ◌<◌, ◌≤◌, Bool, true, false, if◌then◌else◌, List, [], ◌∷◌, ◌++◌, length, filter, refl, sym, ap, subst, arith}
-use Rattle.std.proofs.Common.{length-append, inl, inr}
-use Rattle.std.proofs.lemmas.Bool.{cases_Bool}
-use Rattle.std.specs.Prelude.{count_by}
-use Rattle.std.specs.List.{AllByRecursion, flat_map}
-use Rattle.std.proofs.lemmas.List.Elements.{recursion_from_All}
+use Rattle.std.proofs.{Common.{length-append, inl, inr}, lemmas.{Bool.{cases_Bool}, List.Elements.{recursion_from_All}}}
 use Rattle.std.proofs.lemmas.List.Sums.{length-filter}
+use Rattle.std.specs.{Prelude.{count_by}, List.{AllByRecursion, flat_map}}
 use Rattle.sci_words.specs.declared.limits.TheConstants.{MAX_NODES, MAX_OPERATIONS, MAX_INPUT_BYTES}
-use Rattle.sci_words.specs.declared.operation.Op.{Op}
-use Rattle.sci_history.specs.declared.entry.Entry.{Entry}
-use Rattle.sci_words.specs.declared.stamped.Stamped.{Stamped}
-use Rattle.sci_words.specs.Operation.{is_maker}
+use Rattle.sci_words.specs.{declared.{operation.Op.{Op}, stamped.Stamped.{Stamped}}, Operation.{is_maker}}
 use Rattle.sci_words.specs.Stamped.{after, zero_stamped}
-use Rattle.sci_history.specs.History.{IsHistory}
-use Rattle.sci_history.specs.Placed.{is_of_node, is_on_line}
+use Rattle.sci_history.specs.{declared.entry.Entry.{Entry}, History.{IsHistory}, Placed.{is_of_node, is_on_line}}
 use Rattle.sci_history.specs.Oracle.{Issue, IsInRange, entry_after, done_after, oracle_entries, oracle_logs, oracle_last}
 use Rattle.sci_history.proofs.Order.{filter_yes, filter_no, all_weaker, all-append}
 use Rattle.sci_history.proofs.Oracles.{oracle-lawful, stamped_of, traced_none, traced_all, log_of-logs_of}
 use Rattle.sci_history.proofs.OracleSteps.{Ran, ran_serial}
 use Rattle.sci_text.specs.Script.{ScriptValue, IsScript, IsWithin, machine_line, operation_line, script_text}
 use Rattle.sci_text.specs.LogValue.{AreLogs, IsLogs}
-use Rattle.sci_text.proofs.LogLaws.{written_again}
-use Rattle.sci_text.proofs.ScriptText.{line_nonempty}
+use Rattle.sci_text.proofs.{LogLaws.{written_again}, ScriptText.{line_nonempty}}
 use Rattle.scimem.specs.OracleAnswer.{oracle_text, IsOracleOf}
-use Rattle.scimem.proofs.Counts.{few_of_each}
-use Rattle.scimem.proofs.DoneLogs.{AreDone, are_logs}
+use Rattle.scimem.proofs.{Counts.{few_of_each}, DoneLogs.{AreDone, are_logs}}
 
 -- ---- the entries
 

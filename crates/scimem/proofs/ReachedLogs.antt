@@ -1,25 +1,17 @@
 -- The logs and the last contents where a schedule leads can be written as a text, which says them alone.
 use Rattle.std.proofs.Common.{◌≡◌, ℕ, ◌<◌, ◌≤◌, List, length, filter, map, refl, sym, ap, subst, ◌∙◌, arith}
 use Rattle.std.specs.List.{AllByRecursion, range_with_len}
-use Rattle.sci_words.specs.declared.event.Event.{Event}
-use Rattle.sci_words.specs.declared.limits.TheConstants.{MAX_OPERATIONS}
-use Rattle.sci_history.specs.declared.entry.Entry.{Entry}
-use Rattle.sci_history.specs.Placed.{is_of_node}
+use Rattle.sci_words.specs.declared.{event.Event.{Event}, limits.TheConstants.{MAX_OPERATIONS}}
+use Rattle.sci_history.specs.{declared.entry.Entry.{Entry}, Placed.{is_of_node}}
 use Rattle.sci_history.proofs.Order.{all_weaker, all_both}
-use Rattle.sci_core.specs.Size.{Size, IsMachineSize}
-use Rattle.sci_core.specs.Core.{Core, node_at, run}
-use Rattle.sci_core.specs.Done.{done}
-use Rattle.sci_core.specs.InRange.{IsEntryOf}
-use Rattle.sci_core.specs.Outcome.{logs_of}
-use Rattle.sci_core.specs.Reached.{IsReached}
-use Rattle.sci_core.specs.Sharing.{last_at, last_of}
+use Rattle.sci_core.specs.{Size.{Size, IsMachineSize}, Core.{Core, node_at, run}, Done.{done}, InRange.{IsEntryOf}}
+use Rattle.sci_core.specs.{Outcome.{logs_of}, Reached.{IsReached}, Sharing.{last_at, last_of}}
 use Rattle.sci_core.proofs.History.Histories.{IsKnown}
 use Rattle.sci_core.proofs.WellFormed.Ranges.{log_short, reached_contents, reached_entries}
+use Rattle.sci_core.proofs.WellFormed.WellFormedSteps.{is_size, reached_well}
 use Rattle.sci_core.proofs.ReachedLaws.{schedule_history, schedule_logged, schedule_log, log_at}
 use Rattle.sci_core.proofs.Tidy.TidyRuns.{run_size, run_reached}
-use Rattle.sci_core.proofs.WellFormed.WellFormedSteps.{is_size, reached_well}
-use Rattle.sci_text.specs.Script.{IsWithin}
-use Rattle.sci_text.specs.LogValue.{AreLogs}
+use Rattle.sci_text.specs.{Script.{IsWithin}, LogValue.{AreLogs}}
 use Rattle.scimem.proofs.DoneLogs.{AreDone, operands_fit, are_logs}
 
 -- what a schedule makes, line by line

@@ -1,20 +1,13 @@
 -- What a replay writes.
 use Rattle.std.proofs.Common.{◌≡◌, ℕ, List, [], ◌∷◌, ◌++◌, refl, sym, ap, subst, ◌∙◌, arith}
 use Rattle.std.proofs.lemmas.List.Sums.{fold-append}
-use Rattle.sci_words.specs.declared.extent.Extent.{Extent}
-use Rattle.sci_words.specs.declared.event.Event.{Event}
-use Rattle.sci_core.specs.Core.{Core, opening, run_from, step}
-use Rattle.sci_words.specs.declared.stamped.Stamped.{Stamped}
-use Rattle.sci_history.specs.declared.entry.Entry.{Entry}
-use Rattle.sci_core.specs.Size.{Size, IsMachineSize}
-use Rattle.sci_core.specs.Outcome.{logs_of}
+use Rattle.sci_words.specs.declared.{extent.Extent.{Extent}, event.Event.{Event}, stamped.Stamped.{Stamped}}
+use Rattle.sci_core.specs.{Core.{Core, opening, run_from, step}, Size.{Size, IsMachineSize}, Outcome.{logs_of}}
 use Rattle.sci_core.specs.Sharing.{last_of}
-use Rattle.sci_core.proofs.ReachedLaws.{reached_consistent, reached_lawful}
-use Rattle.sci_core.proofs.Tidy.TidyRuns.{run_reached, run_size}
+use Rattle.sci_history.specs.declared.entry.Entry.{Entry}
+use Rattle.sci_core.proofs.{ReachedLaws.{reached_consistent, reached_lawful}, Tidy.TidyRuns.{run_reached, run_size}}
 use Rattle.sci_core.proofs.WellFormed.WellFormedSteps.{is_size}
-use Rattle.sci_text.specs.Schedule.{ScheduleValue, IsSchedule, schedule_text}
-use Rattle.sci_text.specs.Log.{log_text}
-use Rattle.sci_text.specs.LogValue.{IsLogs}
+use Rattle.sci_text.specs.{Schedule.{ScheduleValue, IsSchedule, schedule_text}, Log.{log_text}, LogValue.{IsLogs}}
 use Rattle.sci_text.specs.ScheduleEvents.{EventsOf, AreBefore, schedule_with}
 use Rattle.sci_text.proofs.LogLaws.{written_again}
 use Rattle.scimem.specs.ReplayAnswer.{replay_size, replayed, replay_text, IsReplayOf, IsWhereLed}

@@ -1,13 +1,9 @@
 -- Packets are read one after another, and their lines are written so.
 use Rattle.std.proofs.Common.{◌≡◌, ℕ, zero, suc, ◌-◌, ◌<◌, ◌≤◌, List, [], ◌∷◌, ◌++◌, length, take, drop, sym, ap, ◌∙◌, append_assoc, arith, length-append}
-use Rattle.std.proofs.Common.{length-drop}
+use Rattle.std.proofs.{Common.{length-drop}, Math.Seq.{take-length}, lemmas.Grind.{flat_map-append}}
+use Rattle.std.proofs.lemmas.List.{take-append-drop, append-nil, Elements.{All-append, All-cons, All-nil}}
 use Rattle.std.specs.List.{flat_map}
-use Rattle.std.proofs.Math.Seq.{take-length}
-use Rattle.std.proofs.lemmas.Grind.{flat_map-append}
-use Rattle.std.proofs.lemmas.List.{take-append-drop, append-nil}
-use Rattle.std.proofs.lemmas.List.Elements.{All-append, All-cons, All-nil}
-use Rattle.sci_packets.specs.declared.packet.Packet.{Packet}
-use Rattle.sci_packets.specs.Fields.{field, spelled}
+use Rattle.sci_packets.specs.{declared.packet.Packet.{Packet}, Fields.{field, spelled}}
 use Rattle.sci_packets.specs.Spelling.{IsPacket, Spells, spelling}
 use Rattle.sci_command.specs.PacketLine.{head_text, line_of_packet, packet_line, tail_text}
 use Rattle.scimem.specs.Decoding.{PacketsThen, spellings, packet_lines}

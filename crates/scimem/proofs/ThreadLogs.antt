@@ -1,19 +1,12 @@
 -- What a run by threads writes.
 use Rattle.std.proofs.Common.{◌≡◌, ℕ, Bool, true, List, refl, sym, subst}
 use Rattle.sci_words.specs.declared.stamped.Stamped.{Stamped}
-use Rattle.sci_history.specs.declared.entry.Entry.{Entry}
-use Rattle.sci_history.specs.Lawful.{Lawful}
-use Rattle.sci_history.specs.Sequential.{IsSequentiallyConsistent}
-use Rattle.sci_core.specs.Size.{Size}
-use Rattle.sci_core.specs.Outcome.{logs_of}
-use Rattle.sci_core.specs.Sharing.{last_of}
-use Rattle.sci_text.specs.Script.{ScriptValue, IsScript, script_text}
-use Rattle.sci_text.specs.Log.{log_text}
-use Rattle.sci_text.specs.LogValue.{AreLogs, IsLogs}
+use Rattle.sci_history.specs.{declared.entry.Entry.{Entry}, Lawful.{Lawful}, Sequential.{IsSequentiallyConsistent}}
+use Rattle.sci_core.specs.{Size.{Size}, Outcome.{logs_of}, Sharing.{last_of}}
+use Rattle.sci_text.specs.{Script.{ScriptValue, IsScript, script_text}, Log.{log_text}, LogValue.{AreLogs, IsLogs}}
 use Rattle.sci_text.proofs.LogLaws.{written_again}
 use Rattle.sci_threads.specs.Shares.{AreLedTo, HaveLogsOf, HaveWholeLogsOf, size_for}
-use Rattle.sci_command.specs.declared.outcome.Outcome.{Outcome}
-use Rattle.sci_command.specs.declared.outcome.Outcome.TheVariants.{Done}
+use Rattle.sci_command.specs.declared.outcome.Outcome.{Outcome, TheVariants.{Done}}
 use Rattle.scimem.specs.ThreadsAnswer.{IsThreadsOf}
 use Rattle.scimem.proofs.ReachedLogs.{reached_logs}
 

@@ -1,19 +1,13 @@
 -- What is written for bytes that may be a run of packets.
 use Rattle.std.specs.Prelude.{◌≡◌, ℕ, ◌<◌, ◌⊎◌, Bool, List, [], ◌∷◌, ◌++◌, length, codes, All, Option, Some}
 use Rattle.std.specs.List.{flat_map}
-use Rattle.sci_text.specs.declared.fault.TextFaultKind.{TextFaultKind}
-use Rattle.sci_text.specs.FirstFault.{IsInputFault}
-use Rattle.sci_text.specs.Number.{field}
+use Rattle.sci_text.specs.{declared.fault.TextFaultKind.{TextFaultKind}, FirstFault.{IsInputFault}, Number.{field}}
 use Rattle.sci_packets.specs.declared.fault.PacketFault.{PacketFault}
 use Rattle.sci_packets.specs.declared.fault.PacketFault.TheVariants.{Short, UnknownCommand, BadOffset, BadIdentifier}
-use Rattle.sci_packets.specs.declared.packet.Packet.{Packet}
-use Rattle.sci_packets.specs.Fault.{fault_of}
+use Rattle.sci_packets.specs.{declared.packet.Packet.{Packet}, Fault.{fault_of}}
 use Rattle.sci_packets.specs.Spelling.{IsPacket, NoneSpells, spelling}
-use Rattle.sci_command.specs.declared.outcome.Outcome.{Outcome}
-use Rattle.sci_command.specs.declared.outcome.Outcome.TheVariants.{Done, Refused}
-use Rattle.sci_command.specs.Input.{IsReadAs}
-use Rattle.sci_command.specs.PacketLine.{packet_line}
-use Rattle.sci_command.specs.Refusal.{kind_word}
+use Rattle.sci_command.specs.{declared.outcome.Outcome.{Outcome, TheVariants.{Done, Refused}}, Input.{IsReadAs}}
+use Rattle.sci_command.specs.{PacketLine.{packet_line}, Refusal.{kind_word}}
 
 -- the word for what is wrong with a packet
 unfoldable pub fault_word : PacketFault → List ℕ

@@ -1,19 +1,12 @@
 -- What `audit` and `upgrade` write for their input.
 use Rattle.std.specs.Prelude.{◌≡◌, ◌↔◌, ℕ, Bool, List, Option}
 use Rattle.sci_words.specs.declared.stamped.Stamped.{Stamped}
-use Rattle.sci_history.specs.declared.entry.Entry.{Entry}
-use Rattle.sci_history.specs.declared.verdict.Verdict.{Verdict}
-use Rattle.sci_history.specs.declared.verdict.Verdict.TheVariants as verdicts
-use Rattle.sci_history.specs.Lawful.{Lawful}
+use Rattle.sci_history.specs.{declared.{entry.Entry.{Entry}, verdict.Verdict.{Verdict}}, Lawful.{Lawful}}
 use Rattle.sci_history.specs.Audit.{IsVerdict}
-use Rattle.sci_text.specs.Log.{log_text}
-use Rattle.sci_text.specs.FirstFault.{IsTold}
-use Rattle.sci_text.specs.LogValue.{IsLogs}
-use Rattle.sci_text.specs.LogFault.{IsLogFault}
-use Rattle.sci_command.specs.Answer.{IsAnswerBy, IsDoneBy}
-use Rattle.sci_command.specs.VerdictLine.{verdict_text}
-use Rattle.sci_command.specs.declared.outcome.Outcome.{Outcome}
-use Rattle.sci_command.specs.declared.outcome.Outcome.TheVariants.{Done, Unlawful}
+use Rattle.sci_text.specs.{Log.{log_text}, FirstFault.{IsTold}, LogValue.{IsLogs}, LogFault.{IsLogFault}}
+use Rattle.sci_command.specs.{Answer.{IsAnswerBy, IsDoneBy}, VerdictLine.{verdict_text}}
+use Rattle.sci_command.specs.declared.outcome.Outcome.{Outcome, TheVariants.{Done, Unlawful}}
+use Rattle.sci_history.specs.declared.verdict.Verdict.TheVariants as verdicts
 
 -- how an audit ends
 abbrev pub outcome_of : Verdict → Outcome

@@ -1,14 +1,9 @@
 -- What `oracle` writes for its input.
 use Rattle.std.specs.Prelude.{◌≡◌, ℕ, Bool, List, Option}
-use Rattle.sci_history.specs.Lawful.{Lawful}
-use Rattle.sci_history.specs.Oracle.{oracle_logs, oracle_last}
-use Rattle.sci_text.specs.Script.{ScriptValue, IsScript, script_text}
-use Rattle.sci_text.specs.FirstFault.{IsTold}
-use Rattle.sci_text.specs.ScriptFault.{IsScriptFault}
-use Rattle.sci_text.specs.Log.{log_text}
-use Rattle.sci_text.specs.LogValue.{IsLogs}
-use Rattle.sci_command.specs.Answer.{IsDoneBy}
-use Rattle.sci_command.specs.declared.outcome.Outcome.{Outcome}
+use Rattle.sci_history.specs.{Lawful.{Lawful}, Oracle.{oracle_logs, oracle_last}}
+use Rattle.sci_text.specs.{Script.{ScriptValue, IsScript, script_text}, FirstFault.{IsTold}}
+use Rattle.sci_text.specs.{ScriptFault.{IsScriptFault}, Log.{log_text}, LogValue.{IsLogs}}
+use Rattle.sci_command.specs.{Answer.{IsDoneBy}, declared.outcome.Outcome.{Outcome}}
 
 -- the text of the oracle's logs and last contents
 abbrev pub oracle_text : ScriptValue → List ℕ

@@ -1,19 +1,11 @@
 -- What `replay` writes for its input.
 use Rattle.std.specs.Prelude.{◌≡◌, ℕ, Bool, List, Option}
 use Rattle.sci_words.specs.declared.limits.TheConstants.{MAX_OPERATIONS}
-use Rattle.sci_history.specs.Lawful.{Lawful}
-use Rattle.sci_history.specs.Sequential.{IsSequentiallyConsistent}
-use Rattle.sci_core.specs.Size.{Size}
-use Rattle.sci_core.specs.Core.{Core, run}
-use Rattle.sci_core.specs.Outcome.{logs_of}
-use Rattle.sci_core.specs.Sharing.{last_of}
-use Rattle.sci_text.specs.Schedule.{ScheduleValue, IsSchedule, schedule_text}
-use Rattle.sci_text.specs.FirstFault.{IsTold}
-use Rattle.sci_text.specs.ScheduleFault.{IsScheduleFault}
-use Rattle.sci_text.specs.Log.{log_text}
-use Rattle.sci_text.specs.LogValue.{IsLogs}
-use Rattle.sci_command.specs.Answer.{IsDoneBy}
-use Rattle.sci_command.specs.declared.outcome.Outcome.{Outcome}
+use Rattle.sci_history.specs.{Lawful.{Lawful}, Sequential.{IsSequentiallyConsistent}}
+use Rattle.sci_core.specs.{Size.{Size}, Core.{Core, run}, Outcome.{logs_of}, Sharing.{last_of}}
+use Rattle.sci_text.specs.{Schedule.{ScheduleValue, IsSchedule, schedule_text}, FirstFault.{IsTold}}
+use Rattle.sci_text.specs.{ScheduleFault.{IsScheduleFault}, Log.{log_text}, LogValue.{IsLogs}}
+use Rattle.sci_command.specs.{Answer.{IsDoneBy}, declared.outcome.Outcome.{Outcome}}
 
 -- a machine of the schedule's size, whose nodes may each issue 65,536 operations
 abbrev pub replay_size : ScheduleValue → Size

@@ -1,18 +1,11 @@
 -- What `threads` writes for its input.
 use Rattle.std.specs.Prelude.{◌≡◌, ℕ, Bool, List, Option}
 use Rattle.sci_words.specs.declared.stamped.Stamped.{Stamped}
-use Rattle.sci_history.specs.declared.entry.Entry.{Entry}
-use Rattle.sci_history.specs.Lawful.{Lawful}
-use Rattle.sci_history.specs.Sequential.{IsSequentiallyConsistent}
-use Rattle.sci_text.specs.Script.{ScriptValue, IsScript, script_text}
-use Rattle.sci_text.specs.FirstFault.{IsTold}
-use Rattle.sci_text.specs.ScriptFault.{IsScriptFault}
-use Rattle.sci_text.specs.Log.{log_text}
-use Rattle.sci_text.specs.LogValue.{IsLogs}
+use Rattle.sci_history.specs.{declared.entry.Entry.{Entry}, Lawful.{Lawful}, Sequential.{IsSequentiallyConsistent}}
+use Rattle.sci_text.specs.{Script.{ScriptValue, IsScript, script_text}, FirstFault.{IsTold}}
+use Rattle.sci_text.specs.{ScriptFault.{IsScriptFault}, Log.{log_text}, LogValue.{IsLogs}}
 use Rattle.sci_threads.specs.Shares.{HaveLogsOf, HaveWholeLogsOf}
-use Rattle.sci_command.specs.Answer.{IsAnswerBy}
-use Rattle.sci_command.specs.declared.outcome.Outcome.{Outcome}
-use Rattle.sci_command.specs.declared.outcome.Outcome.TheVariants.{Done}
+use Rattle.sci_command.specs.{Answer.{IsAnswerBy}, declared.outcome.Outcome.{Outcome, TheVariants.{Done}}}
 
 -- The input is the text of a script, and the text of logs is written that are lawful and sequentially consistent, and of
 -- the script: in each node's log each entry has the operation that its serial names, and no serial stands twice. If it

@@ -1,11 +1,8 @@
 //! The command `audit`: whether a log is lawful, or the first rule that it breaks.
 
 ghost use Rattle.std.specs.Prelude.{◌≡◌, false};
-ghost use Rattle.sci_text.specs.FirstFault.{IsTold};
-ghost use Rattle.sci_text.specs.LogFault.{IsLogFault};
-ghost use Rattle.sci_text.specs.Tap.{has_failed};
-ghost use Rattle.sci_command.specs.Answer.{HasAnswered};
-ghost use Rattle.sci_command.specs.declared.outcome.Outcome.{Outcome};
+ghost use Rattle.sci_text.specs.{FirstFault.{IsTold}, LogFault.{IsLogFault}, Tap.{has_failed}};
+ghost use Rattle.sci_command.specs.{Answer.{HasAnswered}, declared.outcome.Outcome.{Outcome}};
 ghost use Rattle.scimem.specs.LogAnswer.{IsAuditAnswer, outcome_of};
 
 use sci_command::{Answer, Outcome, verdict_line};

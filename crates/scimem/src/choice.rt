@@ -2,8 +2,7 @@
 
 ghost use Rattle.std.specs.Prelude.{◌≡◌, ◌↔◌, ◌≤◌, ◌∷◌, [], ℕ, IfOk, Some, map};
 ghost use Rattle.sci_text.specs.Number.{number};
-ghost use Rattle.scimem.specs.declared.choice.Command.{Command};
-ghost use Rattle.scimem.specs.Choice.{Chooses};
+ghost use Rattle.scimem.specs.{declared.choice.Command.{Command}, Choice.{Chooses}};
 
 use sci_command::texts_of;
 use sci_text::whole_number;

@@ -2,10 +2,9 @@
 
 ghost use Rattle.std.specs.Prelude.{◌≡◌, ◌≤◌, ℕ, List, [], false, length};
 ghost use Rattle.sci_text.specs.Tap.{has_failed, is_called_again, tapped};
-ghost use Rattle.sci_command.specs.declared.outcome.Outcome.{Outcome};
-ghost use Rattle.sci_command.specs.Writing.{HasCarriedOut, IsPrinted};
-ghost use Rattle.scimem.specs.Decoding.{IsDecoded, IsAnswer, refusal, fault_word};
+ghost use Rattle.sci_command.specs.{declared.outcome.Outcome.{Outcome}, Writing.{HasCarriedOut, IsPrinted}};
 ghost use Rattle.sci_command.specs.Refusal.{kind_word};
+ghost use Rattle.scimem.specs.Decoding.{IsDecoded, IsAnswer, refusal, fault_word};
 
 use sci_command::{Outcome, packet_head, packet_tail, print_end, print_piece, write_answer};
 use sci_packets::{PacketFault, decode};

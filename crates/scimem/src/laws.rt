@@ -1,13 +1,9 @@
 //! Laws of the commands, each the contract of a function that does nothing.
 
 ghost use Rattle.std.specs.Prelude.{◌≡◌, ℕ, List};
-ghost use Rattle.sci_command.specs.declared.outcome.Outcome.{Outcome};
-ghost use Rattle.scimem.specs.Decoding.{IsDecoded};
-ghost use Rattle.sci_command.specs.VerdictLine.{verdict_text};
-ghost use Rattle.scimem.specs.LogAnswer.{IsAuditOf};
-ghost use Rattle.scimem.specs.OracleAnswer.{IsOracleOf};
-ghost use Rattle.scimem.specs.ReplayAnswer.{IsReplayOf};
-ghost use Rattle.scimem.specs.ThreadsAnswer.{IsThreadsOf};
+ghost use Rattle.sci_command.specs.{declared.outcome.Outcome.{Outcome}, VerdictLine.{verdict_text}};
+ghost use Rattle.scimem.specs.{Decoding.{IsDecoded}, LogAnswer.{IsAuditOf}, OracleAnswer.{IsOracleOf}};
+ghost use Rattle.scimem.specs.{ReplayAnswer.{IsReplayOf}, ThreadsAnswer.{IsThreadsOf}};
 ghost use Rattle.sci_history.specs.declared.verdict.Verdict.TheVariants as verdicts;
 
 use sci_packets::laws::{no_proper_prefix, one_packet};

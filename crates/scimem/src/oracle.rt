@@ -1,9 +1,7 @@
 //! The command `oracle`: the log of one memory that does a script's operations in text order.
 
 ghost use Rattle.std.specs.Prelude.{◌≡◌, false};
-ghost use Rattle.sci_text.specs.FirstFault.{IsTold};
-ghost use Rattle.sci_text.specs.ScriptFault.{IsScriptFault};
-ghost use Rattle.sci_text.specs.Tap.{has_failed};
+ghost use Rattle.sci_text.specs.{FirstFault.{IsTold}, ScriptFault.{IsScriptFault}, Tap.{has_failed}};
 ghost use Rattle.sci_command.specs.Answer.{HasAnswered};
 ghost use Rattle.scimem.specs.OracleAnswer.{IsOracleAnswer};
 

@@ -1,9 +1,7 @@
 //! The command `replay`: the log of the machine where a schedule leads.
 
 ghost use Rattle.std.specs.Prelude.{◌≡◌, false, IfOk, IfErr};
-ghost use Rattle.sci_text.specs.FirstFault.{IsRefusal, IsTold};
-ghost use Rattle.sci_text.specs.ScheduleFault.{IsScheduleFault};
-ghost use Rattle.sci_text.specs.Tap.{has_failed};
+ghost use Rattle.sci_text.specs.{FirstFault.{IsRefusal, IsTold}, ScheduleFault.{IsScheduleFault}, Tap.{has_failed}};
 ghost use Rattle.sci_command.specs.Answer.{HasAnswered};
 ghost use Rattle.scimem.specs.ReplayAnswer.{IsReplayAnswer, IsWhereLed};
 

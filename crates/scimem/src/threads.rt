@@ -1,9 +1,7 @@
 //! The command `threads`: the log of a run of a script with one thread a node.
 
 ghost use Rattle.std.specs.Prelude.{◌≡◌, false};
-ghost use Rattle.sci_text.specs.FirstFault.{IsTold};
-ghost use Rattle.sci_text.specs.ScriptFault.{IsScriptFault};
-ghost use Rattle.sci_text.specs.Tap.{has_failed};
+ghost use Rattle.sci_text.specs.{FirstFault.{IsTold}, ScriptFault.{IsScriptFault}, Tap.{has_failed}};
 ghost use Rattle.sci_command.specs.Answer.{HasAnswered};
 ghost use Rattle.scimem.specs.ThreadsAnswer.{IsThreadsAnswer};
 

@@ -1,9 +1,7 @@
 //! The command `upgrade`: the same log in format 2.
 
 ghost use Rattle.std.specs.Prelude.{◌≡◌, false};
-ghost use Rattle.sci_text.specs.FirstFault.{IsTold};
-ghost use Rattle.sci_text.specs.LogFault.{IsLogFault};
-ghost use Rattle.sci_text.specs.Tap.{has_failed};
+ghost use Rattle.sci_text.specs.{FirstFault.{IsTold}, LogFault.{IsLogFault}, Tap.{has_failed}};
 ghost use Rattle.sci_command.specs.Answer.{HasAnswered};
 ghost use Rattle.scimem.specs.LogAnswer.{IsUpgradeAnswer};
 

@@ -1,8 +1,7 @@
 -- The words of figures.
-use Rattle.std.proofs.Common.{◌≡◌, ◌↔◌, ◌<◌, ◌≤◌, ◌-◌, ℕ, arith, length, get_or, take, List, [], ◌∷◌, map, drop, Option, Some, None}
-use Rattle.std.proofs.Common.{sym, ap, ◌∙◌, refl}
-use Rattle.std.specs.Prelude.{codes, option_map}
+use Rattle.std.proofs.Common.{◌≡◌, ◌↔◌, ◌<◌, ◌≤◌, ◌-◌, ℕ, arith, length, get_or, take, List, [], ◌∷◌, map, drop, Option, Some, None, sym, ap, ◌∙◌, refl}
 use Rattle.std.proofs.lemmas.List.{length-drop, take_all}
+use Rattle.std.specs.Prelude.{codes, option_map}
 use Rattle.sci_words.specs.declared.limits.TheConstants.{MAX_LINES}
 use Rattle.sci_text.specs.Number.{number}
 use Rattle.sci_statistics.specs.declared.counting.StatsRequest.{StatsRequest}

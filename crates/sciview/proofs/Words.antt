@@ -1,15 +1,14 @@
 -- The words of a walk, from the words of its numbers and those of its share.
-use Rattle.std.proofs.Common.{◌-◌, ◌≡◌, ◌↔◌, ◌<◌, ◌≤◌, ◌+◌, ◌^◌, ℕ, arith, length, get_or, IfSome, List, [], ◌∷◌, ◌++◌, map, take, drop, Option}
-use Rattle.std.proofs.Common.{Some, None, sym, ap, ◌∙◌, refl, subst}
+use Rattle.std.proofs.Common.{◌-◌, ◌≡◌, ◌↔◌, ◌<◌, ◌≤◌, ◌+◌, ◌^◌, ℕ, arith, length, get_or, IfSome, List, [], ◌∷◌, ◌++◌, map, take, drop, Option, Some}
+use Rattle.std.proofs.Common.{None, sym, ap, ◌∙◌, refl, subst}
 use Rattle.std.proofs.lemmas.List.{length-map, take_all, take-map, drop-map, take-append-drop, map-append}
 use Rattle.std.specs.Prelude.{codes, Bool, true, false, option_map}
-use Rattle.sci_charts.specs.declared.charting.ChartRequest.{ChartRequest}
-use Rattle.sci_charts.specs.declared.charting.TextLines.{TextLines}
+use Rattle.sci_charts.specs.declared.charting.{ChartRequest.{ChartRequest}, TextLines.{TextLines}}
 use Rattle.sci_traces.specs.declared.tracing.TraceRequest.{TraceRequest}
 use Rattle.sci_text.specs.Number.{number}
 use Rattle.sci_walks.specs.declared.random.Walk.{Walk}
-use Rattle.sciview.specs.Choice.{ChoosesChart, ChoosesTrace, ChoosesWords, FitsDead, FitsEvents, FitsLine, FitsWalk, dead_words, events_words, flag, line_words}
-use Rattle.sciview.specs.Choice.{number_words, walk_words}
+use Rattle.sciview.specs.Choice.{ChoosesChart, ChoosesTrace, ChoosesWords, FitsDead, FitsEvents, FitsLine, FitsWalk, dead_words, events_words, flag}
+use Rattle.sciview.specs.Choice.{line_words, number_words, walk_words}
 
 -- the words are those of the first five and those of the rest
 parts : {X : Type 0} (f : X → List ℕ) (words : List X) → map f words ≡ map f (take 5 words) ++ map f (drop 5 words)

@@ -2,23 +2,19 @@
 use Rattle.std.specs.Prelude.{◌≡◌, ◌<◌, ◌≤◌, ◌^◌, ◌++◌, ◌⊎◌, ℕ, Bool, List, [], ◌∷◌, codes, Option, Some, None, IfSome, true, false}
 use Rattle.sci_words.specs.declared.limits.TheConstants.{MAX_LINES, MAX_NODES}
 use Rattle.sci_text.specs.Number.{number}
-use Rattle.sci_charts.specs.declared.charting.ChartRequest.{ChartRequest}
-use Rattle.sci_charts.specs.declared.charting.TextLines.{TextLines}
-use Rattle.sci_drive.specs.declared.driver.Issuing.{Issuing}
-use Rattle.sci_drive.specs.declared.driver.Issuing.TheVariants.{Ahead, InOrder}
-use Rattle.sci_reports.specs.declared.ordering.NodeOrder.{NodeOrder}
-use Rattle.sci_reports.specs.declared.ordering.NodeOrder.TheVariants.{Logged, BySerial}
+use Rattle.sci_charts.specs.declared.charting.{ChartRequest.{ChartRequest}, TextLines.{TextLines}}
+use Rattle.sci_drive.specs.declared.driver.Issuing.{Issuing, TheVariants.{Ahead, InOrder}}
+use Rattle.sci_reports.specs.declared.ordering.NodeOrder.{NodeOrder, TheVariants.{Logged, BySerial}}
 use Rattle.sci_reports.specs.declared.ordering.OrderRequest.{OrderRequest}
 use Rattle.sci_walks.specs.declared.random.Walk.{Walk}
-use Rattle.sci_outcomes.specs.declared.trials.Turns.{Turns}
-use Rattle.sci_outcomes.specs.declared.trials.Turns.TheVariants.{Drawn, Threads}
-use Rattle.sci_run_reports.specs.declared.outcomes.OutcomesRequest.{OutcomesRequest}
-use Rattle.sci_run_reports.specs.declared.outcomes.TheConstants.{MAX_RUNS}
+use Rattle.sci_outcomes.specs.declared.trials.Turns.{Turns, TheVariants.{Drawn, Threads}}
+use Rattle.sci_run_reports.specs.declared.outcomes.{OutcomesRequest.{OutcomesRequest}, TheConstants.{MAX_RUNS}}
 use Rattle.sci_run_reports.specs.declared.running.RunRequest.{RunRequest}
 use Rattle.sci_statistics.specs.declared.counting.StatsRequest.{StatsRequest}
 use Rattle.sci_traces.specs.declared.tracing.TraceRequest.{TraceRequest}
 use Rattle.sciview.specs.declared.choice.Command.{Command}
-use Rattle.sciview.specs.declared.choice.Command.TheVariants.{Order, Explain, Check, Packets, Trace, Lists, Stats, Chart, Random, Run, Outcomes, Help, Version}
+use Rattle.sciview.specs.declared.choice.Command.TheVariants.{Order, Explain, Check, Packets, Trace, Lists, Stats, Chart, Random, Run, Outcomes, Help}
+use Rattle.sciview.specs.declared.choice.Command.TheVariants.{Version}
 
 -- an option that is one word, if it is given
 abbrev pub flag : List ℕ → Bool → List (List ℕ)

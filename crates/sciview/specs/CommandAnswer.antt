@@ -1,21 +1,14 @@
 -- What each command writes for its input, and how it ends.
 use Rattle.std.specs.Prelude.{◌≡◌, ℕ, Bool, List, Option}
-use Rattle.sci_command.specs.declared.outcome.Outcome.{Outcome}
-use Rattle.sci_command.specs.declared.outcome.Outcome.TheVariants.{Done}
-use Rattle.sciview.specs.declared.choice.Command.{Command}
-use Rattle.sciview.specs.declared.choice.Command.TheVariants as commands
-use Rattle.sciview.specs.declared.help.TheConstants.{HELP, VERSION}
+use Rattle.sci_command.specs.declared.outcome.Outcome.{Outcome, TheVariants.{Done}}
+use Rattle.sciview.specs.declared.{choice.Command.{Command}, help.TheConstants.{HELP, VERSION}}
 use Rattle.sci_charts.specs.ChartAnswer.{IsChartAnswer}
-use Rattle.sci_reports.specs.CheckAnswer.{IsCheckAnswer}
-use Rattle.sci_reports.specs.ExplainAnswer.{IsExplainAnswer}
-use Rattle.sci_traces.specs.ListsAnswer.{IsListsAnswer}
-use Rattle.sci_reports.specs.OrderAnswer.{IsOrderAnswer}
-use Rattle.sci_run_reports.specs.OutcomesAnswer.{IsOutcomesAnswer}
-use Rattle.sci_traces.specs.PacketsAnswer.{IsPacketsAnswer}
+use Rattle.sci_reports.specs.{CheckAnswer.{IsCheckAnswer}, ExplainAnswer.{IsExplainAnswer}, OrderAnswer.{IsOrderAnswer}}
+use Rattle.sci_traces.specs.{ListsAnswer.{IsListsAnswer}, PacketsAnswer.{IsPacketsAnswer}, TraceAnswer.{IsTraceAnswer}}
+use Rattle.sci_run_reports.specs.{OutcomesAnswer.{IsOutcomesAnswer}, RunAnswer.{IsRunAnswer}}
 use Rattle.sci_walks.specs.RandomAnswer.{IsRandomAnswer}
-use Rattle.sci_run_reports.specs.RunAnswer.{IsRunAnswer}
 use Rattle.sci_statistics.specs.StatsAnswer.{IsStatsAnswer}
-use Rattle.sci_traces.specs.TraceAnswer.{IsTraceAnswer}
+use Rattle.sciview.specs.declared.choice.Command.TheVariants as commands
 
 -- the text that a command writes, and how it ends, for the bytes of a reader, which has failed or not
 abbrev pub IsAnswerTo : Command → Option (List ℕ) → Bool → List ℕ → Outcome → Type 0

@@ -3,9 +3,11 @@
 ghost use Rattle.std.specs.Prelude.{◌≡◌, ◌↔◌, ◌<◌, ◌≤◌, ◌+◌, ◌∷◌, length, [], ℕ, Option, IfOk, Some, map, codes};
 ghost use Rattle.sci_words.specs.declared.limits.TheConstants.{MAX_LINES, MAX_NODES};
 ghost use Rattle.sci_text.specs.Number.{number};
-ghost use Rattle.sci_charts.specs.declared.charting.ChartRequest.{ChartRequest};
-ghost use Rattle.sci_charts.specs.declared.charting.TextLines.{TextLines};
+ghost use Rattle.sci_charts.specs.declared.charting.{ChartRequest.{ChartRequest}, TextLines.{TextLines}};
 ghost use Rattle.sciview.specs.declared.choice.Command.{Command};
+ghost use Rattle.sciview.specs.Choice.{Chooses, ChoosesBy, ChoosesChart, ChoosesOrder, ChoosesOutcomes, ChoosesPace, ChoosesRun, ChoosesStats};
+ghost use Rattle.sciview.specs.Choice.{ChoosesTrace, ChoosesTurnOrder, ChoosesWalk, ChoosesWords, FitsDead, FitsEvents, FitsLine, FitsNode, FitsTurns};
+ghost use Rattle.sciview.specs.Choice.{FitsWalk, dead_words, events_words, flag, is_in_order, line_words, node_words, turns_words, walk_words};
 ghost use Rattle.sci_reports.specs.declared.ordering.OrderRequest.{OrderRequest};
 ghost use Rattle.sci_walks.specs.declared.random.Walk.{Walk};
 ghost use Rattle.sci_drive.specs.declared.driver.Issuing.{Issuing};
@@ -14,7 +16,6 @@ ghost use Rattle.sci_run_reports.specs.declared.outcomes.OutcomesRequest.{Outcom
 ghost use Rattle.sci_run_reports.specs.declared.running.RunRequest.{RunRequest};
 ghost use Rattle.sci_statistics.specs.declared.counting.StatsRequest.{StatsRequest};
 ghost use Rattle.sci_traces.specs.declared.tracing.TraceRequest.{TraceRequest};
-ghost use Rattle.sciview.specs.Choice.{Chooses, ChoosesBy, ChoosesChart, ChoosesOrder, ChoosesOutcomes, ChoosesPace, ChoosesRun, ChoosesStats, ChoosesTrace, ChoosesTurnOrder, ChoosesWalk, ChoosesWords, FitsDead, FitsEvents, FitsLine, FitsNode, FitsTurns, FitsWalk, dead_words, events_words, flag, is_in_order, line_words, node_words, turns_words, walk_words};
 
 use sci_charts::{ChartRequest, TextLines};
 use sci_command::texts_of;

@@ -1,17 +1,11 @@
 -- Logs that are filled one after another.
 use Rattle.std.proofs.Common.{◌≡◌, ℕ, ◌+◌, ◌<◌, ◌≤◌, nat_lt, if◌then◌else◌, List, [], ◌∷◌, ◌++◌, length, get_or, set, sym, ap, subst, ◌∙◌, arith}
+use Rattle.std.proofs.{Math.Seq.{get_or-append_seam}, lemmas.Bool.{cases_eq, cases_lt, lt-ltb, le-ltb}}
+use Rattle.std.proofs.lemmas.List.{get_or_past, get_or-set_same, get_or-set_other, length-append, FromFn.{fill_by_all}}
 use Rattle.std.specs.List.{All}
-use Rattle.std.proofs.Math.Seq.{get_or-append_seam}
-use Rattle.std.proofs.lemmas.Bool.{cases_eq, cases_lt, lt-ltb, le-ltb}
-use Rattle.std.proofs.lemmas.List.{get_or_past, get_or-set_same, get_or-set_other, length-append}
-use Rattle.std.proofs.lemmas.List.FromFn.{fill_by_all}
 use Rattle.sci_words.specs.declared.limits.TheConstants.{MAX_OPERATIONS}
-use Rattle.sci_history.specs.declared.entry.Entry.{Entry}
-use Rattle.sci_history.specs.Placed.{log_of}
-use Rattle.sci_core.specs.Node.{NodeOf, no_node}
-use Rattle.sci_core.specs.Core.{Core, node_at}
-use Rattle.sci_core.specs.Outcome.{logs_of}
-use Rattle.sci_core.specs.WellFormed.{IsWellFormed}
+use Rattle.sci_history.specs.{declared.entry.Entry.{Entry}, Placed.{log_of}}
+use Rattle.sci_core.specs.{Node.{NodeOf, no_node}, Core.{Core, node_at}, Outcome.{logs_of}, WellFormed.{IsWellFormed}}
 
 log_at : (core : Core) (n : ℕ) (k : ℕ) → length core.parts ≡ n → (if nat_lt k n then (node_at core k).log else []) ≡ (node_at core k).log
 log_at core n k long = grind (arith, cases_lt, lt-ltb, get_or_past, le-ltb)

@@ -1,8 +1,7 @@
 -- Optional values.
 use Rattle.std.proofs.Common.{◌≡◌, ℕ, zero, suc, ◌<◌, nat_lt, if◌then◌else◌, replicate, get_or, Option, Some, None, refl, subst}
-use Rattle.std.specs.Prelude.{IfSome, IsSome, option_map}
-use Rattle.std.specs.Option.{option_or}
 use Rattle.std.proofs.lemmas.Bool.{ltb-true}
+use Rattle.std.specs.{Prelude.{IfSome, IsSome, option_map}, Option.{option_or}}
 use Rattle.sci_core.proofs.Basics.Lists.{if_cases}
 
 -- what holds of an optional value if it is there, holds of it

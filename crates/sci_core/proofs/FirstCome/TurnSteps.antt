@@ -1,45 +1,27 @@
 -- Of every line, the node that is let in waits last, and the first of those who wait becomes the authority: of every step, and of
 -- every schedule.
-use Rattle.std.proofs.Common.{◌≡◌, ◌≢◌, ℕ, zero, suc, ◌+◌, ◌%◌, ◌<◌, ◌≤◌, not, ◌&&◌, Bool, true, false, if◌then◌else◌, List, [], ◌∷◌, ◌++◌, filter, reverse}
-use Rattle.std.proofs.Common.{Option, Some, None, refl, sym, ap, subst, ◌∙◌, arith, inl, inr}
-use Rattle.std.specs.Prelude.{IfSome, slice_get, unwrap_or, ◌==◌}
-use Rattle.std.specs.List.{AllByRecursion, range_with_len}
+use Rattle.std.proofs.Common.{◌≡◌, ◌≢◌, ℕ, zero, suc, ◌+◌, ◌%◌, ◌<◌, ◌≤◌, not, ◌&&◌, Bool, true, false, if◌then◌else◌, List, [], ◌∷◌, ◌++◌, filter}
+use Rattle.std.proofs.Common.{reverse, Option, Some, None, refl, sym, ap, subst, ◌∙◌, arith, inl, inr}
 use Rattle.std.proofs.lemmas.Bool.{cases_Bool, cases_eq, eq-eqb, ne_eqb}
 use Rattle.std.proofs.lemmas.List.{append_assoc, get_or-set_other, append-nil, reverse-append, reverse-reverse}
-use Rattle.sci_words.specs.declared.event.Event.{Event}
-use Rattle.sci_words.specs.declared.event.Event.TheVariants as event
-use Rattle.sci_words.specs.declared.operation.Op.{Op}
-use Rattle.sci_words.specs.declared.stamped.Stamped.{Stamped}
+use Rattle.std.specs.{Prelude.{IfSome, slice_get, unwrap_or, ◌==◌}, List.{AllByRecursion, range_with_len}}
+use Rattle.sci_words.specs.declared.{event.Event.{Event}, operation.Op.{Op}, stamped.Stamped.{Stamped}}
 use Rattle.sci_history.specs.declared.entry.Entry.{Entry}
 use Rattle.sci_packets.specs.declared.body.Body.{Body}
-use Rattle.sci_packets.specs.declared.body.Body.TheVariants as body
-use Rattle.sci_home.specs.declared.state.HomeState.{HomeState}
-use Rattle.sci_home.specs.Serving.{head_of, home_serving as at_home}
-use Rattle.sci_cache.specs.State.{CacheState}
-use Rattle.sci_cache.specs.Performing.{performing}
-use Rattle.sci_cache.specs.Serving.{serving}
-use Rattle.sci_cache.specs.Cache.{Letter, line_of}
-use Rattle.sci_core.specs.declared.lane.LaneKind.{LaneKind}
-use Rattle.sci_core.specs.declared.lane.LaneKind.TheVariants.{Requests, Answers}
+use Rattle.sci_home.specs.{declared.state.HomeState.{HomeState}, Serving.{head_of, home_serving as at_home}}
+use Rattle.sci_cache.specs.{State.{CacheState}, Performing.{performing}, Serving.{serving}, Cache.{Letter, line_of}}
+use Rattle.sci_core.specs.declared.lane.LaneKind.{LaneKind, TheVariants.{Requests, Answers}}
 use Rattle.sci_core.specs.Core.{Core, lane_of, lane_place, node_at, opening, run, run_from, sent_by, step, stepping, with_lane, with_node}
 use Rattle.sci_core.specs.FirstCome.{AreInTurn, AreWaiting, Before, IsInTurn, Nobody, entered, enters, entrant_by, entrants, is_authority, succeeded}
 use Rattle.sci_core.specs.FirstCome.{successors}
 use Rattle.sci_core.specs.Node.{NodeOf, home_of, node_accepting, node_asking, node_issuing, node_performing, node_refusing, node_replying, node_serving}
-use Rattle.sci_core.specs.Reached.{IsReachable}
-use Rattle.sci_core.specs.Sharing.{home_at}
-use Rattle.sci_core.specs.SharingList.{IsListOf, IsSharingList, LinkedFrom}
-use Rattle.sci_core.specs.Size.{IsSize, Size}
-use Rattle.sci_core.specs.Tidy.{IsTidy}
-use Rattle.sci_core.specs.WellFormed.{IsPart, IsWellFormed}
+use Rattle.sci_core.specs.{Reached.{IsReachable}, Sharing.{home_at}, SharingList.{IsListOf, IsSharingList, LinkedFrom}}
+use Rattle.sci_core.specs.{Size.{IsSize, Size}, Tidy.{IsTidy}, WellFormed.{IsPart, IsWellFormed}}
 use Rattle.sci_core.proofs.Step.Applied.{front_comes}
-use Rattle.sci_core.proofs.Shape.CacheShapes.{ServesAs, cache_serves}
-use Rattle.sci_core.proofs.Settling.Drains.{TookFrom, made_by, some_node, took_from}
-use Rattle.sci_core.proofs.Shape.Led.{IsLed, alike_same, role_in}
 use Rattle.sci_core.proofs.Step.NodeSides.{At_home, In_cache, PerformedAs, ServedAs, perform_as}
-use Rattle.sci_core.proofs.Basics.Options.{of_some}
-use Rattle.sci_core.proofs.WellFormed.Parts.{RepliesWell, SendsWell, part_asking, part_replying}
+use Rattle.sci_core.proofs.Step.{Sides.{steps_by_sides}, Steps.{Sent, Taken, lane_below}}
+use Rattle.sci_core.proofs.Shape.{CacheShapes.{ServesAs, cache_serves}, Led.{IsLed, alike_same, role_in}}
 use Rattle.sci_core.proofs.Shape.PerformShapes.{Moves, made_links, made_view}
-use Rattle.sci_core.proofs.ReachedLaws.{any_shaped}
 use Rattle.sci_core.proofs.Shape.ShapeClauses.{authority_leads, leads_authority, leads_member, member_below, split_parts}
 use Rattle.sci_core.proofs.Shape.Chains.{none_empty}
 use Rattle.sci_core.proofs.Shape.ShapeRuns.{accept_stands, answered, ask_stands, issue_stands, opening_at_home, opening_shaped, operates_so, pending_known}
@@ -47,15 +29,17 @@ use Rattle.sci_core.proofs.Shape.ShapeRuns.{refuse_stands, reply_stands, serve_d
 use Rattle.sci_core.proofs.Shape.ShapeServes.{Answered, home_turns, other_line, served_shift, told_here, with_home, with_served}
 use Rattle.sci_core.proofs.Shape.ShapeSteps.{SameLine, homes_same, performed_moves, performed_same, view_of}
 use Rattle.sci_core.proofs.Shape.Shapes.{IsShaped}
-use Rattle.sci_core.proofs.Step.Sides.{steps_by_sides}
 use Rattle.sci_core.proofs.Shape.Standings.{Coming, Leading, Leaves, Makes, Performs, Reads, performing_does}
-use Rattle.sci_core.proofs.Step.Steps.{Sent, Taken, lane_below}
-use Rattle.sci_core.proofs.Tidy.TidyRuns.{any_tidy, run_reachable}
+use Rattle.sci_core.proofs.{Shape.Views.{View, link_in}, Settling.Drains.{TookFrom, made_by, some_node, took_from}}
+use Rattle.sci_core.proofs.Basics.Options.{of_some}
+use Rattle.sci_core.proofs.WellFormed.Parts.{RepliesWell, SendsWell, part_asking, part_replying}
+use Rattle.sci_core.proofs.WellFormed.WellFormedSteps.{any_well, reachable_stepping, step_well, reachable_next}
+use Rattle.sci_core.proofs.{ReachedLaws.{any_shaped}, Tidy.TidyRuns.{any_tidy, run_reachable}}
+use Rattle.sci_core.proofs.Tidy.WaitingNodes.{Answers as AnswersTo, serve_answers}
 use Rattle.sci_core.proofs.FirstCome.Turns.{HomeTurns, One, Nobody as Unsucceeded, Succeeds, Turned, arrival_by, cache_turned, coming_ends, coming_in}
 use Rattle.sci_core.proofs.FirstCome.Turns.{coming_more, home_turned, led_of, turned_alike, turned_same}
-use Rattle.sci_core.proofs.Shape.Views.{View, link_in}
-use Rattle.sci_core.proofs.Tidy.WaitingNodes.{Answers as AnswersTo, serve_answers}
-use Rattle.sci_core.proofs.WellFormed.WellFormedSteps.{any_well, reachable_stepping, step_well, reachable_next}
+use Rattle.sci_words.specs.declared.event.Event.TheVariants as event
+use Rattle.sci_packets.specs.declared.body.Body.TheVariants as body
 
 -- ---- one list, one queue
 

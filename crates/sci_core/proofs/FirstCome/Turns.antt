@@ -1,22 +1,14 @@
 -- One line's list, as a queue: what each row of the tables does to the members before the one that leads.
 use Rattle.std.proofs.Common.{◌≡◌, ◌≢◌, ℕ, Bool, true, false, if◌then◌else◌, List, [], ◌∷◌, ◌++◌, Option, Some, None, refl, sym, ap, subst, ◌∙◌, inl, inr}
-use Rattle.std.proofs.Common.{arith}
+use Rattle.std.proofs.{Common.{arith}, lemmas.{Bool.{cases_eq}, List.{append-nil}}}
 use Rattle.std.specs.Prelude.{IfSome}
-use Rattle.std.proofs.lemmas.Bool.{cases_eq}
-use Rattle.std.proofs.lemmas.List.{append-nil}
 use Rattle.sci_words.specs.declared.stamped.Stamped.{Stamped}
 use Rattle.sci_packets.specs.declared.body.Body.{Body}
-use Rattle.sci_packets.specs.declared.body.Body.TheVariants as body
 use Rattle.sci_home.specs.declared.state.HomeState.{HomeState}
-use Rattle.sci_home.specs.declared.state.HomeState.TheVariants as at
 use Rattle.sci_home.specs.Serving.{head_of, serving_mread, serving_fread, serving_claim, serving_clear, serving_wback, home_serving as at_home}
-use Rattle.sci_cache.specs.State.{CacheState, Asking, Claiming, Clearing, Returning}
-use Rattle.sci_cache.specs.Member.{link_of}
-use Rattle.sci_cache.specs.Cache.{Letter}
+use Rattle.sci_cache.specs.{State.{CacheState, Asking, Claiming, Clearing, Returning}, Member.{link_of}, Cache.{Letter}}
 use Rattle.sci_history.specs.Seen.{IsAmong}
-use Rattle.sci_core.specs.FirstCome.{enters}
-use Rattle.sci_core.specs.SharingList.{IsListOf, IsOnce, LinkedFrom}
-use Rattle.sci_core.specs.Tidy.{IsSentIn}
+use Rattle.sci_core.specs.{FirstCome.{enters}, SharingList.{IsListOf, IsOnce, LinkedFrom}, Tidy.{IsSentIn}}
 use Rattle.sci_core.proofs.Shape.CacheShapes.{Joined, JoinedAt, Keeps, LeftAt, Purged, Rolled, ServesAs, joined_at, kept_alike, purged_at, rolled_at}
 use Rattle.sci_core.proofs.Shape.Chains.{chain_gone, chain_same, chain_taken_out, next_of, none_empty, not_in, without, without_other}
 use Rattle.sci_core.proofs.Shape.Heads.{if_head}
@@ -25,6 +17,8 @@ use Rattle.sci_core.proofs.Shape.ShapeClauses.{stands_as}
 use Rattle.sci_core.proofs.Shape.Shapes.{Asks, IsShaped, after, before, claimed_list, fronts_list, home_sent, stays_alike}
 use Rattle.sci_core.proofs.Shape.Standings.{Alike, Coming, Following, Leading, Role, role_of}
 use Rattle.sci_core.proofs.Shape.Views.{Shift, View, link_in}
+use Rattle.sci_packets.specs.declared.body.Body.TheVariants as body
+use Rattle.sci_home.specs.declared.state.HomeState.TheVariants as at
 
 -- ---- the members before the one that leads
 

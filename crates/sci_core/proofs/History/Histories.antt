@@ -1,37 +1,24 @@
 -- The entries of a schedule on a line are the line's history, and the nodes' logs are theirs.
 use Rattle.std.proofs.Common.{◌≡◌, ℕ, ◌<◌, List, [], ◌∷◌, ◌++◌, length, filter, append_assoc, Option, Some, None, refl, sym, ap, subst, ◌∙◌, arith}
-use Rattle.std.specs.Prelude.{IsTrue, IfSome, unwrap_or, option_to_list}
-use Rattle.std.proofs.lemmas.Option.{IfSome_then}
-use Rattle.std.specs.List.{AllByRecursion}
-use Rattle.std.proofs.lemmas.Bool.{cases_eq, eq-eqb, ne_eqb}
-use Rattle.std.proofs.lemmas.List.{append-nil, get_or-set_same, get_or-set_other}
-use Rattle.std.proofs.lemmas.List.Elements.{filter-append}
-use Rattle.sci_words.specs.declared.event.Event.{Event}
-use Rattle.sci_words.specs.declared.stamped.Stamped.{Stamped}
-use Rattle.sci_history.specs.declared.entry.Entry.{Entry}
-use Rattle.sci_history.specs.Audit.{IsWithin}
-use Rattle.sci_history.specs.History.{IsHistory}
+use Rattle.std.proofs.lemmas.{Option.{IfSome_then}, Bool.{cases_eq, eq-eqb, ne_eqb}}
+use Rattle.std.proofs.lemmas.List.{append-nil, get_or-set_same, get_or-set_other, Elements.{filter-append}}
+use Rattle.std.specs.{Prelude.{IsTrue, IfSome, unwrap_or, option_to_list}, List.{AllByRecursion}}
+use Rattle.sci_words.specs.{declared.{event.Event.{Event}, stamped.Stamped.{Stamped}}, Operation.{has_words}}
+use Rattle.sci_history.specs.{declared.entry.Entry.{Entry}, Audit.{IsWithin}, History.{IsHistory}}
 use Rattle.sci_history.specs.Placed.{is_of_node, is_on_line}
 use Rattle.sci_history.proofs.Order.{filter_yes, filter_no}
 use Rattle.sci_cache.specs.Cache.{Letter}
 use Rattle.sci_core.specs.Node.{NodeOf, node_issuing, node_performing, node_asking, node_serving, node_refusing, node_replying, node_accepting, pending_on}
-use Rattle.sci_core.specs.Node.{IsPendingOn, no_node}
-use Rattle.sci_core.specs.Core.{Core, node_at, with_node, stepping, step, run_from}
-use Rattle.sci_core.specs.Done.{performed, ChangesBy, made_by, done_from}
-use Rattle.sci_core.specs.Tidy.{IsTidy}
-use Rattle.sci_core.specs.WellFormed.{IsWellFormed}
-use Rattle.sci_core.proofs.Basics.Lists.{at_place_set}
-use Rattle.sci_core.proofs.Basics.Options.{of_some}
-use Rattle.sci_core.proofs.WellFormed.WellFormedSteps.{step_well}
+use Rattle.sci_core.specs.{Node.{IsPendingOn, no_node}, Core.{Core, node_at, with_node, stepping, step, run_from}}
+use Rattle.sci_core.specs.{Done.{performed, ChangesBy, made_by, done_from}, Tidy.{IsTidy}, WellFormed.{IsWellFormed}}
+use Rattle.sci_core.specs.Size.{Size}
+use Rattle.sci_core.proofs.{Basics.{Lists.{at_place_set}, Options.{of_some}}, WellFormed.WellFormedSteps.{step_well}}
 use Rattle.sci_core.proofs.Tidy.TidyRuns.{node_below, step_tidy}
 use Rattle.sci_core.proofs.Step.Steps.{Stepped, By_issue, By_perform, By_ask, By_serve, By_refuse, By_reply, By_accept, stepping_stepped}
 use Rattle.sci_core.proofs.Step.NodeSides.{PerformedAs, ServedAs, RefusedAs, perform_as, serve_as, refuse_as, reply_as}
-use Rattle.sci_core.proofs.History.Works.{SameWork, HasSerials, same_serials, issue_serials, issue_log, perform_serials, perform_logs, perform_owns, ask_work}
-use Rattle.sci_core.proofs.History.Works.{serve_work, accept_work}
-use Rattle.sci_core.proofs.Shape.ShapeSteps.{ShapedAt}
+use Rattle.sci_core.proofs.History.Works.{SameWork, HasSerials, same_serials, issue_serials, issue_log, perform_serials, perform_logs, perform_owns}
+use Rattle.sci_core.proofs.{History.Works.{ask_work, serve_work, accept_work}, Shape.ShapeSteps.{ShapedAt}}
 use Rattle.sci_core.proofs.Shape.ShapeRuns.{step_follows, pending_known}
-use Rattle.sci_core.specs.Size.{Size}
-use Rattle.sci_words.specs.Operation.{has_words}
 
 -- ---- a line's history
 

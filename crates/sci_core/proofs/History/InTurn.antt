@@ -1,36 +1,24 @@
 -- A node that has at most one operation pending at a time logs in the order issued.
-use Rattle.std.proofs.Common.{◌≡◌, ◌≢◌, ℕ, zero, suc, ◌+◌, ◌<◌, List, [], ◌∷◌, ◌++◌, get_or, set, take, Option, Some, None, refl, sym, ap, subst, ◌∙◌, arith}
-use Rattle.std.proofs.Common.{inl, inr}
-use Rattle.std.specs.Prelude.{IfSome, IsSome, unwrap_or}
-use Rattle.std.specs.List.{AllByRecursion}
-use Rattle.std.proofs.lemmas.Bool.{cases_eq, cases_lt}
-use Rattle.std.proofs.lemmas.List.{get_or-set_same, get_or-set_other}
-use Rattle.std.proofs.lemmas.List.Elements.{All-from_recursion}
+use Rattle.std.proofs.Common.{◌≡◌, ◌≢◌, ℕ, zero, suc, ◌+◌, ◌<◌, List, [], ◌∷◌, ◌++◌, get_or, set, take, Option, Some, None, refl, sym, ap, subst, ◌∙◌}
+use Rattle.std.proofs.{Common.{arith, inl, inr}, lemmas.Bool.{cases_eq, cases_lt}}
+use Rattle.std.proofs.lemmas.List.{get_or-set_same, get_or-set_other, Elements.{All-from_recursion}}
 use Rattle.std.proofs.lemmas.List.Quantifiers.{all_pairs_push}
-use Rattle.sci_words.specs.declared.event.Event.{Event}
-use Rattle.sci_words.specs.declared.operation.Op.{Op}
-use Rattle.sci_history.specs.declared.entry.Entry.{Entry}
-use Rattle.sci_history.specs.Sequential.{IsInProgramOrder, AreInProgramOrder}
-use Rattle.sci_words.specs.declared.limits.TheConstants.{MAX_NODES}
+use Rattle.std.specs.{Prelude.{IfSome, IsSome, unwrap_or}, List.{AllByRecursion}}
+use Rattle.sci_words.specs.declared.{event.Event.{Event}, operation.Op.{Op}, limits.TheConstants.{MAX_NODES}}
+use Rattle.sci_history.specs.{declared.entry.Entry.{Entry}, Sequential.{IsInProgramOrder, AreInProgramOrder}}
 use Rattle.sci_history.proofs.Order.{all_weaker, all-append}
 use Rattle.sci_cache.specs.Cache.{CacheOf}
 use Rattle.sci_core.specs.declared.pending.Pending.{Pending}
 use Rattle.sci_core.specs.Node.{NodeOf, opening_node, no_node, pending_on, entry_of, node_logged, may_issue, node_issued, node_issuing, node_performing}
 use Rattle.sci_core.specs.Node.{node_accepting, IsPendingOn, IsNode}
-use Rattle.sci_core.specs.Core.{Core, node_at, with_node, stepping, step, opening, run_from, run}
-use Rattle.sci_core.specs.Done.{performed}
-use Rattle.sci_core.specs.InTurn.{HasOnePending, IssuesInTurn}
-use Rattle.sci_core.specs.Outcome.{logs_of}
-use Rattle.sci_core.specs.Size.{Size, IsSize}
+use Rattle.sci_core.specs.{Core.{Core, node_at, with_node, stepping, step, opening, run_from, run}, Done.{performed}}
+use Rattle.sci_core.specs.{InTurn.{HasOnePending, IssuesInTurn}, Outcome.{logs_of}, Size.{Size, IsSize}}
 use Rattle.sci_core.specs.WellFormed.{IsWellFormed}
-use Rattle.sci_core.proofs.Basics.Lists.{if_either, at_place_set}
-use Rattle.sci_core.proofs.Step.NodeSides.{PerformedAs, perform_as, serve_as, refuse_as, reply_as}
-use Rattle.sci_core.proofs.Step.Nodes.{some_below}
-use Rattle.sci_core.proofs.Basics.Options.{of_some, none_in}
+use Rattle.sci_core.proofs.Basics.{Lists.{if_either, at_place_set}, Options.{of_some, none_in}}
+use Rattle.sci_core.proofs.Step.{NodeSides.{PerformedAs, perform_as, serve_as, refuse_as, reply_as}, Nodes.{some_below}}
 use Rattle.sci_core.proofs.Step.Steps.{Stepped, By_issue, By_perform, By_ask, By_serve, By_refuse, By_reply, By_accept, stepping_stepped}
 use Rattle.sci_core.proofs.WellFormed.WellFormedSteps.{step_well, run_well, opened}
-use Rattle.sci_core.proofs.ReachedLaws.{log_at, log_beyond, beyond_log}
-use Rattle.sci_core.proofs.Shape.ShapeRuns.{each_mapped}
+use Rattle.sci_core.proofs.{ReachedLaws.{log_at, log_beyond, beyond_log}, Shape.ShapeRuns.{each_mapped}}
 use Rattle.sci_core.proofs.History.Works.{SameWork, ask_work, serve_work, accept_work}
 
 -- The serials of the log rise, and that of a pending operation is above them; all are below the count of issues.

@@ -1,30 +1,19 @@
 -- Where an Issue and a Perform put an operation and its entry, and which operations can be performed.
 use Rattle.std.proofs.Common.{◌≡◌, ℕ, ◌-◌, ◌^◌, ◌%◌, ◌<◌, nat_lt, Bool, true, false, if◌then◌else◌, Option, Some, None, refl, ap, ◌∙◌, arith}
+use Rattle.std.proofs.lemmas.{Bool.{and_parts, ltb-true, lt-ltb}, List.{get_or-set_same, get_or-set_other}}
 use Rattle.std.specs.Prelude.{option_map, IsSome, is_some, is_none}
-use Rattle.std.proofs.lemmas.Bool.{and_parts, ltb-true, lt-ltb}
-use Rattle.std.proofs.lemmas.List.{get_or-set_same, get_or-set_other}
-use Rattle.sci_words.specs.declared.operation.Op.{Op}
-use Rattle.sci_words.specs.declared.stamped.Stamped.{Stamped}
-use Rattle.sci_words.specs.Operation.{is_maker}
+use Rattle.sci_words.specs.{declared.{operation.Op.{Op}, stamped.Stamped.{Stamped}}, Operation.{is_maker}}
 use Rattle.sci_history.specs.declared.entry.Entry.{Entry}
-use Rattle.sci_cache.specs.State.{CacheState, Head, waits}
-use Rattle.sci_cache.specs.Performing.{Performed, performing}
-use Rattle.sci_cache.specs.Line.{line_in}
+use Rattle.sci_cache.specs.{State.{CacheState, Head, waits}, Performing.{Performed, performing}, Line.{line_in}}
 use Rattle.sci_cache.specs.Cache.{line_of, with_line}
 use Rattle.sci_core.specs.declared.pending.Pending.{Pending}
 use Rattle.sci_core.specs.Node.{NodeOf, IsNode, IsPendingOn, pending_on, may_issue, node_issued, node_issuing, performed_by, node_performing}
-use Rattle.sci_core.specs.Core.{Core, node_at}
-use Rattle.sci_core.specs.Reached.{IsReached}
+use Rattle.sci_core.specs.{Core.{Core, node_at}, Reached.{IsReached}}
 use Rattle.sci_core.specs.Sharing.{packets_of, answer_in, answer_to, sharer_of, authority_contents, contents_held, last_at}
 use Rattle.sci_core.specs.Work.{IsIssued, IsLogged}
-use Rattle.sci_core.proofs.Step.NodeSides.{perform_as}
-use Rattle.sci_core.proofs.Step.Nodes.{some_below}
-use Rattle.sci_core.proofs.Basics.Options.{of_some}
-use Rattle.sci_core.proofs.WellFormed.Ranges.{reached_contents}
-use Rattle.sci_core.proofs.ReachedLaws.{reached_shapes}
-use Rattle.sci_core.proofs.Tidy.TidyRuns.{reached_tidy}
-use Rattle.sci_core.proofs.Tidy.Waits.{idle_has_none}
-use Rattle.sci_core.proofs.WellFormed.WellFormedSteps.{reached_well}
+use Rattle.sci_core.proofs.{Step.{NodeSides.{perform_as}, Nodes.{some_below}}, Basics.Options.{of_some}}
+use Rattle.sci_core.proofs.WellFormed.{Ranges.{reached_contents}, WellFormedSteps.{reached_well}}
+use Rattle.sci_core.proofs.{ReachedLaws.{reached_shapes}, Tidy.{TidyRuns.{reached_tidy}, Waits.{idle_has_none}}}
 
 -- ---- Issue
 

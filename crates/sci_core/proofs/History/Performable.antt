@@ -2,9 +2,7 @@
 use Rattle.std.proofs.Common.{◌≡◌, ℕ, true, Option, Some, None, refl, arith}
 use Rattle.std.specs.Prelude.{IfSome, IsSome, option_map}
 use Rattle.sci_words.specs.declared.operation.Op.{Op}
-use Rattle.sci_cache.specs.State.{CacheState, Head, FreshHead, Below}
-use Rattle.sci_cache.specs.Performing.{performing}
-use Rattle.sci_cache.specs.Kinds.{could_give_way}
+use Rattle.sci_cache.specs.{State.{CacheState, Head, FreshHead, Below}, Performing.{performing}, Kinds.{could_give_way}}
 use Rattle.sci_cache.specs.Cache.{line_of}
 use Rattle.sci_core.specs.declared.pending.Pending.{Pending}
 use Rattle.sci_core.specs.Node.{NodeOf, IsNode, IsPendingOn, node_performing, pending_on, performing_pending}

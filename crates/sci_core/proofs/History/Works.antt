@@ -1,28 +1,18 @@
 -- What each event does to a node's work: its pending operations, its count of issues and its log. Serials rise.
-use Rattle.std.proofs.Common.{◌≡◌, ◌≢◌, ℕ, ◌+◌, ◌<◌, List, [], ◌∷◌, ◌++◌, filter, get_or, set, Option, Some, None, Result, Ok, Err, refl, sym, ap, subst, ◌∙◌}
-use Rattle.std.proofs.Common.{arith, inl, inr}
-use Rattle.std.specs.Prelude.{IfSome}
-use Rattle.std.specs.List.{AllByRecursion, AllPairs}
-use Rattle.std.proofs.lemmas.Bool.{cases_eq, eq-eqb, ne_eqb}
-use Rattle.std.proofs.lemmas.List.{get_or-set_same, get_or-set_other}
-use Rattle.std.proofs.lemmas.List.Elements.{All-from_recursion}
+use Rattle.std.proofs.Common.{◌≡◌, ◌≢◌, ℕ, ◌+◌, ◌<◌, List, [], ◌∷◌, ◌++◌, filter, get_or, set, Option, Some, None, Result, Ok, Err, refl, sym, ap, subst}
+use Rattle.std.proofs.{Common.{◌∙◌, arith, inl, inr}, lemmas.Bool.{cases_eq, eq-eqb, ne_eqb}}
+use Rattle.std.proofs.lemmas.List.{get_or-set_same, get_or-set_other, Elements.{All-from_recursion}}
 use Rattle.std.proofs.lemmas.List.Quantifiers.{all_pairs_push}
-use Rattle.sci_words.specs.declared.event.AskKind.{AskKind}
-use Rattle.sci_words.specs.declared.operation.Op.{Op}
-use Rattle.sci_history.specs.declared.entry.Entry.{Entry}
-use Rattle.sci_history.specs.Placed.{is_on_line}
-use Rattle.sci_history.proofs.Oracles.{filter_push_yes, filter_push_no}
-use Rattle.sci_history.proofs.Order.{all_weaker, all-append, all-filter}
-use Rattle.sci_cache.specs.declared.fault.AskFault.{AskFault}
-use Rattle.sci_cache.specs.Cache.{CacheOf, Letter, cache_accepting}
+use Rattle.std.specs.{Prelude.{IfSome}, List.{AllByRecursion, AllPairs}}
+use Rattle.sci_words.specs.declared.{event.AskKind.{AskKind}, operation.Op.{Op}}
+use Rattle.sci_history.specs.{declared.entry.Entry.{Entry}, Placed.{is_on_line}}
+use Rattle.sci_history.proofs.{Oracles.{filter_push_yes, filter_push_no}, Order.{all_weaker, all-append, all-filter}}
+use Rattle.sci_cache.specs.{declared.fault.AskFault.{AskFault}, Cache.{CacheOf, Letter, cache_accepting}}
 use Rattle.sci_core.specs.declared.pending.Pending.{Pending}
 use Rattle.sci_core.specs.Node.{NodeOf, opening_node, pending_on, entry_of, node_logged, may_issue, node_issued, node_issuing, asked_by, node_asking}
-use Rattle.sci_core.specs.Node.{accepted_by, node_accepting, IsPendingOn, IsNode}
-use Rattle.sci_core.proofs.Step.Nodes.{some_below}
-use Rattle.sci_core.proofs.Basics.Lists.{if_either, at_place_set}
-use Rattle.sci_core.proofs.Basics.Options.{none_in, of_some}
-use Rattle.sci_core.proofs.Step.NodeSides.{PerformedAs, ServedAs, At_home, In_cache}
-use Rattle.sci_core.specs.Size.{Size}
+use Rattle.sci_core.specs.{Node.{accepted_by, node_accepting, IsPendingOn, IsNode}, Size.{Size}}
+use Rattle.sci_core.proofs.Step.{Nodes.{some_below}, NodeSides.{PerformedAs, ServedAs, At_home, In_cache}}
+use Rattle.sci_core.proofs.Basics.{Lists.{if_either, at_place_set}, Options.{none_in, of_some}}
 
 -- ---- events that leave the work as it was
 

@@ -1,38 +1,28 @@
 -- Every event that moves a packet on lowers the weight by one, and while it is above 0 one is enabled.
 use Rattle.std.proofs.Common.{◌≡◌, ℕ, suc, ◌+◌, ◌-◌, ◌*◌, ◌/◌, ◌%◌, ◌<◌, ◌≤◌, ◌&&◌, Bool, true, false, if◌then◌else◌, List, [], ◌∷◌, ◌++◌, length, get_or}
 use Rattle.std.proofs.Common.{Option, Some, None, refl, sym, ap, subst, ◌∙◌, zero, arith, inl, inr}
-use Rattle.std.specs.Prelude.{◌⊎◌, IfSome, IsSome, is_some, option_map, slice_get, unwrap_or}
-use Rattle.std.specs.List.{sum_by}
-use Rattle.std.proofs.lemmas.Bool.{cases_lt}
-use Rattle.std.proofs.lemmas.List.Sums.{sum_by-cons, sum_by-set, sum_by_push}
+use Rattle.std.proofs.lemmas.{Bool.{cases_lt}, List.Sums.{sum_by-cons, sum_by-set, sum_by_push}}
 use Rattle.std.proofs.Math.Nat.{div-add-mod, div-lt_iff_lt-mul, mod-lt, mul_comm}
-use Rattle.sci_words.specs.declared.event.AskKind.{AskKind}
-use Rattle.sci_words.specs.declared.event.Event.{Event}
-use Rattle.sci_words.specs.declared.event.Event.TheVariants as event
+use Rattle.std.specs.{Prelude.{◌⊎◌, IfSome, IsSome, is_some, option_map, slice_get, unwrap_or}, List.{sum_by}}
+use Rattle.sci_words.specs.declared.event.{AskKind.{AskKind}, Event.{Event}}
 use Rattle.sci_history.specs.declared.entry.Entry.{Entry}
 use Rattle.sci_packets.specs.Table.{IsRequest, is_request}
 use Rattle.sci_cache.specs.Cache.{Letter}
-use Rattle.sci_core.specs.declared.lane.LaneKind.{LaneKind}
-use Rattle.sci_core.specs.declared.lane.LaneKind.TheVariants.{Requests, Answers}
+use Rattle.sci_core.specs.declared.lane.LaneKind.{LaneKind, TheVariants.{Requests, Answers}}
 use Rattle.sci_core.specs.Core.{Core, IsEnabled, Takes, lane_at, lane_of, lane_place, node_at, node_of, run_from, sent_by, side, step, stepping, with_lane}
 use Rattle.sci_core.specs.Core.{with_node}
 use Rattle.sci_core.specs.Draining.{AskNothing, CanDrain, Drained, Drains, IsDrained, answer_weight, is_asking, lane_weight, letter_weight, moves_made}
 use Rattle.sci_core.specs.Draining.{moves_on, one_if, weight}
 use Rattle.sci_core.specs.Node.{NodeOf, no_node, node_accepting, node_asking, node_issuing, node_performing, node_refusing, node_replying, node_serving}
-use Rattle.sci_core.specs.Reached.{IsReachable}
-use Rattle.sci_core.specs.Sides.{TakesFront, taken_to}
-use Rattle.sci_core.specs.WellFormed.{IsWellFormed}
-use Rattle.sci_core.proofs.Step.Applied.{front_comes, waits_replying}
-use Rattle.sci_core.proofs.Tidy.Enabled.{any_accept_enabled, serve_enabled}
-use Rattle.sci_core.proofs.Basics.Options.{of_some, map_some}
-use Rattle.sci_core.proofs.WellFormed.Parts.{SendsWell, part_asking}
-use Rattle.sci_core.proofs.Step.Sides.{steps_by_sides, takes}
-use Rattle.sci_core.proofs.Step.Stepping.{stepping_from_nobody, stepping_nobody}
-use Rattle.sci_core.proofs.Step.Steps.{lane_below}
-use Rattle.sci_core.proofs.Tidy.TidyRuns.{node_below}
+use Rattle.sci_core.specs.{Reached.{IsReachable}, Sides.{TakesFront, taken_to}, WellFormed.{IsWellFormed}}
+use Rattle.sci_core.proofs.Step.{Applied.{front_comes, waits_replying}, Sides.{steps_by_sides, takes}}
+use Rattle.sci_core.proofs.Step.{Stepping.{stepping_from_nobody, stepping_nobody}, Steps.{lane_below}}
+use Rattle.sci_core.proofs.Tidy.{Enabled.{any_accept_enabled, serve_enabled}, TidyRuns.{node_below}}
 use Rattle.sci_core.proofs.Tidy.WaitingNodes.{Accepts, Answers as AnswersTo, AsksOnce, Stays, ask_once, accept_accepts, issue_stays, perform_stays}
 use Rattle.sci_core.proofs.Tidy.WaitingNodes.{refuse_answers, reply_replies, serve_answers}
+use Rattle.sci_core.proofs.{Basics.Options.{of_some, map_some}, WellFormed.Parts.{SendsWell, part_asking}}
 use Rattle.sci_core.proofs.WellFormed.WellFormedSteps.{any_well, reachable_next}
+use Rattle.sci_words.specs.declared.event.Event.TheVariants as event
 
 -- ---- weights after a change
 

@@ -1,20 +1,13 @@
 -- Rounds that bring the lines to their homes, one after another.
-use Rattle.std.proofs.Common.{◌≡◌, ℕ, ◌+◌, ◌*◌, ◌<◌, ◌≤◌, ◌∙◌, arith}
-use Rattle.std.proofs.Math.Nat.{mul-le-mul_left}
-use Rattle.std.proofs.lemmas.Bool.{cases_lt}
-use Rattle.std.proofs.lemmas.List.{get_or_past}
+use Rattle.std.proofs.{Common.{◌≡◌, ℕ, ◌+◌, ◌*◌, ◌<◌, ◌≤◌, ◌∙◌, arith}, Math.Nat.{mul-le-mul_left}}
+use Rattle.std.proofs.lemmas.{Bool.{cases_lt}, List.{get_or_past}}
 use Rattle.sci_words.specs.declared.event.AskKind.{AskKind}
 use Rattle.sci_cache.specs.State.{Out}
-use Rattle.sci_core.specs.Core.{Core, node_at}
-use Rattle.sci_core.specs.Draining.{IsDrained}
-use Rattle.sci_core.specs.Reached.{IsReached}
-use Rattle.sci_core.specs.Rounds.{AreOut, IsNext, IsRound, rank}
-use Rattle.sci_core.specs.Settling.{Leads, LeadsOn, pending_count, settles}
+use Rattle.sci_core.specs.{Core.{Core, node_at}, Draining.{IsDrained}, Reached.{IsReached}}
+use Rattle.sci_core.specs.{Rounds.{AreOut, IsNext, IsRound, rank}, Settling.{Leads, LeadsOn, pending_count, settles}}
 use Rattle.sci_core.specs.Shape.{state_at}
-use Rattle.sci_core.proofs.Settling.Emptying.{next_lowers}
-use Rattle.sci_core.proofs.Settling.Leading.{leads_join, leads_on}
-use Rattle.sci_core.proofs.Settling.Ranks.{few_rounds, sum_over, sum_same}
-use Rattle.sci_core.proofs.Settling.Resting.{out_beyond}
+use Rattle.sci_core.proofs.Settling.{Emptying.{next_lowers}, Leading.{leads_join, leads_on}}
+use Rattle.sci_core.proofs.Settling.{Ranks.{few_rounds, sum_over, sum_same}, Resting.{out_beyond}}
 use Rattle.sci_core.proofs.WellFormed.WellFormedSteps.{reached_well}
 
 -- rounds so far

@@ -1,40 +1,25 @@
 -- Each round that is next lowers the number of those that are left.
 use Rattle.std.proofs.Common.{◌≡◌, ◌≢◌, ◌⊎◌, ℕ, ◌+◌, ◌<◌, not, ◌&&◌, ◌==◌, Bool, true, false, if◌then◌else◌, Option, Some, None, refl, sym, ap, subst, ◌∙◌}
-use Rattle.std.proofs.Common.{arith, rules}
-use Rattle.std.proofs.Common.{inl, inr}
+use Rattle.std.proofs.{Common.{arith, rules, inl, inr}, lemmas.Bool.{cases_eq, cases_lt, eq-eqb, eqb-true, lt-ltb}}
 use Rattle.std.specs.Prelude.{IsSome}
-use Rattle.std.proofs.lemmas.Bool.{cases_eq, cases_lt, eq-eqb, eqb-true, lt-ltb}
-use Rattle.sci_words.specs.declared.stamped.Stamped.{Stamped}
-use Rattle.sci_words.specs.declared.event.AskKind.{AskKind}
-use Rattle.sci_words.specs.declared.event.AskKind.TheVariants as kind
+use Rattle.sci_words.specs.declared.{stamped.Stamped.{Stamped}, event.AskKind.{AskKind}}
 use Rattle.sci_packets.specs.declared.body.Body.{Body}
-use Rattle.sci_packets.specs.declared.body.Body.TheVariants as body
-use Rattle.sci_home.specs.declared.state.HomeState.{HomeState}
-use Rattle.sci_home.specs.declared.state.HomeState.TheVariants as at
-use Rattle.sci_home.specs.Serving.{head_of, home_serving}
-use Rattle.sci_cache.specs.State.{CacheState, Out, Joining, FreshJoining, Head, FreshHead, Below, Purging, Claiming, Clearing, Returning, Rolling}
-use Rattle.sci_cache.specs.State.{Telling, is_out, waits}
-use Rattle.sci_cache.specs.Accepting.{accepting}
-use Rattle.sci_cache.specs.Asking.{Asked, asking}
-use Rattle.sci_cache.specs.Serving.{serving, serving_setback}
-use Rattle.sci_cache.specs.Cache.{has_slot, line_of}
-use Rattle.sci_core.specs.Core.{Core, node_at}
-use Rattle.sci_core.specs.Draining.{IsDrained}
-use Rattle.sci_core.specs.Node.{NodeOf, lines_of, node_asking}
+use Rattle.sci_home.specs.{declared.state.HomeState.{HomeState}, Serving.{head_of, home_serving}}
+use Rattle.sci_cache.specs.State.{CacheState, Out, Joining, FreshJoining, Head, FreshHead, Below, Purging, Claiming, Clearing, Returning, Rolling, Telling}
+use Rattle.sci_cache.specs.{State.{is_out, waits}, Accepting.{accepting}, Asking.{Asked, asking}}
+use Rattle.sci_cache.specs.{Serving.{serving, serving_setback}, Cache.{has_slot, line_of}, Member.{link_of}}
+use Rattle.sci_core.specs.{Core.{Core, node_at}, Draining.{IsDrained}, Node.{NodeOf, lines_of, node_asking}}
 use Rattle.sci_core.specs.Reached.{IsReached}
-use Rattle.sci_core.specs.Rounds.{At_home, In_cache, IsRepliedTo, IsNext, IsRound, IsServed, Joins, Parts, Tells, entry_rank, is_head, is_telling, joins_before}
-use Rattle.sci_core.specs.Rounds.{parting, rank, server_of}
-use Rattle.sci_core.specs.Shape.{state_at}
-use Rattle.sci_core.specs.Sharing.{home_at}
-use Rattle.sci_cache.specs.Member.{link_of}
-use Rattle.sci_core.specs.Fresh.{is_fresh}
-use Rattle.sci_core.specs.WellFormed.{NamesNodes}
-use Rattle.sci_core.proofs.Shape.Standings.{role_of}
-use Rattle.sci_core.proofs.WellFormed.WellFormedSteps.{reached_well}
+use Rattle.sci_core.specs.Rounds.{At_home, In_cache, IsRepliedTo, IsNext, IsRound, IsServed, Joins, Parts, Tells, entry_rank, is_head, is_telling}
+use Rattle.sci_core.specs.{Rounds.{joins_before, parting, rank, server_of}, Shape.{state_at}, Sharing.{home_at}}
+use Rattle.sci_core.specs.{Fresh.{is_fresh}, WellFormed.{NamesNodes}}
+use Rattle.sci_core.proofs.{Shape.Standings.{role_of}, WellFormed.WellFormedSteps.{reached_well}}
 use Rattle.sci_core.proofs.Settling.Ranks.{Pair, rank_shift, rank_two}
 use Rattle.sci_core.proofs.Settling.Resting.{Quiet, head_first, home_fresh, home_gone, line_known, next_below, next_fresh, out_beyond, quiet}
-use Rattle.sci_core.proofs.Settling.Shifts.{Shifts}
-use Rattle.sci_core.proofs.Basics.Options.{same_some}
+use Rattle.sci_core.proofs.{Settling.Shifts.{Shifts}, Basics.Options.{same_some}}
+use Rattle.sci_words.specs.declared.event.AskKind.TheVariants as kind
+use Rattle.sci_packets.specs.declared.body.Body.TheVariants as body
+use Rattle.sci_home.specs.declared.state.HomeState.TheVariants as at
 
 no_answer : {X Y : Type 0} (o : Option X) (x : X) → o ≡ None → o ≡ Some x → Y
 no_answer o x none some = let clash : None ≡ Some x = sym none ∙ some in cc

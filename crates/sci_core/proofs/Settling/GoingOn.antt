@@ -1,10 +1,7 @@
 -- A node of a reached state can go on.
 use Rattle.std.proofs.Common.{◌≡◌, ℕ, true, false, arith, rules}
-use Rattle.sci_cache.specs.State.{CacheState, Joining, FreshJoining, Telling, is_out, waits}
-use Rattle.sci_cache.specs.Cache.{line_of}
-use Rattle.sci_core.specs.GoingOn.{CanGoOn, goes_on}
-use Rattle.sci_core.specs.Node.{NodeOf}
-use Rattle.sci_core.specs.Reached.{IsReachableNode}
+use Rattle.sci_cache.specs.{State.{CacheState, Joining, FreshJoining, Telling, is_out, waits}, Cache.{line_of}}
+use Rattle.sci_core.specs.{GoingOn.{CanGoOn, goes_on}, Node.{NodeOf}, Reached.{IsReachableNode}}
 use Rattle.sci_core.proofs.WellFormed.WellFormedSteps.{any_part}
 
 entry_goes_on : (state : CacheState) → is_out state ≡ false → waits state ≡ false → goes_on state ≡ true

@@ -1,11 +1,9 @@
 -- Lists of events that are made, one list after another.
 use Rattle.std.proofs.Common.{◌≡◌, ℕ, ◌+◌, Bool, true, List, [], ◌∷◌, ◌++◌, Option, Some, refl, sym, ap, subst, arith}
+use Rattle.std.proofs.lemmas.List.{length-append, Sums.{fold-append}}
 use Rattle.std.specs.Prelude.{IsSome, unwrap_or}
-use Rattle.std.proofs.lemmas.List.{length-append}
-use Rattle.std.proofs.lemmas.List.Sums.{fold-append}
 use Rattle.sci_words.specs.declared.event.Event.{Event}
-use Rattle.sci_core.specs.Core.{Core, run_from, step, stepping}
-use Rattle.sci_core.specs.Settling.{AreMade, Leads, LeadsOn}
+use Rattle.sci_core.specs.{Core.{Core, run_from, step, stepping}, Settling.{AreMade, Leads, LeadsOn}}
 
 made_append : (may : Event → Bool) (core : Core) (xs ys : List Event) → AreMade may core xs → AreMade may (run_from core xs) ys → AreMade may core (xs ++ ys)
 made_append may core [] ys made more = more

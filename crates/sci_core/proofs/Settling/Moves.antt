@@ -1,27 +1,18 @@
 -- What is found under way can be brought on; if nothing is found, nothing is under way.
 use Rattle.std.proofs.Common.{◌≡◌, ℕ, suc, get_or, ◌*◌, ◌+◌, ◌<◌, ◌≤◌, true, false, List, [], ◌∷◌, length, Some, None, refl, sym, ap, subst, ◌∙◌, arith}
-use Rattle.std.proofs.Common.{inl, inr}
-use Rattle.std.specs.Prelude.{IsSome}
-use Rattle.std.proofs.Math.Nat.{mul-le-mul_left}
-use Rattle.std.proofs.lemmas.Bool.{cases_lt}
-use Rattle.std.proofs.lemmas.List.{get_or_past, nil_from_length}
-use Rattle.std.specs.List.{sum_by}
-use Rattle.std.proofs.lemmas.List.Sums.{sum_by-cons}
+use Rattle.std.proofs.{Common.{inl, inr}, Math.Nat.{mul-le-mul_left}, lemmas.Bool.{cases_lt}}
+use Rattle.std.proofs.lemmas.List.{get_or_past, nil_from_length, Sums.{sum_by-cons}}
+use Rattle.std.specs.{Prelude.{IsSome}, List.{sum_by}}
 use Rattle.sci_words.specs.declared.event.Event.{Event}
-use Rattle.sci_words.specs.declared.event.Event.TheVariants as event
 use Rattle.sci_cache.specs.Cache.{Letter}
 use Rattle.sci_core.specs.declared.lane.LaneKind.TheVariants.{Requests, Answers}
 use Rattle.sci_core.specs.Core.{Core, IsEnabled, lane_at, lane_of, node_at, stepping}
 use Rattle.sci_core.specs.Draining.{IsDrained, answer_weight, brings_on, is_asking, lane_weight, moves_on, weight}
-use Rattle.sci_core.specs.Node.{NodeOf, no_node}
-use Rattle.sci_core.specs.Reached.{IsReached}
-use Rattle.sci_core.specs.Settling.{Leads}
-use Rattle.sci_core.specs.WellFormed.{IsWellFormed}
-use Rattle.sci_core.proofs.Basics.Options.{found}
-use Rattle.sci_core.proofs.Tidy.Burdens.{light}
-use Rattle.sci_core.proofs.Settling.Drains.{accept_on, place_of, reply_on, serve_on, weighs}
-use Rattle.sci_core.proofs.Settling.Leading.{leads_more}
+use Rattle.sci_core.specs.{Node.{NodeOf, no_node}, Reached.{IsReached}, Settling.{Leads}, WellFormed.{IsWellFormed}}
+use Rattle.sci_core.proofs.{Basics.Options.{found}, Tidy.Burdens.{light}}
+use Rattle.sci_core.proofs.Settling.{Drains.{accept_on, place_of, reply_on, serve_on, weighs}, Leading.{leads_more}}
 use Rattle.sci_core.proofs.WellFormed.WellFormedSteps.{reachable, reached_well}
+use Rattle.sci_words.specs.declared.event.Event.TheVariants as event
 
 -- ---- nothing is found
 

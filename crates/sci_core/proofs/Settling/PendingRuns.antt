@@ -1,54 +1,36 @@
 -- Pending operations: each is performed by one read, the operation itself and one write-back.
-use Rattle.std.proofs.Common.{◌≡◌, ◌≢◌, ℕ, ◌+◌, ◌*◌, ◌<◌, ◌≤◌, not, true, List, [], ◌∷◌, length, Option, Some, None, refl, sym}
-use Rattle.std.proofs.Common.{ap, subst, ◌∙◌, arith, inl, inr}
-use Rattle.std.specs.Prelude.{IsSome, slice_index_or, count_by, is_some, option_map, unwrap_or}
-use Rattle.std.proofs.Math.Nat.{mul-le-mul_left}
-use Rattle.std.proofs.lemmas.Bool.{cases_eq, cases_lt, lt-ltb}
+use Rattle.std.proofs.Common.{◌≡◌, ◌≢◌, ℕ, ◌+◌, ◌*◌, ◌<◌, ◌≤◌, not, true, List, [], ◌∷◌, length, Option, Some, None, refl, sym, ap, subst, ◌∙◌, arith, inl}
+use Rattle.std.proofs.{Common.{inr}, Math.Nat.{mul-le-mul_left}, lemmas.Bool.{cases_eq, cases_lt, lt-ltb}}
 use Rattle.std.proofs.lemmas.List.{get_or_past, get_or-set_other, get_or-set_same, length-append}
 use Rattle.std.proofs.lemmas.List.Sums.{count_by-le-length}
-use Rattle.sci_words.specs.declared.stamped.Stamped.{Stamped}
-use Rattle.sci_words.specs.declared.operation.Op.{Op}
+use Rattle.std.specs.Prelude.{IsSome, slice_index_or, count_by, is_some, option_map, unwrap_or}
+use Rattle.sci_words.specs.declared.{stamped.Stamped.{Stamped}, operation.Op.{Op}, event.Event.{Event}}
 use Rattle.sci_words.specs.Stamped.{after}
-use Rattle.sci_words.specs.declared.event.AskKind.TheVariants as kind
-use Rattle.sci_words.specs.declared.event.Event.{Event}
-use Rattle.sci_words.specs.declared.event.Event.TheVariants as event
 use Rattle.sci_history.specs.declared.entry.Entry.{Entry}
-use Rattle.sci_packets.specs.declared.body.Body.TheVariants as body
-use Rattle.sci_home.specs.declared.state.HomeState.TheVariants as at
 use Rattle.sci_home.specs.Serving.{home_serving}
-use Rattle.sci_cache.specs.State.{CacheState, Asking, Head, is_out}
-use Rattle.sci_cache.specs.Asking.{Asked, asking}
-use Rattle.sci_cache.specs.Performing.{performing}
-use Rattle.sci_cache.specs.Line.{LineState, untouched}
-use Rattle.sci_cache.specs.Cache.{Letter, has_slot, line_of, slots_taken}
-use Rattle.sci_core.proofs.Settling.Rest.{counted_none}
-use Rattle.sci_core.specs.declared.lane.LaneKind.TheVariants.{Requests, Answers}
-use Rattle.sci_core.specs.declared.pending.Pending.{Pending}
+use Rattle.sci_cache.specs.{State.{CacheState, Asking, Head, is_out}, Asking.{Asked, asking}, Performing.{performing}}
+use Rattle.sci_cache.specs.{Line.{LineState, untouched}, Cache.{Letter, has_slot, line_of, slots_taken}}
+use Rattle.sci_core.proofs.Settling.{Rest.{counted_none}, Drains.{drained, made_by, some_node, took_from, weighs}}
+use Rattle.sci_core.proofs.Settling.{Emptying.{asks_if, home_round, known}, EmptyRuns.{pending_same}}
+use Rattle.sci_core.proofs.Settling.{Leading.{leads_join, leads_more, leads_on, leads_weaker}, Moves.{drained_weighs}}
+use Rattle.sci_core.proofs.Settling.Ranks.{few_rounds, none_left, rank_one, rank_shift, sum_less, sum_one, sum_over}
+use Rattle.sci_core.proofs.{Settling.{Resting.{home_alone, line_known, quiet}, Shifts.{Shifts}}, Tidy.Burdens.{light}}
+use Rattle.sci_core.proofs.Basics.{Lists.{at_place_set}, Options.{found, of_some}}
+use Rattle.sci_core.proofs.Step.NodeSides.{AcceptedAs, At_home, In_cache, PerformedAs, ServedAs, accept_as, perform_as, reply_as, serve_as}
+use Rattle.sci_core.proofs.{Step.Sides.{steps_by_sides}, History.Pendings.{sole_performs}}
+use Rattle.sci_core.proofs.Shape.{ShapeRuns.{operates_so}, Standings.{Leaves, Makes, Performs, Reads, performing_does}}
+use Rattle.sci_core.proofs.WellFormed.WellFormedSteps.{reachable, reached_stepping, reached_well, step_well}
+use Rattle.sci_core.specs.declared.{lane.LaneKind.TheVariants.{Requests, Answers}, pending.Pending.{Pending}}
 use Rattle.sci_core.specs.Core.{Core, IsEnabled, node_at, run_from, step, stepping, with_node}
 use Rattle.sci_core.specs.Draining.{IsDrained, brings_on, weight}
 use Rattle.sci_core.specs.Node.{IsPendingOn, NodeOf, entry_of, no_node, node_accepting, node_asking, node_performing, node_serving, pending_on}
-use Rattle.sci_core.specs.Reached.{IsReached}
-use Rattle.sci_core.specs.Rounds.{AreOut, IsRound, entry_rank, rank}
+use Rattle.sci_core.specs.{Reached.{IsReached}, Rounds.{AreOut, IsRound, entry_rank, rank}}
 use Rattle.sci_core.specs.Settling.{AreMade, IsSettled, IsWithin, Leads, LeadsOn, pending_count, settles}
-use Rattle.sci_core.specs.Shape.{state_at}
-use Rattle.sci_core.specs.Size.{Size}
-use Rattle.sci_core.proofs.Tidy.Burdens.{light}
-use Rattle.sci_core.proofs.Settling.Drains.{drained, made_by, some_node, took_from, weighs}
-use Rattle.sci_core.proofs.Settling.Emptying.{asks_if, home_round, known}
-use Rattle.sci_core.proofs.Settling.EmptyRuns.{pending_same}
-use Rattle.sci_core.proofs.Settling.Leading.{leads_join, leads_more, leads_on, leads_weaker}
-use Rattle.sci_core.proofs.Basics.Lists.{at_place_set}
-use Rattle.sci_core.proofs.Settling.Moves.{drained_weighs}
-use Rattle.sci_core.proofs.Step.NodeSides.{AcceptedAs, At_home, In_cache, PerformedAs, ServedAs, accept_as, perform_as, reply_as, serve_as}
-use Rattle.sci_core.proofs.Basics.Options.{found, of_some}
-use Rattle.sci_core.proofs.History.Pendings.{sole_performs}
-use Rattle.sci_core.proofs.Settling.Ranks.{few_rounds, none_left, rank_one, rank_shift, sum_less, sum_one, sum_over}
-use Rattle.sci_core.proofs.Settling.Resting.{home_alone, line_known, quiet}
-use Rattle.sci_core.proofs.Shape.ShapeRuns.{operates_so}
-use Rattle.sci_core.proofs.Settling.Shifts.{Shifts}
-use Rattle.sci_core.proofs.Step.Sides.{steps_by_sides}
-use Rattle.sci_core.proofs.Shape.Standings.{Leaves, Makes, Performs, Reads, performing_does}
-use Rattle.sci_core.proofs.WellFormed.WellFormedSteps.{reachable, reached_stepping, reached_well, step_well}
+use Rattle.sci_core.specs.{Shape.{state_at}, Size.{Size}}
+use Rattle.sci_words.specs.declared.event.AskKind.TheVariants as kind
+use Rattle.sci_words.specs.declared.event.Event.TheVariants as event
+use Rattle.sci_packets.specs.declared.body.Body.TheVariants as body
+use Rattle.sci_home.specs.declared.state.HomeState.TheVariants as at
 
 -- ---- moves leave what is pending
 

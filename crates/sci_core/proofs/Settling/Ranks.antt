@@ -1,17 +1,11 @@
 -- How the number of rounds that are left changes with the states of one line.
-use Rattle.std.proofs.Common.{◌≡◌, ◌≢◌, ◌⊎◌, ℕ, zero, suc, ◌+◌, ◌*◌, ◌<◌, ◌≤◌, refl, sym, ap, subst, ◌∙◌, arith, inl}
-use Rattle.std.proofs.Common.{inr}
+use Rattle.std.proofs.Common.{◌≡◌, ◌≢◌, ◌⊎◌, ℕ, zero, suc, ◌+◌, ◌*◌, ◌<◌, ◌≤◌, refl, sym, ap, subst, ◌∙◌, arith, inl, inr}
+use Rattle.std.proofs.lemmas.{Bool.{cases_eq}, List.Sums.{sum_by-cons}}
 use Rattle.std.specs.List.{range_with_len, sum_by}
-use Rattle.std.proofs.lemmas.Bool.{cases_eq}
-use Rattle.std.proofs.lemmas.List.Sums.{sum_by-cons}
 use Rattle.sci_cache.specs.State.{CacheState, Out, Joining, FreshJoining, FreshHead}
-use Rattle.sci_core.specs.Core.{Core, node_at}
-use Rattle.sci_core.specs.Reached.{IsReached}
-use Rattle.sci_core.specs.Rounds.{AreOut, entry_rank, rank}
-use Rattle.sci_core.specs.Shape.{state_at}
-use Rattle.sci_core.specs.Size.{Size}
-use Rattle.sci_core.proofs.Settling.Shifts.{Shifts}
-use Rattle.sci_core.proofs.Tidy.Burdens.{entries_few, sum_to, sum_to_less}
+use Rattle.sci_core.specs.{Core.{Core, node_at}, Reached.{IsReached}, Rounds.{AreOut, entry_rank, rank}}
+use Rattle.sci_core.specs.{Shape.{state_at}, Size.{Size}}
+use Rattle.sci_core.proofs.{Settling.Shifts.{Shifts}, Tidy.Burdens.{entries_few, sum_to, sum_to_less}}
 use Rattle.sci_core.proofs.WellFormed.WellFormedSteps.{reached_well}
 
 -- ---- sums over numbers

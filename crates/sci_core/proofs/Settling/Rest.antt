@@ -1,13 +1,9 @@
 -- A node is at rest if it counts no pending operation and no entry.
 use Rattle.std.proofs.Common.{◌≡◌, ℕ, zero, suc, ◌+◌, not, cond, Bool, true, false, List, [], ◌∷◌, length, get_or, Option, Some, None, refl, sym, ap, ◌∙◌}
-use Rattle.std.proofs.Common.{arith}
+use Rattle.std.proofs.{Common.{arith}, lemmas.List.Sums.{sum_by-cons}}
 use Rattle.std.specs.Prelude.{count_by, is_some}
-use Rattle.std.proofs.lemmas.List.Sums.{sum_by-cons}
-use Rattle.sci_cache.specs.State.{is_out}
-use Rattle.sci_cache.specs.Line.{LineState, untouched}
-use Rattle.sci_cache.specs.Cache.{slots_taken}
-use Rattle.sci_core.specs.declared.pending.Pending.{Pending}
-use Rattle.sci_core.specs.Node.{NodeOf, IsNode, IsAtRest}
+use Rattle.sci_cache.specs.{State.{is_out}, Line.{LineState, untouched}, Cache.{slots_taken}}
+use Rattle.sci_core.specs.{declared.pending.Pending.{Pending}, Node.{NodeOf, IsNode, IsAtRest}}
 
 first : (b : Bool) (n : ℕ) → cond {A = ℕ} b 1 0 + n ≡ 0 → b ≡ false
 first true n e = absurd (let one : 1 + n ≡ 0 = e in omega arith)

@@ -1,43 +1,27 @@
 -- A line of a state where nothing is under way: who leads its list, and what its home has.
-use Rattle.std.proofs.Common.{◌≡◌, ℕ, ◌%◌, ◌<◌, ◌≤◌, ◌⊎◌, Bool, true, false, List, [], ◌∷◌, ◌++◌, filter, get_or, suc, Option, Some, None, refl, sym, ap, subst}
-use Rattle.std.proofs.Common.{rules}
-use Rattle.std.proofs.Common.{◌∙◌, arith, inl, inr}
-use Rattle.std.specs.Prelude.{option_to_list, IsSome}
-use Rattle.std.specs.List.{flat_map}
-use Rattle.std.proofs.lemmas.Bool.{cases_lt, eq-eqb}
+use Rattle.std.proofs.Common.{◌≡◌, ℕ, ◌%◌, ◌<◌, ◌≤◌, ◌⊎◌, Bool, true, false, List, [], ◌∷◌, ◌++◌, filter, get_or, suc, Option, Some, None, refl, sym, ap}
+use Rattle.std.proofs.{Common.{subst, rules, ◌∙◌, arith, inl, inr}, lemmas.Bool.{cases_lt, eq-eqb}}
 use Rattle.std.proofs.lemmas.List.{get_or_past}
+use Rattle.std.specs.{Prelude.{option_to_list, IsSome}, List.{flat_map}}
 use Rattle.sci_words.specs.declared.stamped.Stamped.{Stamped}
 use Rattle.sci_packets.specs.declared.body.Body.{Body}
-use Rattle.sci_home.specs.declared.state.HomeState.{HomeState}
-use Rattle.sci_home.specs.declared.state.HomeState.TheVariants as at
-use Rattle.sci_home.specs.Serving.{head_of}
+use Rattle.sci_home.specs.{declared.state.HomeState.{HomeState}, Serving.{head_of}}
 use Rattle.sci_cache.specs.State.{CacheState, Out, Joining, FreshJoining, Head, FreshHead, Below, Rolling, waits}
-use Rattle.sci_cache.specs.Member.{link_of}
-use Rattle.sci_cache.specs.Cache.{Letter, line_of}
+use Rattle.sci_cache.specs.{Member.{link_of}, Cache.{Letter, line_of}}
 use Rattle.sci_history.specs.Seen.{IsAmong}
-use Rattle.sci_core.proofs.Basics.Options.{found}
-use Rattle.sci_core.specs.Core.{Core, node_at}
-use Rattle.sci_core.specs.Draining.{IsDrained}
-use Rattle.sci_core.specs.Fresh.{is_fresh}
-use Rattle.sci_core.specs.Node.{NodeOf, lines_of, no_node}
-use Rattle.sci_core.specs.Reached.{IsReached}
-use Rattle.sci_core.specs.Rounds.{is_head, is_telling, joins_before}
-use Rattle.sci_core.specs.Shape.{IsGoneStale, state_at}
-use Rattle.sci_core.specs.Sharing.{answer_in, home_at, is_about, packets_of, under_way, answer_to as told}
-use Rattle.sci_core.specs.SharingList.{LinkedFrom}
-use Rattle.sci_core.specs.Tidy.{HasItsPackets}
-use Rattle.sci_core.proofs.Shape.Chains.{next_of}
+use Rattle.sci_core.proofs.{Basics.Options.{found}, Shape.Chains.{next_of}}
 use Rattle.sci_core.proofs.Shape.Led.{IsLed, following_in, fresh_in, role_in, roles_differ}
-use Rattle.sci_core.proofs.ReachedLaws.{any_shaped}
-use Rattle.sci_core.proofs.Shape.ShapeClauses.{led_leader, leads_member, member_below}
-use Rattle.sci_core.proofs.Shape.ShapeSteps.{view_of}
-use Rattle.sci_core.proofs.Shape.Shapes.{IsShaped}
-use Rattle.sci_core.proofs.Shape.Standings.{Coming, Following, Leading, role_of}
-use Rattle.sci_core.proofs.Shape.StaleFronts.{any_stale}
-use Rattle.sci_core.proofs.Tidy.TidyRuns.{reached_tidy}
-use Rattle.sci_core.proofs.FirstCome.Turns.{led_of}
-use Rattle.sci_core.proofs.Shape.Views.{View, link_in}
+use Rattle.sci_core.proofs.Shape.{ShapeClauses.{led_leader, leads_member, member_below}, ShapeSteps.{view_of}}
+use Rattle.sci_core.proofs.Shape.{Shapes.{IsShaped}, Standings.{Coming, Following, Leading, role_of}}
+use Rattle.sci_core.proofs.{Shape.{StaleFronts.{any_stale}, Views.{View, link_in}}, ReachedLaws.{any_shaped}}
+use Rattle.sci_core.proofs.{Tidy.TidyRuns.{reached_tidy}, FirstCome.Turns.{led_of}}
 use Rattle.sci_core.proofs.WellFormed.WellFormedSteps.{reachable, reached_well}
+use Rattle.sci_core.specs.{Core.{Core, node_at}, Draining.{IsDrained}, Fresh.{is_fresh}}
+use Rattle.sci_core.specs.{Node.{NodeOf, lines_of, no_node}, Reached.{IsReached}}
+use Rattle.sci_core.specs.{Rounds.{is_head, is_telling, joins_before}, Shape.{IsGoneStale, state_at}}
+use Rattle.sci_core.specs.Sharing.{answer_in, home_at, is_about, packets_of, under_way, answer_to as told}
+use Rattle.sci_core.specs.{SharingList.{LinkedFrom}, Tidy.{HasItsPackets}}
+use Rattle.sci_home.specs.declared.state.HomeState.TheVariants as at
 
 -- ---- nothing is under way
 

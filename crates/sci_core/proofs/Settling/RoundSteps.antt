@@ -1,23 +1,15 @@
 -- A round's four events, as they are made one after another.
 use Rattle.std.proofs.Common.{◌≡◌, ℕ, ◌<◌, Some, refl, sym, ap, subst, ◌∙◌, arith}
 use Rattle.std.specs.Prelude.{IsSome}
-use Rattle.sci_words.specs.declared.event.AskKind.{AskKind}
-use Rattle.sci_words.specs.declared.event.Event.{Event}
-use Rattle.sci_words.specs.declared.event.Event.TheVariants as event
+use Rattle.sci_words.specs.declared.event.{AskKind.{AskKind}, Event.{Event}}
 use Rattle.sci_cache.specs.Cache.{Letter}
-use Rattle.sci_core.specs.Core.{Core, IsEnabled, node_at, stepping}
-use Rattle.sci_core.specs.Draining.{IsDrained}
-use Rattle.sci_core.specs.Node.{NodeOf, node_asking}
-use Rattle.sci_core.specs.Reached.{IsReached}
-use Rattle.sci_core.specs.Rounds.{IsRound}
-use Rattle.sci_core.specs.Settling.{Leads, LeadsOn, settles}
-use Rattle.sci_core.proofs.Settling.Drains.{drained, weighs_asked}
-use Rattle.sci_core.proofs.Settling.Leading.{leads_more, leads_on, leads_one}
-use Rattle.sci_core.proofs.Settling.Moves.{drained_weighs, move_weighs}
-use Rattle.sci_core.proofs.Basics.Options.{of_some}
-use Rattle.sci_core.proofs.WellFormed.Parts.{SendsWell, part_asking}
-use Rattle.sci_core.proofs.Settling.Rounds.{Rounds, rounds}
+use Rattle.sci_core.specs.{Core.{Core, IsEnabled, node_at, stepping}, Draining.{IsDrained}, Node.{NodeOf, node_asking}}
+use Rattle.sci_core.specs.{Reached.{IsReached}, Rounds.{IsRound}, Settling.{Leads, LeadsOn, settles}}
+use Rattle.sci_core.proofs.Settling.{Drains.{drained, weighs_asked}, Leading.{leads_more, leads_on, leads_one}}
+use Rattle.sci_core.proofs.Settling.{Moves.{drained_weighs, move_weighs}, Rounds.{Rounds, rounds}}
+use Rattle.sci_core.proofs.{Basics.Options.{of_some}, WellFormed.Parts.{SendsWell, part_asking}}
 use Rattle.sci_core.proofs.WellFormed.WellFormedSteps.{reached_stepping, reached_well}
+use Rattle.sci_words.specs.declared.event.Event.TheVariants as event
 
 -- the target of a request is a node of the machine, so a small number
 small_target : (core : Core) (n line : ℕ) (kind : AskKind) (next : NodeOf) (letter : Letter) → IsReached core → n < core.size.nodes

@@ -1,43 +1,26 @@
 -- From a state where nothing is under way, a request that is asked can be served, answered and accepted.
-use Rattle.std.proofs.Common.{◌≡◌, ◌≢◌, ℕ, ◌%◌, ◌<◌, List, [], ◌∷◌, ◌++◌, length, set, slice_index_or, Option, Some, None, refl, sym, ap, subst, ◌∙◌, arith}
-use Rattle.std.proofs.Common.{inl, inr}
+use Rattle.std.proofs.Common.{◌≡◌, ◌≢◌, ℕ, ◌%◌, ◌<◌, List, [], ◌∷◌, ◌++◌, length, set, slice_index_or, Option, Some, None, refl, sym, ap, subst, ◌∙◌}
+use Rattle.std.proofs.{Common.{arith, inl, inr}, lemmas.List.{get_or-set_same, get_or-set_other}}
 use Rattle.std.specs.Prelude.{IsSome, is_some, option_map}
-use Rattle.std.proofs.lemmas.List.{get_or-set_same, get_or-set_other}
 use Rattle.sci_words.specs.declared.event.AskKind.{AskKind}
-use Rattle.sci_words.specs.declared.event.Event.TheVariants as event
 use Rattle.sci_packets.specs.declared.body.Body.{Body}
-use Rattle.sci_home.specs.declared.state.HomeState.{HomeState}
-use Rattle.sci_home.specs.Serving.{home_serving}
-use Rattle.sci_cache.specs.State.{CacheState}
-use Rattle.sci_cache.specs.Accepting.{accepting}
-use Rattle.sci_cache.specs.Serving.{serving}
-use Rattle.sci_cache.specs.Line.{line_asked, line_in}
+use Rattle.sci_home.specs.{declared.state.HomeState.{HomeState}, Serving.{home_serving}}
+use Rattle.sci_cache.specs.{State.{CacheState}, Accepting.{accepting}, Serving.{serving}, Line.{line_asked, line_in}}
 use Rattle.sci_cache.specs.Cache.{CacheOf, Letter, line_of, target_of, with_line}
 use Rattle.sci_core.specs.declared.lane.LaneKind.TheVariants.{Requests, Answers}
-use Rattle.sci_core.specs.Core.{Core, lane_at, lane_of, lane_place, node_at, sent_by, stepping}
-use Rattle.sci_core.specs.Draining.{IsDrained}
+use Rattle.sci_core.specs.{Core.{Core, lane_at, lane_of, lane_place, node_at, sent_by, stepping}, Draining.{IsDrained}}
 use Rattle.sci_core.specs.Node.{NodeOf, answering, home_of, lines_of, no_node, node_accepting, node_asking, node_serving}
-use Rattle.sci_core.specs.Reached.{IsReached}
-use Rattle.sci_core.specs.Rounds.{At_home, In_cache, IsRepliedTo, IsRound, IsServed, server_of}
-use Rattle.sci_core.specs.Shape.{state_at}
-use Rattle.sci_core.specs.Sharing.{home_at}
-use Rattle.sci_core.specs.Sides.{taken_to}
-use Rattle.sci_core.specs.Size.{Size}
+use Rattle.sci_core.specs.{Reached.{IsReached}, Rounds.{At_home, In_cache, IsRepliedTo, IsRound, IsServed, server_of}}
+use Rattle.sci_core.specs.{Shape.{state_at}, Sharing.{home_at}, Sides.{taken_to}, Size.{Size}}
 use Rattle.sci_core.specs.WellFormed.{IsWellFormed}
 use Rattle.sci_core.proofs.Step.Applied.{waits_replying}
-use Rattle.sci_core.proofs.Tidy.Enabled.{accept_enabled, serve_enabled}
-use Rattle.sci_core.proofs.Basics.Lists.{at_place_set}
-use Rattle.sci_core.proofs.Step.NodeSides.{At_home as Home_served, In_cache as Cache_served, ServedAs, ask_alike, serve_as}
-use Rattle.sci_core.proofs.Step.NodeSides.{AcceptedAs, accept_as}
-use Rattle.sci_core.proofs.Basics.Options.{found, of_some}
-use Rattle.sci_core.proofs.WellFormed.Parts.{SendsWell, part_asking}
-use Rattle.sci_core.proofs.Step.Places.{place_answers, place_requests}
-use Rattle.sci_core.proofs.Shape.ShapeSteps.{homes_same}
-use Rattle.sci_core.proofs.Settling.Shifts.{AskedAs, Shifts, asked_as, shifts, stays}
-use Rattle.sci_core.proofs.Step.Sides.{steps_by_sides}
-use Rattle.sci_core.proofs.Step.Steps.{lane_below}
-use Rattle.sci_core.proofs.Tidy.TidyRuns.{node_below}
-use Rattle.sci_core.proofs.WellFormed.WellFormedSteps.{reached_stepping, reached_well}
+use Rattle.sci_core.proofs.Step.NodeSides.{At_home as Home_served, In_cache as Cache_served, ServedAs, ask_alike, serve_as, AcceptedAs, accept_as}
+use Rattle.sci_core.proofs.Step.{Places.{place_answers, place_requests}, Sides.{steps_by_sides}, Steps.{lane_below}}
+use Rattle.sci_core.proofs.Tidy.{Enabled.{accept_enabled, serve_enabled}, TidyRuns.{node_below}}
+use Rattle.sci_core.proofs.Basics.{Lists.{at_place_set}, Options.{found, of_some}}
+use Rattle.sci_core.proofs.WellFormed.{Parts.{SendsWell, part_asking}, WellFormedSteps.{reached_stepping, reached_well}}
+use Rattle.sci_core.proofs.{Shape.ShapeSteps.{homes_same}, Settling.Shifts.{AskedAs, Shifts, asked_as, shifts, stays}}
+use Rattle.sci_words.specs.declared.event.Event.TheVariants as event
 
 -- ---- the request is asked
 

@@ -1,16 +1,11 @@
 -- What one event of a round does to the states of all lines: one line of one node changes at most.
 use Rattle.std.proofs.Common.{◌≡◌, ℕ, ◌<◌, Bool, true, false, length, set, slice_index_or, Option, Some, None, refl, arith}
+use Rattle.std.proofs.lemmas.{Bool.{cases_eq}, List.{get_or-set_same, get_or-set_other}}
 use Rattle.std.specs.Prelude.{IfSome}
-use Rattle.std.proofs.lemmas.Bool.{cases_eq}
-use Rattle.std.proofs.lemmas.List.{get_or-set_same, get_or-set_other}
 use Rattle.sci_words.specs.declared.event.AskKind.{AskKind}
-use Rattle.sci_cache.specs.State.{CacheState}
-use Rattle.sci_cache.specs.Asking.{Asked, asking}
-use Rattle.sci_cache.specs.Line.{LineState, ask_or_fault, line_asked}
+use Rattle.sci_cache.specs.{State.{CacheState}, Asking.{Asked, asking}, Line.{LineState, ask_or_fault, line_asked}}
 use Rattle.sci_cache.specs.Cache.{Letter, cache_asked, letter_asking, line_of, with_line}
-use Rattle.sci_core.specs.Core.{Core, node_at}
-use Rattle.sci_core.specs.Node.{NodeOf, asked_by, lines_of, node_asking}
-use Rattle.sci_core.specs.Shape.{state_at}
+use Rattle.sci_core.specs.{Core.{Core, node_at}, Node.{NodeOf, asked_by, lines_of, node_asking}, Shape.{state_at}}
 use Rattle.sci_core.proofs.Basics.Options.{if_below}
 
 -- ---- one node's side

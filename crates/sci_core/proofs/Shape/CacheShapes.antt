@@ -1,29 +1,23 @@
 -- One line's list and what stands where in it, as a cache serves a request.
 use Rattle.std.proofs.Common.{◌≡◌, ◌≢◌, ℕ, Bool, true, false, if◌then◌else◌, List, Option, Some, None, refl, sym, ap, subst, ◌∙◌, inl, inr, rules, arith}
-use Rattle.std.specs.Prelude.{IfSome, IsSome}
 use Rattle.std.proofs.lemmas.Bool.{cases_eq}
+use Rattle.std.specs.Prelude.{IfSome, IsSome}
 use Rattle.sci_words.specs.declared.stamped.Stamped.{Stamped}
 use Rattle.sci_packets.specs.declared.body.Body.{Body}
-use Rattle.sci_packets.specs.declared.body.Body.TheVariants as body
-use Rattle.sci_home.specs.declared.state.HomeState.{HomeState}
-use Rattle.sci_home.specs.declared.state.HomeState.TheVariants as at
-use Rattle.sci_home.specs.Serving.{head_of}
+use Rattle.sci_home.specs.{declared.state.HomeState.{HomeState}, Serving.{head_of}}
 use Rattle.sci_cache.specs.State.{CacheState, Out, Asking, Joining, FreshJoining, Head, FreshHead, Below, Purging, Claiming, Clearing, Returning, Rolling}
-use Rattle.sci_cache.specs.State.{Telling, Fading, waits}
-use Rattle.sci_cache.specs.Accepting.{accepting}
+use Rattle.sci_cache.specs.{State.{Telling, Fading, waits}, Accepting.{accepting}}
 use Rattle.sci_cache.specs.Serving.{serving, is_next, serving_cread, serving_purge, serving_roll, serving_setback}
-use Rattle.sci_cache.specs.Member.{link_of}
-use Rattle.sci_cache.specs.Cache.{Letter}
-use Rattle.sci_core.specs.Fresh.{is_fresh}
+use Rattle.sci_cache.specs.{Member.{link_of}, Cache.{Letter}}
+use Rattle.sci_core.specs.{Fresh.{is_fresh}, Tidy.{IsSentIn, IsAccepted}}
 use Rattle.sci_history.specs.Seen.{IsAmong}
-use Rattle.sci_core.specs.Tidy.{IsSentIn, IsAccepted}
 use Rattle.sci_core.proofs.Shape.Chains.{TakenOut, without, not_in_without, chain_same, chain_taken_out, next_is_member}
-use Rattle.sci_core.proofs.Shape.Heads.{if_head, next_either}
-use Rattle.sci_core.proofs.Shape.Views.{View, link_in, Shift}
+use Rattle.sci_core.proofs.Shape.{Heads.{if_head, next_either}, Views.{View, link_in, Shift}}
 use Rattle.sci_core.proofs.Shape.Standings.{Coming, Leading, Following, role_of, Agrees, Alike, alike_itself}
 use Rattle.sci_core.proofs.Shape.Led.{role_in, AgreesIn, IsLed, AlikeIn, alike_moved, same_link, Stands, alike_stands, led_stands, led_without, Joins}
-use Rattle.sci_core.proofs.Shape.Led.{led_joins}
-use Rattle.sci_core.proofs.Shape.Shapes.{AcceptsIn, IsLedFrom, IsShaped, Shaped, shaped_alike}
+use Rattle.sci_core.proofs.Shape.{Led.{led_joins}, Shapes.{AcceptsIn, IsLedFrom, IsShaped, Shaped, shaped_alike}}
+use Rattle.sci_packets.specs.declared.body.Body.TheVariants as body
+use Rattle.sci_home.specs.declared.state.HomeState.TheVariants as at
 
 -- stands as it stood, but for the link
 pub record Stood (old : CacheState) (was : Option Body) (new : CacheState) (now : Option Body) : Type 0 where

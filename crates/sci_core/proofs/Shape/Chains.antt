@@ -1,7 +1,7 @@
 -- Lists of nodes along links: what becomes of one if the links change. Nothing here knows the protocol.
 use Rattle.std.proofs.Common.{◌≡◌, ◌≢◌, ℕ, Bool, if◌then◌else◌, List, [], ◌∷◌, Option, Some, None, refl, sym, ap, subst, ◌∙◌, inl, inr, arith}
-use Rattle.std.specs.Prelude.{◌==◌}
 use Rattle.std.proofs.lemmas.Bool.{cases_eq, eq-eqb, ne_eqb}
+use Rattle.std.specs.Prelude.{◌==◌}
 use Rattle.sci_history.specs.Seen.{IsAmong}
 use Rattle.sci_core.specs.SharingList.{IsOnce, LinkedFrom, IsListOf}
 

@@ -1,7 +1,6 @@
 -- What depends on whether a node is the head of a list, or the next in it.
-use Rattle.std.proofs.Common.{◌≡◌, ℕ, if◌then◌else◌, Option, Some, None, ap}
+use Rattle.std.proofs.{Common.{◌≡◌, ℕ, if◌then◌else◌, Option, Some, None, ap}, lemmas.Bool.{eqb-true}}
 use Rattle.std.specs.Prelude.{◌==◌}
-use Rattle.std.proofs.lemmas.Bool.{eqb-true}
 use Rattle.sci_cache.specs.Serving.{is_next}
 use Rattle.sci_core.proofs.Basics.Lists.{if_cases}
 

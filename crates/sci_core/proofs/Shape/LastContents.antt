@@ -1,12 +1,10 @@
 -- The last contents of a line, found step by step.
 use Rattle.std.proofs.Common.{◌≡◌, ℕ, ◌+◌, ◌<◌, List, [], ◌∷◌, ◌++◌, length, get_or, take, drop, Option, Some, None, refl, sym, ap, ◌∙◌, arith}
-use Rattle.std.specs.Prelude.{unwrap_or}
-use Rattle.std.specs.Option.{option_or}
-use Rattle.sci_core.proofs.Basics.Options.{after_none, found_first}
 use Rattle.std.proofs.lemmas.List.{take_more, take_all, take-append-drop}
 use Rattle.std.proofs.lemmas.List.FromFn.{length-map-range_with_len, get_or-map-range_with_len}
-use Rattle.sci_words.specs.declared.stamped.Stamped.{Stamped}
-use Rattle.sci_words.specs.Stamped.{zero_stamped}
+use Rattle.std.specs.{Prelude.{unwrap_or}, Option.{option_or}}
+use Rattle.sci_core.proofs.Basics.Options.{after_none, found_first}
+use Rattle.sci_words.specs.{declared.stamped.Stamped.{Stamped}, Stamped.{zero_stamped}}
 use Rattle.sci_home.specs.Serving.{current_of}
 use Rattle.sci_core.specs.Core.{Core}
 use Rattle.sci_core.specs.Sharing.{Sharer, sharer_of, sharers, home_at, authority_contents, first_authority, last_at}

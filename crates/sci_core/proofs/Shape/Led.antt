@@ -5,9 +5,8 @@ use Rattle.std.proofs.lemmas.Bool.{cases_eq}
 use Rattle.sci_words.specs.declared.stamped.Stamped.{Stamped}
 use Rattle.sci_packets.specs.declared.body.Body.{Body}
 use Rattle.sci_cache.specs.State.{CacheState}
-use Rattle.sci_core.specs.Fresh.{is_fresh}
+use Rattle.sci_core.specs.{Fresh.{is_fresh}, SharingList.{IsOnce, LinkedFrom}}
 use Rattle.sci_history.specs.Seen.{IsAmong}
-use Rattle.sci_core.specs.SharingList.{IsOnce, LinkedFrom}
 use Rattle.sci_core.proofs.Shape.Chains.{without, without_nil, without_this, without_other, next_of}
 use Rattle.sci_core.proofs.Shape.Views.{View, link_in}
 use Rattle.sci_core.proofs.Shape.Standings.{Role, Coming, Leading, Following, role_of, Agrees, Alike, alike_itself, coming_empty}

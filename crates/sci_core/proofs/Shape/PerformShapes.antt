@@ -1,26 +1,18 @@
 -- One line's list and its last contents, as an operation is performed on it.
 use Rattle.std.proofs.Common.{◌≡◌, ◌≢◌, ℕ, true, false, List, get_or, set, Option, Some, None, refl, sym, ap, subst, ◌∙◌, inl, inr, arith}
+use Rattle.std.proofs.lemmas.{Bool.{cases_eq}, List.{set-get_or}}
 use Rattle.std.specs.Prelude.{IfSome}
-use Rattle.std.proofs.lemmas.Bool.{cases_eq}
-use Rattle.std.proofs.lemmas.List.{set-get_or}
-use Rattle.sci_words.specs.declared.stamped.Stamped.{Stamped}
-use Rattle.sci_words.specs.declared.operation.Act.{Act}
-use Rattle.sci_words.specs.declared.operation.Act.TheVariants.{Load, Store, Lock}
-use Rattle.sci_words.specs.declared.operation.Op.{Op}
-use Rattle.sci_words.specs.Operation.{effect_of_act, is_maker, makes_version}
+use Rattle.sci_words.specs.declared.{stamped.Stamped.{Stamped}, operation.Act.{Act, TheVariants.{Load, Store, Lock}}}
+use Rattle.sci_words.specs.{declared.operation.Op.{Op}, Operation.{effect_of_act, is_maker, makes_version}}
 use Rattle.sci_words.specs.Stamped.{after, reply_of}
 use Rattle.sci_packets.specs.declared.body.Body.{Body}
-use Rattle.sci_home.specs.declared.state.HomeState.{HomeState}
-use Rattle.sci_home.specs.declared.state.HomeState.TheVariants as at
-use Rattle.sci_home.specs.Serving.{head_of}
-use Rattle.sci_cache.specs.State.{CacheState, Head, contents_of}
-use Rattle.sci_cache.specs.Performing.{Performed}
-use Rattle.sci_cache.specs.Member.{link_of}
-use Rattle.sci_core.proofs.Shape.Chains.{chain_same, none_empty}
-use Rattle.sci_core.proofs.Shape.Views.{View, link_in}
+use Rattle.sci_home.specs.{declared.state.HomeState.{HomeState}, Serving.{head_of}}
+use Rattle.sci_cache.specs.{State.{CacheState, Head, contents_of}, Performing.{Performed}, Member.{link_of}}
+use Rattle.sci_core.proofs.Shape.{Chains.{chain_same, none_empty}, Views.{View, link_in}}
 use Rattle.sci_core.proofs.Shape.Standings.{role_of, Agrees, Leaves, Reads, Makes, Performs}
 use Rattle.sci_core.proofs.Shape.Led.{AgreesIn, alike_same, led_agrees, Made, led_made}
 use Rattle.sci_core.proofs.Shape.Shapes.{AcceptsIn, IsLedFrom, IsShaped, Shaped, shaped_alike}
+use Rattle.sci_home.specs.declared.state.HomeState.TheVariants as at
 
 -- ---- a load
 

@@ -1,41 +1,29 @@
 -- What a line's shape says, clause by clause, from its list that is led.
 use Rattle.std.proofs.Common.{◌≡◌, ◌⊎◌, ℕ, zero, suc, ◌%◌, ◌<◌, Bool, true, false, List, [], ◌∷◌, ◌++◌, length, get_or, Option, Some, None, refl, sym, ap}
-use Rattle.std.proofs.Common.{subst, ◌∙◌, arith, inl, inr, rules}
-use Rattle.std.specs.Prelude.{IfSome, IsSome, is_some, unwrap_or}
-use Rattle.std.specs.Option.{option_or}
-use Rattle.std.specs.List.{AllByRecursion}
-use Rattle.std.proofs.lemmas.Bool.{cases_lt}
+use Rattle.std.proofs.{Common.{subst, ◌∙◌, arith, inl, inr, rules}, lemmas.Bool.{cases_lt}}
 use Rattle.std.proofs.lemmas.List.{append_assoc, get_or_past}
 use Rattle.std.proofs.lemmas.List.FromFn.{get_or-map-range_with_len, length-map-range_with_len}
-use Rattle.sci_words.specs.declared.stamped.Stamped.{Stamped}
-use Rattle.sci_words.specs.Stamped.{zero_stamped}
-use Rattle.sci_packets.specs.declared.body.Body.{Body}
-use Rattle.sci_packets.specs.declared.body.Body.TheVariants as body
-use Rattle.sci_packets.specs.Table.{is_request}
-use Rattle.sci_home.specs.declared.state.HomeState.{HomeState}
-use Rattle.sci_home.specs.declared.state.HomeState.TheVariants as at
-use Rattle.sci_home.specs.Serving.{current_of}
-use Rattle.sci_cache.specs.State.{CacheState, Asking, Joining, FreshJoining, Returning, Rolling}
-use Rattle.sci_cache.specs.State.{Telling, contents_of}
-use Rattle.sci_cache.specs.Accepting.{accepting}
-use Rattle.sci_cache.specs.Member.{link_of}
-use Rattle.sci_cache.specs.Cache.{Letter, line_of}
+use Rattle.std.specs.{Prelude.{IfSome, IsSome, is_some, unwrap_or}, Option.{option_or}, List.{AllByRecursion}}
+use Rattle.sci_words.specs.{declared.stamped.Stamped.{Stamped}, Stamped.{zero_stamped}}
+use Rattle.sci_packets.specs.{declared.body.Body.{Body}, Table.{is_request}}
+use Rattle.sci_home.specs.{declared.state.HomeState.{HomeState}, Serving.{current_of}}
+use Rattle.sci_cache.specs.State.{CacheState, Asking, Joining, FreshJoining, Returning, Rolling, Telling, contents_of}
+use Rattle.sci_cache.specs.{Accepting.{accepting}, Member.{link_of}, Cache.{Letter, line_of}}
 use Rattle.sci_core.specs.Core.{Core, node_at}
 use Rattle.sci_core.specs.Shape.{comes, follows, state_at, IsAuthority, IsSplit, HasOneAuthority, HasAuthorities, HaveContents, is_home_fresh, IsGoneStale}
 use Rattle.sci_core.specs.Shape.{HasShape}
 use Rattle.sci_core.specs.Sharing.{contents_held, packets_of, answer_in, Sharer, sharer_of, sharers, home_at, authority_contents, first_authority, last_at}
-use Rattle.sci_core.specs.Sharing.{answer_to as told}
-use Rattle.sci_history.specs.Seen.{IsAmong}
-use Rattle.sci_core.specs.Tidy.{IsSentIn, HasItsPackets, IsTidy, IsAccepted}
+use Rattle.sci_core.specs.{Sharing.{answer_to as told}, Tidy.{IsSentIn, HasItsPackets, IsTidy, IsAccepted}}
 use Rattle.sci_core.specs.WellFormed.{IsWellFormed}
-use Rattle.sci_core.proofs.Shape.LastContents.{last_home}
-use Rattle.sci_core.proofs.Shape.Views.{View, link_in}
+use Rattle.sci_history.specs.Seen.{IsAmong}
+use Rattle.sci_core.proofs.Shape.{LastContents.{last_home}, Views.{View, link_in}}
 use Rattle.sci_core.proofs.Shape.Standings.{Role, Coming, Leading, Following, role_of, Agrees}
 use Rattle.sci_core.proofs.Shape.Led.{role_in, fresh_in, AreFollowing, IsLed, following_in, roles_differ}
 use Rattle.sci_core.proofs.Shape.Shapes.{IsLedFrom, IsShaped, Shaped}
 use Rattle.sci_core.proofs.Shape.PerformShapes.{no_members, member_agrees, has_last}
-use Rattle.sci_core.proofs.Shape.ShapeSteps.{view_of, ShapedAt, request_tells}
-use Rattle.sci_core.proofs.Basics.Options.{found, same_some}
+use Rattle.sci_core.proofs.{Shape.ShapeSteps.{view_of, ShapedAt, request_tells}, Basics.Options.{found, same_some}}
+use Rattle.sci_packets.specs.declared.body.Body.TheVariants as body
+use Rattle.sci_home.specs.declared.state.HomeState.TheVariants as at
 
 -- ---- standings and states
 

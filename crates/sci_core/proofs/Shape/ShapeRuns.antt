@@ -1,45 +1,32 @@
 -- In every reached state each line has its shape, and each operation takes effect on the line's last contents.
-use Rattle.std.proofs.Common.{◌≡◌, ℕ, zero, suc, ◌+◌, ◌/◌, ◌<◌, true, map, replicate, get_or, Option, Some, None, refl, sym, ap, subst, ◌∙◌, arith, inl, inr}
-use Rattle.std.specs.Prelude.{IfSome, unwrap_or}
-use Rattle.std.specs.List.{range_with_len}
-use Rattle.std.proofs.lemmas.Bool.{cases_eq}
-use Rattle.std.proofs.lemmas.List.{get_or-set_same, get_or-set_other}
-use Rattle.sci_words.specs.declared.event.Event.{Event}
-use Rattle.sci_words.specs.declared.event.AskKind.{AskKind}
-use Rattle.sci_words.specs.declared.operation.Op.{Op}
-use Rattle.sci_words.specs.declared.stamped.Stamped.{Stamped}
-use Rattle.sci_words.specs.Stamped.{after, zero_stamped}
+use Rattle.std.proofs.Common.{◌≡◌, ℕ, zero, suc, ◌+◌, ◌/◌, ◌<◌, true, map, replicate, get_or, Option, Some, None, refl, sym, ap, subst, ◌∙◌, arith, inl}
+use Rattle.std.proofs.{Common.{inr}, lemmas.{Bool.{cases_eq}, List.{get_or-set_same, get_or-set_other}}}
+use Rattle.std.specs.{Prelude.{IfSome, unwrap_or}, List.{range_with_len}}
+use Rattle.sci_words.specs.declared.{event.{Event.{Event}, AskKind.{AskKind}}, operation.Op.{Op}}
+use Rattle.sci_words.specs.{declared.stamped.Stamped.{Stamped}, Stamped.{after, zero_stamped}}
 use Rattle.sci_history.specs.declared.entry.Entry.{Entry}
-use Rattle.sci_packets.specs.declared.body.Body.{Body}
-use Rattle.sci_packets.specs.declared.body.Body.TheVariants.{Busy}
+use Rattle.sci_packets.specs.declared.body.Body.{Body, TheVariants.{Busy}}
 use Rattle.sci_home.specs.Serving.{opening_home}
-use Rattle.sci_cache.specs.State.{Out}
-use Rattle.sci_cache.specs.Performing.{performing}
-use Rattle.sci_cache.specs.Line.{LineState, untouched, line_in}
+use Rattle.sci_cache.specs.{State.{Out}, Performing.{performing}, Line.{LineState, untouched, line_in}}
 use Rattle.sci_cache.specs.Cache.{Letter, line_of}
 use Rattle.sci_core.specs.declared.lane.LaneKind.TheVariants.{Requests, Answers as AnswerLane}
 use Rattle.sci_core.specs.Node.{NodeOf, opening_node, lines_of, home_of, answering, with_answer, node_issuing, node_performing, node_asking, node_serving}
 use Rattle.sci_core.specs.Node.{node_refusing, node_replying, node_accepting, no_node}
 use Rattle.sci_core.specs.Core.{Core, node_at, with_node, with_lane, lane_place, stepping, step, opening}
-use Rattle.sci_core.specs.Done.{performed, TakesEffect, ChangesBy, made_by}
-use Rattle.sci_core.specs.Sharing.{is_about}
-use Rattle.sci_core.specs.Tidy.{IsTidy}
-use Rattle.sci_core.specs.WellFormed.{IsPart, IsWellFormed}
-use Rattle.sci_core.proofs.Basics.Options.{of_some}
-use Rattle.sci_core.proofs.Step.Nodes.{some_below}
-use Rattle.sci_core.proofs.WellFormed.Parts.{SendsWell, RepliesWell, part_serving, part_refusing}
-use Rattle.sci_core.proofs.Tidy.WaitingNodes.{Stays, AsksOnce, Answers, Replies, Accepts, issue_stays, ask_once, serve_answers, refuse_answers, reply_replies}
-use Rattle.sci_core.proofs.Tidy.WaitingNodes.{accept_accepts}
-use Rattle.sci_core.proofs.Tidy.TidySteps.{about_asker, answer_asker}
-use Rattle.sci_core.proofs.Tidy.TidyRuns.{node_below, waiting_answers, opening_none}
+use Rattle.sci_core.specs.{Done.{performed, TakesEffect, ChangesBy, made_by}, Sharing.{is_about}, Tidy.{IsTidy}}
+use Rattle.sci_core.specs.{WellFormed.{IsPart, IsWellFormed}, Size.{Size}}
+use Rattle.sci_core.proofs.{Basics.Options.{of_some}, Step.Nodes.{some_below}}
 use Rattle.sci_core.proofs.Step.Steps.{Sent, Taken, Stepped, By_issue, By_perform, By_ask, By_serve, By_refuse, By_reply, By_accept, stepping_stepped}
+use Rattle.sci_core.proofs.Step.NodeSides.{Unmoved, PerformedAs, AsksAlike, ServedAs, At_home, In_cache, RefusedAs, AcceptsAlike, issue_unmoved}
+use Rattle.sci_core.proofs.Step.NodeSides.{perform_as, ask_alike, serve_as, refuse_as, reply_as, accept_alike}
+use Rattle.sci_core.proofs.WellFormed.Parts.{SendsWell, RepliesWell, part_serving, part_refusing}
+use Rattle.sci_core.proofs.Tidy.WaitingNodes.{Stays, AsksOnce, Answers, Replies, Accepts, issue_stays, ask_once, serve_answers, refuse_answers}
+use Rattle.sci_core.proofs.Tidy.{WaitingNodes.{reply_replies, accept_accepts}, TidySteps.{about_asker, answer_asker}}
+use Rattle.sci_core.proofs.Tidy.TidyRuns.{node_below, waiting_answers, opening_none}
 use Rattle.sci_core.proofs.Shape.Standings.{Performs, performing_does, alike_itself}
-use Rattle.sci_core.proofs.Step.NodeSides.{Unmoved, PerformedAs, AsksAlike, ServedAs, At_home, In_cache, RefusedAs, AcceptsAlike, issue_unmoved, perform_as}
-use Rattle.sci_core.proofs.Step.NodeSides.{ask_alike, serve_as, refuse_as, reply_as, accept_alike}
 use Rattle.sci_core.proofs.Shape.ShapeSteps.{view_of, ShapedAt, SameLine, same_shaped, changed_same, Operates, performed_same, performed_did, asked_same}
 use Rattle.sci_core.proofs.Shape.ShapeSteps.{replied_same, accepted_same}
 use Rattle.sci_core.proofs.Shape.ShapeServes.{Answered, refused_same, home_kept, cache_kept}
-use Rattle.sci_core.specs.Size.{Size}
 
 -- a line has its shape still, and its last contents are as the entry tells
 abbrev pub Follows : Core → Option Entry → ℕ → Stamped → Type 0

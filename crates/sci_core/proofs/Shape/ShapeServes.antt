@@ -1,33 +1,22 @@
 -- A request that is served, or refused, leaves each line its shape and its last contents.
-use Rattle.std.proofs.Common.{◌≡◌, ◌≢◌, ℕ, ◌%◌, ◌<◌, true, false, List, [], ◌∷◌, length, Option, Some, None, refl, sym, ap, subst, ◌∙◌, arith}
-use Rattle.std.proofs.Common.{inl, inr}
-use Rattle.std.specs.Prelude.{IfSome, slice_set}
-use Rattle.std.proofs.Math.Nat.{div-add-mod}
-use Rattle.std.proofs.lemmas.Bool.{cases_Bool, cases_eq}
+use Rattle.std.proofs.Common.{◌≡◌, ◌≢◌, ℕ, ◌%◌, ◌<◌, true, false, List, [], ◌∷◌, length, Option, Some, None, refl, sym, ap, subst, ◌∙◌, arith, inl, inr}
+use Rattle.std.proofs.{Math.Nat.{div-add-mod}, lemmas.Bool.{cases_Bool, cases_eq}}
 use Rattle.std.proofs.lemmas.List.{get_or-set_same, get_or-set_other}
+use Rattle.std.specs.Prelude.{IfSome, slice_set}
 use Rattle.sci_words.specs.declared.stamped.Stamped.{Stamped}
-use Rattle.sci_packets.specs.declared.body.Body.{Body}
-use Rattle.sci_packets.specs.declared.body.Body.TheVariants.{Busy}
-use Rattle.sci_packets.specs.Table.{is_request}
-use Rattle.sci_home.specs.declared.state.HomeState.{HomeState}
-use Rattle.sci_home.specs.Serving.{home_serving as serving_of_home}
-use Rattle.sci_cache.specs.State.{CacheState, waits}
-use Rattle.sci_cache.specs.Serving.{serving}
-use Rattle.sci_cache.specs.Line.{LineState, untouched, line_in}
+use Rattle.sci_packets.specs.{declared.body.Body.{Body, TheVariants.{Busy}}, Table.{is_request}}
+use Rattle.sci_home.specs.{declared.state.HomeState.{HomeState}, Serving.{home_serving as serving_of_home}}
+use Rattle.sci_cache.specs.{State.{CacheState, waits}, Serving.{serving}, Line.{LineState, untouched, line_in}}
 use Rattle.sci_cache.specs.Cache.{Letter, line_of, with_line}
 use Rattle.sci_core.specs.Node.{NodeOf, is_setback, lines_of, home_of, home_place, answering, with_answer, no_node}
 use Rattle.sci_core.specs.Core.{Core, node_at, with_node, lane_at, with_lane}
-use Rattle.sci_core.specs.Sharing.{packets_of, answer_in, home_at, answer_to as told}
-use Rattle.sci_core.specs.Tidy.{IsSentIn, IsTidy}
+use Rattle.sci_core.specs.{Sharing.{packets_of, answer_in, home_at, answer_to as told}, Tidy.{IsSentIn, IsTidy}}
 use Rattle.sci_core.specs.WellFormed.{IsPart}
-use Rattle.sci_core.proofs.Basics.Lists.{at_place_set}
-use Rattle.sci_core.proofs.Step.Nodes.{home_below}
+use Rattle.sci_core.proofs.{Basics.Lists.{at_place_set}, Step.Nodes.{home_below}}
 use Rattle.sci_core.proofs.Tidy.Packets.{packets_same, packets_served, filter_left, filter_one, lane_has}
 use Rattle.sci_core.proofs.Tidy.Waits.{idle_has_none, some_has_one}
 use Rattle.sci_core.proofs.Tidy.TidySteps.{about_from, about_line, about_asker, request_asker, about_answer}
-use Rattle.sci_core.proofs.Shape.Views.{Shift, View}
-use Rattle.sci_core.proofs.Shape.Standings.{busy_alike}
-use Rattle.sci_core.proofs.Shape.Led.{AlikeIn, alike_moved, alike_same}
+use Rattle.sci_core.proofs.Shape.{Views.{Shift, View}, Standings.{busy_alike}, Led.{AlikeIn, alike_moved, alike_same}}
 use Rattle.sci_core.proofs.Shape.Shapes.{Asks, Shaped, home_shaped}
 use Rattle.sci_core.proofs.Shape.CacheShapes.{ServesAs, cache_serves, cache_shaped}
 use Rattle.sci_core.proofs.Shape.ShapeSteps.{view_of, ShapedAt, SameLine, same_shaped, request_tells, answer_tells, homes_same}

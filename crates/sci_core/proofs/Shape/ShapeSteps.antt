@@ -1,32 +1,22 @@
 -- Every step but one that serves a request leaves each line's shape, and its last contents unless it performs a maker.
 use Rattle.std.proofs.Common.{◌≡◌, ◌≢◌, ℕ, ◌%◌, ◌<◌, Bool, true, false, if◌then◌else◌, List, [], ◌∷◌, ◌++◌, length, filter, Option, Some, None, refl, sym}
-use Rattle.std.proofs.Common.{arith}
-use Rattle.std.proofs.Common.{ap, subst, ◌∙◌, inl, inr}
-use Rattle.std.specs.Prelude.{option_to_list}
-use Rattle.std.proofs.lemmas.Bool.{cases_Bool}
+use Rattle.std.proofs.{Common.{arith, ap, subst, ◌∙◌, inl, inr}, lemmas.Bool.{cases_Bool}}
 use Rattle.std.proofs.lemmas.List.{get_or-set_same, get_or-set_other}
-use Rattle.sci_words.specs.declared.operation.Op.{Op}
-use Rattle.sci_words.specs.declared.stamped.Stamped.{Stamped}
-use Rattle.sci_packets.specs.declared.body.Body.{Body}
-use Rattle.sci_packets.specs.Table.{is_request}
+use Rattle.std.specs.Prelude.{option_to_list}
+use Rattle.sci_words.specs.declared.{operation.Op.{Op}, stamped.Stamped.{Stamped}}
+use Rattle.sci_packets.specs.{declared.body.Body.{Body}, Table.{is_request}}
 use Rattle.sci_home.specs.declared.state.HomeState.{HomeState}
-use Rattle.sci_cache.specs.Performing.{Performed}
-use Rattle.sci_cache.specs.Line.{LineState}
-use Rattle.sci_cache.specs.Cache.{Letter, line_of}
+use Rattle.sci_cache.specs.{Performing.{Performed}, Line.{LineState}, Cache.{Letter, line_of}}
 use Rattle.sci_core.specs.Node.{NodeOf, lines_of, home_of, no_node}
 use Rattle.sci_core.specs.Core.{Core, node_at, with_node, lane_at, with_lane}
-use Rattle.sci_core.specs.Sharing.{is_about, packets_of, answer_in, home_at, answer_to as told}
-use Rattle.sci_core.specs.Tidy.{IsTidy}
+use Rattle.sci_core.specs.{Sharing.{is_about, packets_of, answer_in, home_at, answer_to as told}, Tidy.{IsTidy}}
 use Rattle.sci_core.proofs.Basics.Lists.{at_place_set}
 use Rattle.sci_core.proofs.Tidy.Packets.{packets_changed, packets_same, packets_asked, packets_replied, packets_accepted, filter_joined, filter_left}
-use Rattle.sci_core.proofs.Tidy.Packets.{filter_one, lane_has, node_has}
-use Rattle.sci_core.proofs.Tidy.Waits.{idle_has_none, some_has_one}
+use Rattle.sci_core.proofs.Tidy.{Packets.{filter_one, lane_has, node_has}, Waits.{idle_has_none, some_has_one}}
 use Rattle.sci_core.proofs.Tidy.WaitingNodes.{AsksOnce, Replies, Accepts}
 use Rattle.sci_core.proofs.Tidy.TidySteps.{about_from, about_line, about_asker, request_asker, answer_asker, same_line}
-use Rattle.sci_core.proofs.Shape.Views.{View}
-use Rattle.sci_core.proofs.Shape.Standings.{Alike, alike_itself, Performs}
-use Rattle.sci_core.proofs.Shape.Led.{AlikeIn, alike_moved, alike_same}
-use Rattle.sci_core.proofs.Shape.Shapes.{Shaped, shaped_alike}
+use Rattle.sci_core.proofs.Shape.{Views.{View}, Standings.{Alike, alike_itself, Performs}}
+use Rattle.sci_core.proofs.Shape.{Led.{AlikeIn, alike_moved, alike_same}, Shapes.{Shaped, shaped_alike}}
 use Rattle.sci_core.proofs.Shape.PerformShapes.{Moves, Did, performed_shaped}
 use Rattle.sci_core.proofs.Step.NodeSides.{SameHomes, Unmoved, AsksAlike, AcceptsAlike}
 

@@ -1,28 +1,21 @@
 -- One line's list and what stands where in it, as its home serves a request.
 use Rattle.std.proofs.Common.{◌≡◌, ◌≢◌, ℕ, Bool, true, false, List, [], ◌∷◌, Option, Some, None, refl, sym, ap, subst, ◌∙◌, inl, inr, arith}
-use Rattle.std.specs.Prelude.{IfSome, IsSome}
 use Rattle.std.proofs.lemmas.Bool.{cases_eq}
+use Rattle.std.specs.Prelude.{IfSome, IsSome}
 use Rattle.sci_words.specs.declared.stamped.Stamped.{Stamped}
 use Rattle.sci_packets.specs.declared.body.Body.{Body}
-use Rattle.sci_packets.specs.declared.body.Body.TheVariants as body
 use Rattle.sci_home.specs.declared.state.HomeState.{HomeState}
-use Rattle.sci_home.specs.declared.state.HomeState.TheVariants as at
 use Rattle.sci_home.specs.Serving.{head_of, serving_mread, serving_fread, serving_claim, serving_clear, serving_wback, home_serving as at_home}
-use Rattle.sci_cache.specs.State.{CacheState, Asking, Joining, FreshJoining, Purging, Claiming, Clearing, Returning, Rolling}
-use Rattle.sci_cache.specs.State.{Telling, Fading}
-use Rattle.sci_cache.specs.Accepting.{accepting}
-use Rattle.sci_cache.specs.Member.{link_of}
-use Rattle.sci_cache.specs.Cache.{Letter}
-use Rattle.sci_core.specs.Fresh.{is_fresh}
+use Rattle.sci_cache.specs.State.{CacheState, Asking, Joining, FreshJoining, Purging, Claiming, Clearing, Returning, Rolling, Telling, Fading}
+use Rattle.sci_cache.specs.{Accepting.{accepting}, Member.{link_of}, Cache.{Letter}}
+use Rattle.sci_core.specs.{Fresh.{is_fresh}, SharingList.{IsListOf}, Tidy.{IsSentIn, IsAccepted}}
 use Rattle.sci_history.specs.Seen.{IsAmong}
-use Rattle.sci_core.specs.SharingList.{IsListOf}
-use Rattle.sci_core.specs.Tidy.{IsSentIn, IsAccepted}
-use Rattle.sci_core.proofs.Shape.Chains.{chain_same, chain_front, chain_gone, none_empty, not_in}
-use Rattle.sci_core.proofs.Shape.Heads.{if_head}
-use Rattle.sci_core.proofs.Shape.Views.{View, link_in}
-use Rattle.sci_core.proofs.Shape.Standings.{Coming, Leading, role_of, Agrees, sight_of, Alike}
+use Rattle.sci_core.proofs.Shape.{Chains.{chain_same, chain_front, chain_gone, none_empty, not_in}, Heads.{if_head}}
+use Rattle.sci_core.proofs.Shape.{Views.{View, link_in}, Standings.{Coming, Leading, role_of, Agrees, sight_of, Alike}}
 use Rattle.sci_core.proofs.Shape.Led.{role_in, AgreesIn, IsLed, AlikeIn, same_link, Stands, alike_stands, following_stand, led_weaker, led_stands}
 use Rattle.sci_core.proofs.Shape.Led.{led_agrees}
+use Rattle.sci_packets.specs.declared.body.Body.TheVariants as body
+use Rattle.sci_home.specs.declared.state.HomeState.TheVariants as at
 
 -- ---- shapes
 

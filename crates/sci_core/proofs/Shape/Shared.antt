@@ -1,19 +1,16 @@
 -- The authority of a line stands in its list. A line in whose list none stands is its home's alone.
 use Rattle.std.proofs.Common.{◌≡◌, ◌<◌, ℕ, List, [], ◌∷◌, ◌++◌, Option, Some, None, All, refl, sym, subst, ◌∙◌, inl, inr, arith}
-use Rattle.std.specs.Prelude.{IfSome, IsSome}
-use Rattle.std.specs.List.{AllByRecursion}
 use Rattle.std.proofs.lemmas.List.Elements.{All-nil, All-push, recursion_from_All}
+use Rattle.std.specs.{Prelude.{IfSome, IsSome}, List.{AllByRecursion}}
 use Rattle.sci_words.specs.declared.stamped.Stamped.{Stamped}
 use Rattle.sci_history.specs.Seen.{IsAmong}
-use Rattle.sci_home.specs.declared.state.HomeState.{HomeState}
-use Rattle.sci_home.specs.declared.state.HomeState.TheVariants as at
-use Rattle.sci_home.specs.Serving.{current_of, head_of}
-use Rattle.sci_core.specs.Core.{Core}
-use Rattle.sci_core.specs.declared.sharing_list.Authority.{Authority}
+use Rattle.sci_home.specs.{declared.state.HomeState.{HomeState}, Serving.{current_of, head_of}}
+use Rattle.sci_core.specs.{Core.{Core}, declared.sharing_list.Authority.{Authority}}
 use Rattle.sci_core.specs.Sharing.{authority_contents, home_at, last_at, sharer_of}
 use Rattle.sci_core.specs.Shape.{HasAuthorities, HasOneAuthority, HasShape, IsAuthority}
 use Rattle.sci_core.specs.SharingList.{IsSharingList, LinkedFrom, link_at}
 use Rattle.sci_core.proofs.Shape.Chains.{linked_has}
+use Rattle.sci_home.specs.declared.state.HomeState.TheVariants as at
 
 abbrev HasNone : Core → ℕ → ℕ → Type 0
 HasNone core line n = authority_contents (sharer_of core line n) ≡ None

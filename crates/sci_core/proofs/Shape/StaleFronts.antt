@@ -1,48 +1,30 @@
 -- If the home's contents are gone, the head of the list isn't fresh: only a Fread makes a member fresh, and its home says so.
 use Rattle.std.proofs.Common.{◌≡◌, ◌≢◌, ℕ, ◌<◌, Bool, true, false, List, [], ◌∷◌, Option, Some, None, refl, sym, ap, subst, ◌∙◌, inl, inr, rules, arith}
+use Rattle.std.proofs.lemmas.{Bool.{cases_Bool, cases_eq}, List.{get_or-set_other, get_or-set_same}}
 use Rattle.std.specs.Prelude.{IfSome, unwrap_or}
-use Rattle.std.proofs.lemmas.Bool.{cases_Bool, cases_eq}
-use Rattle.std.proofs.lemmas.List.{get_or-set_other, get_or-set_same}
-use Rattle.sci_words.specs.declared.event.Event.{Event}
-use Rattle.sci_words.specs.declared.operation.Op.{Op}
-use Rattle.sci_words.specs.declared.stamped.Stamped.{Stamped}
+use Rattle.sci_words.specs.declared.{event.Event.{Event}, operation.Op.{Op}, stamped.Stamped.{Stamped}}
 use Rattle.sci_history.specs.declared.entry.Entry.{Entry}
 use Rattle.sci_packets.specs.declared.body.Body.{Body}
-use Rattle.sci_packets.specs.declared.body.Body.TheVariants as body
 use Rattle.sci_home.specs.declared.state.HomeState.{HomeState}
-use Rattle.sci_home.specs.declared.state.HomeState.TheVariants as at
 use Rattle.sci_home.specs.Serving.{serving_clear, serving_claim, serving_fread, serving_mread, serving_wback, home_serving as at_home}
-use Rattle.sci_cache.specs.State.{CacheState, Asking, Head, Claiming, Clearing, Returning}
-use Rattle.sci_cache.specs.Performing.{performing}
-use Rattle.sci_cache.specs.Serving.{serving}
-use Rattle.sci_cache.specs.Line.{LineState, line_in, untouched}
-use Rattle.sci_cache.specs.Cache.{Letter, line_of}
+use Rattle.sci_cache.specs.{State.{CacheState, Asking, Head, Claiming, Clearing, Returning}, Performing.{performing}}
+use Rattle.sci_cache.specs.{Serving.{serving}, Line.{LineState, line_in, untouched}, Cache.{Letter, line_of}}
 use Rattle.sci_core.specs.declared.lane.LaneKind.TheVariants.{Requests}
-use Rattle.sci_core.specs.Core.{Core, node_at, run_from, step, stepping, with_lane, with_node}
-use Rattle.sci_core.specs.Done.{performed}
-use Rattle.sci_core.specs.Fresh.{is_fresh}
-use Rattle.sci_core.specs.Node.{NodeOf, no_node, node_serving}
-use Rattle.sci_core.specs.Reached.{IsReachable}
-use Rattle.sci_core.specs.Sharing.{answer_in, home_at, answer_to as told}
-use Rattle.sci_core.specs.Shape.{IsGoneStale}
-use Rattle.sci_core.specs.Size.{Size}
-use Rattle.sci_core.specs.Tidy.{IsSentIn, IsTidy}
-use Rattle.sci_core.specs.WellFormed.{IsPart, IsWellFormed}
-use Rattle.sci_core.proofs.Shape.Heads.{if_head}
-use Rattle.sci_core.proofs.Shape.Led.{fresh_in, same_fresh}
-use Rattle.sci_core.proofs.Step.NodeSides.{At_home, In_cache, PerformedAs, ServedAs}
-use Rattle.sci_core.proofs.Basics.Options.{of_some}
-use Rattle.sci_core.proofs.Tidy.Packets.{packets_changed}
-use Rattle.sci_core.proofs.Shape.Shapes.{Asks, home_sent}
+use Rattle.sci_core.specs.{Core.{Core, node_at, run_from, step, stepping, with_lane, with_node}, Done.{performed}}
+use Rattle.sci_core.specs.{Fresh.{is_fresh}, Node.{NodeOf, no_node, node_serving}, Reached.{IsReachable}}
+use Rattle.sci_core.specs.{Sharing.{answer_in, home_at, answer_to as told}, Shape.{IsGoneStale}, Size.{Size}}
+use Rattle.sci_core.specs.{Tidy.{IsSentIn, IsTidy}, WellFormed.{IsPart, IsWellFormed}}
+use Rattle.sci_core.proofs.Shape.{Heads.{if_head}, Led.{fresh_in, same_fresh}, Shapes.{Asks, home_sent}}
 use Rattle.sci_core.proofs.Shape.ShapeRuns.{LineStep, Performed, Served, Stood, answered, line_steps, operates_so, opening_at_home}
 use Rattle.sci_core.proofs.Shape.ShapeServes.{Answered, home_keeps, other_line, served_shift, with_served}
 use Rattle.sci_core.proofs.Shape.ShapeSteps.{SameLine, homes_same, view_of}
-use Rattle.sci_core.proofs.Shape.Standings.{Leaves, Makes, Performs, Reads, performing_does}
-use Rattle.sci_core.proofs.Step.Steps.{Stepped, Taken, stepping_stepped}
-use Rattle.sci_core.proofs.Tidy.TidyRuns.{opening_tidy, step_tidy}
-use Rattle.sci_core.proofs.Shape.Views.{Shift, View}
-use Rattle.sci_core.proofs.Tidy.WaitingNodes.{Answers, serve_answers}
-use Rattle.sci_core.proofs.WellFormed.WellFormedSteps.{opened, step_well}
+use Rattle.sci_core.proofs.Shape.{Standings.{Leaves, Makes, Performs, Reads, performing_does}, Views.{Shift, View}}
+use Rattle.sci_core.proofs.Step.NodeSides.{At_home, In_cache, PerformedAs, ServedAs}
+use Rattle.sci_core.proofs.{Step.Steps.{Stepped, Taken, stepping_stepped}, Basics.Options.{of_some}}
+use Rattle.sci_core.proofs.Tidy.{Packets.{packets_changed}, TidyRuns.{opening_tidy, step_tidy}}
+use Rattle.sci_core.proofs.{Tidy.WaitingNodes.{Answers, serve_answers}, WellFormed.WellFormedSteps.{opened, step_well}}
+use Rattle.sci_packets.specs.declared.body.Body.TheVariants as body
+use Rattle.sci_home.specs.declared.state.HomeState.TheVariants as at
 
 -- ---- views
 

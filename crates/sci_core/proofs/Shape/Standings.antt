@@ -1,22 +1,16 @@
 -- Where a member stands in its list: before the authority, as the authority, or behind it; and which contents it has or
 -- gets. Each row of the tables but those of served requests leaves that as it was.
 use Rattle.std.proofs.Common.{◌≡◌, ℕ, ◌-◌, ◌^◌, nat_lt, Bool, true, false, if◌then◌else◌, Option, Some, None, refl, sym, ap, subst, rules, arith}
-use Rattle.std.specs.Prelude.{IfSome}
 use Rattle.std.proofs.lemmas.Option.{IfSome_then}
-use Rattle.sci_words.specs.declared.stamped.Stamped.{Stamped}
-use Rattle.sci_words.specs.declared.operation.Op.{Op}
-use Rattle.sci_words.specs.Operation.{is_maker}
+use Rattle.std.specs.Prelude.{IfSome}
+use Rattle.sci_words.specs.{declared.{stamped.Stamped.{Stamped}, operation.Op.{Op}}, Operation.{is_maker}}
 use Rattle.sci_words.specs.Stamped.{after, reply_of}
 use Rattle.sci_packets.specs.declared.body.Body.{Body}
-use Rattle.sci_packets.specs.declared.body.Body.TheVariants as body
 use Rattle.sci_cache.specs.State.{CacheState, Asking, Joining, FreshJoining, Head, FreshHead, Below, Purging, Claiming, Clearing, Returning, Rolling}
-use Rattle.sci_cache.specs.State.{Telling, waits, contents_of}
-use Rattle.sci_cache.specs.Performing.{Performed, performing}
-use Rattle.sci_cache.specs.Member.{link_of}
-use Rattle.sci_core.specs.Fresh.{is_fresh}
+use Rattle.sci_cache.specs.{State.{Telling, waits, contents_of}, Performing.{Performed, performing}, Member.{link_of}}
 use Rattle.sci_cache.specs.Cache.{Letter}
-use Rattle.sci_core.specs.Node.{is_setback}
-use Rattle.sci_core.specs.Tidy.{IsSentIn, IsAccepted}
+use Rattle.sci_core.specs.{Fresh.{is_fresh}, Node.{is_setback}, Tidy.{IsSentIn, IsAccepted}}
+use Rattle.sci_packets.specs.declared.body.Body.TheVariants as body
 
 -- a member comes, leads or follows
 pub data Role : Type 0 where

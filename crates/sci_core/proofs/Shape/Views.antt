@@ -1,8 +1,7 @@
 -- One line as all nodes have it, and what becomes of it if one request is served.
 use Rattle.std.proofs.Common.{◌≡◌, ◌≢◌, ℕ, false, Option, Some, None}
 use Rattle.sci_packets.specs.declared.body.Body.{Body}
-use Rattle.sci_cache.specs.State.{CacheState, waits}
-use Rattle.sci_cache.specs.Member.{link_of}
+use Rattle.sci_cache.specs.{State.{CacheState, waits}, Member.{link_of}}
 
 -- the states of a line in all nodes, and the answers that are under way to them
 pub record View : Type 0 where

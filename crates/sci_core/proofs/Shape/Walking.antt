@@ -1,19 +1,13 @@
 -- A walk along the links of a sharing list, from its head.
-use Rattle.std.proofs.Common.{◌≡◌, ℕ, ◌<◌, ◌≤◌, List, [], ◌∷◌, ◌++◌, length, Option, Some, None, true, false, sym, ap, subst, ◌∙◌, append_assoc, arith, inl}
-use Rattle.std.proofs.Common.{inr, length-append}
-use Rattle.std.specs.List.{AllByRecursion, IsDistinct, list_any}
-use Rattle.std.proofs.lemmas.Bool.{cases_eq, ne_eqb}
-use Rattle.std.proofs.lemmas.List.{append-nil}
+use Rattle.std.proofs.Common.{◌≡◌, ℕ, ◌<◌, ◌≤◌, List, [], ◌∷◌, ◌++◌, length, Option, Some, None, true, false, sym, ap, subst, ◌∙◌, append_assoc, arith}
+use Rattle.std.proofs.{Common.{inl, inr, length-append}, lemmas.{Bool.{cases_eq, ne_eqb}, List.{append-nil}}}
 use Rattle.std.proofs.lemmas.Map.Steps.{length-le_from_distinct_below}
+use Rattle.std.specs.List.{AllByRecursion, IsDistinct, list_any}
 use lib.Dec.{eqb}
 use Rattle.sci_history.specs.Seen.{IsAmong}
 use Rattle.sci_home.specs.Serving.{head_of}
-use Rattle.sci_core.proofs.Shape.Chains.{linked_has}
-use Rattle.sci_core.specs.Core.{Core}
-use Rattle.sci_core.specs.Sharing.{home_at}
-use Rattle.sci_core.specs.Shape.{HasShape}
-use Rattle.sci_core.specs.WellFormed.{IsWellFormed}
-use Rattle.sci_core.proofs.Shape.ShapeClauses.{member_below}
+use Rattle.sci_core.proofs.Shape.{Chains.{linked_has}, ShapeClauses.{member_below}}
+use Rattle.sci_core.specs.{Core.{Core}, Sharing.{home_at}, Shape.{HasShape}, WellFormed.{IsWellFormed}}
 use Rattle.sci_core.specs.SharingList.{IsOnce, LinkedFrom, IsListOf, link_at}
 
 -- the nodes so far, and what is left of the list, from the next node on

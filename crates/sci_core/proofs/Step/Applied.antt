@@ -1,20 +1,15 @@
 -- What the calls of an event do, one after another, is the step.
 use Rattle.std.proofs.Common.{◌≡◌, ℕ, ◌<◌, ◌%◌, List, [], ◌∷◌, Option, Some, None, length, get_or, set, refl, sym, ap, subst, ◌∙◌, arith}
-use Rattle.std.specs.Prelude.{slice_get, IfSome, IsSome}
-use Rattle.std.specs.List.{All}
 use Rattle.std.proofs.lemmas.List.Elements.{All-head}
-use Rattle.sci_words.specs.declared.event.Event.{Event}
-use Rattle.sci_words.specs.declared.event.AskKind.{AskKind}
+use Rattle.std.specs.{Prelude.{slice_get, IfSome, IsSome}, List.{All}}
+use Rattle.sci_words.specs.declared.event.{Event.{Event}, AskKind.{AskKind}}
 use Rattle.sci_cache.specs.Cache.{Letter}
-use Rattle.sci_core.specs.declared.lane.LaneKind.{LaneKind}
-use Rattle.sci_core.specs.declared.lane.LaneKind.TheVariants.{Requests, Answers}
+use Rattle.sci_core.specs.declared.lane.LaneKind.{LaneKind, TheVariants.{Requests, Answers}}
 use Rattle.sci_core.specs.Node.{NodeOf, IsForNode, IsServable, node_asking, replied_by, node_replying}
 use Rattle.sci_core.specs.Core.{Core, node_at, lane_place, lane_of, with_sent, sends, side, node_of, stepping}
 use Rattle.sci_core.specs.WellFormed.{IsInLane, IsWellFormed}
-use Rattle.sci_core.proofs.WellFormed.Parts.{part_asking}
-use Rattle.sci_core.proofs.WellFormed.WellFormedSteps.{Comes, comes_from_lane}
-use Rattle.sci_core.proofs.Step.States.{read_at}
-use Rattle.sci_core.proofs.Step.Stepping.{stepping_sent}
+use Rattle.sci_core.proofs.WellFormed.{Parts.{part_asking}, WellFormedSteps.{Comes, comes_from_lane}}
+use Rattle.sci_core.proofs.Step.{States.{read_at}, Stepping.{stepping_sent}}
 
 -- ---- packets that come
 

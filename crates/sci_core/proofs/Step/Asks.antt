@@ -1,14 +1,11 @@
 -- What a node asks is what its cache asks, and what it serves at a home is what that home serves.
 use Rattle.std.proofs.Common.{◌≡◌, ℕ, ◌<◌, Bool, true, false, if◌then◌else◌, Some, None, Ok, Err, Result, Option, set, refl, ap, ◌∙◌, sym, arith}
-use Rattle.std.specs.Prelude.{IsOk, IfSome, IsSome}
 use Rattle.std.proofs.lemmas.Bool.{lt-ltb}
-use Rattle.sci_cache.specs.declared.fault.AskFault.{AskFault}
+use Rattle.std.specs.Prelude.{IsOk, IfSome, IsSome}
+use Rattle.sci_cache.specs.{declared.fault.AskFault.{AskFault}, Cache.{CacheOf, Letter, letter_of, cache_asking}}
 use Rattle.sci_words.specs.declared.event.AskKind.{AskKind}
-use Rattle.sci_packets.specs.declared.body.Body.{Body}
-use Rattle.sci_packets.specs.declared.packet.Packet.{Packet}
-use Rattle.sci_home.specs.declared.state.HomeState.{HomeState}
-use Rattle.sci_home.specs.Serving.{home_serving}
-use Rattle.sci_cache.specs.Cache.{CacheOf, Letter, letter_of, cache_asking}
+use Rattle.sci_packets.specs.declared.{body.Body.{Body}, packet.Packet.{Packet}}
+use Rattle.sci_home.specs.{declared.state.HomeState.{HomeState}, Serving.{home_serving}}
 use Rattle.sci_core.specs.Node.{NodeOf, lines_of, home_of, home_place, asked_by, node_asking, served_at_home, serving_at_home}
 use Rattle.sci_core.proofs.Step.Stepping.{if_true}
 

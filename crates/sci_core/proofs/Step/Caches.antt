@@ -1,16 +1,11 @@
 -- What a cache's calls leave as it was: its number, its sizes, and how many lines it has.
 use Rattle.std.proofs.Common.{◌≡◌, ℕ, Some, None, Ok, Err, Option, Result, length, refl, sym, subst, arith}
-use Rattle.std.specs.Prelude.{IfOk, IsOk, IsErr, option_map}
 use Rattle.std.proofs.lemmas.List.{length-set}
-use Rattle.sci_words.specs.declared.event.AskKind.{AskKind}
-use Rattle.sci_words.specs.declared.operation.Op.{Op}
-use Rattle.sci_words.specs.declared.operation.Reply.{Reply}
+use Rattle.std.specs.Prelude.{IfOk, IsOk, IsErr, option_map}
+use Rattle.sci_words.specs.declared.{event.AskKind.{AskKind}, operation.{Op.{Op}, Reply.{Reply}}}
 use Rattle.sci_packets.specs.declared.body.Body.{Body}
-use Rattle.sci_cache.specs.declared.fault.AskFault.{AskFault}
-use Rattle.sci_cache.specs.State.{CacheState}
-use Rattle.sci_cache.specs.Asking.{Asked}
-use Rattle.sci_cache.specs.Performing.{Performed, performing}
-use Rattle.sci_cache.specs.Line.{LineState, line_in, line_asking, line_accepting}
+use Rattle.sci_cache.specs.{declared.fault.AskFault.{AskFault}, State.{CacheState}, Asking.{Asked}}
+use Rattle.sci_cache.specs.{Performing.{Performed, performing}, Line.{LineState, line_in, line_asking, line_accepting}}
 use Rattle.sci_cache.specs.Cache.{CacheOf, Letter, line_of, with_line, has_slot, cache_asking, cache_accepting, cache_performing, cache_asked}
 
 pub record SameSizes (old new : CacheOf) : Type 0 where

@@ -1,31 +1,23 @@
 -- What each event does at its node: to the standing of the node's lines, to its homes, and to the answer that waits.
 use Rattle.std.proofs.Common.{◌≡◌, ℕ, ◌<◌, Bool, true, false, if◌then◌else◌, Option, Some, None, refl, sym, subst, arith}
+use Rattle.std.proofs.lemmas.{Option.{IfSome_then}, List.{get_or-set_same}}
 use Rattle.std.specs.Prelude.{IfSome, slice_set, option_map}
-use Rattle.std.proofs.lemmas.Option.{IfSome_then}
-use Rattle.std.proofs.lemmas.List.{get_or-set_same}
-use Rattle.sci_words.specs.declared.event.AskKind.{AskKind}
-use Rattle.sci_words.specs.declared.operation.Op.{Op}
-use Rattle.sci_packets.specs.declared.body.Body.{Body}
-use Rattle.sci_packets.specs.declared.body.Body.TheVariants.{Busy}
+use Rattle.sci_words.specs.declared.{event.AskKind.{AskKind}, operation.Op.{Op}}
+use Rattle.sci_packets.specs.declared.body.Body.{Body, TheVariants.{Busy}}
 use Rattle.sci_history.specs.declared.entry.Entry.{Entry}
-use Rattle.sci_home.specs.declared.state.HomeState.{HomeState}
-use Rattle.sci_home.specs.Serving.{is_for_home, home_serving as serving_of_home}
-use Rattle.sci_cache.specs.State.{CacheState}
-use Rattle.sci_cache.specs.Asking.{Asked}
-use Rattle.sci_cache.specs.Serving.{serving}
-use Rattle.sci_cache.specs.Accepting.{accepting}
+use Rattle.sci_home.specs.{declared.state.HomeState.{HomeState}, Serving.{is_for_home, home_serving as serving_of_home}}
+use Rattle.sci_cache.specs.{State.{CacheState}, Asking.{Asked}, Serving.{serving}, Accepting.{accepting}}
 use Rattle.sci_cache.specs.Performing.{Performed, performing}
 use Rattle.sci_cache.specs.Line.{LineState, untouched, line_in, line_asked, ask_or_fault}
 use Rattle.sci_cache.specs.Cache.{CacheOf, Letter, line_of, with_line, cache_asked}
-use Rattle.sci_core.proofs.Basics.Options.{of_some}
-use Rattle.sci_core.specs.declared.pending.Pending.{Pending}
-use Rattle.sci_core.specs.Node.{NodeOf, lines_of, home_place, home_of, pending_on, entry_of, node_logged, node_issuing, performed_by}
-use Rattle.sci_core.specs.Node.{performing_pending, node_performing, asked_by, node_asking, with_answer, served_at_home, served_in_cache, serving_at_home}
-use Rattle.sci_core.specs.Node.{serving_in_cache, serving_request, answered_by, node_serving, is_setback, node_refusing, replied_by, node_replying, accepted_by}
-use Rattle.sci_core.specs.Node.{node_accepting}
-use Rattle.sci_core.proofs.Basics.Lists.{if_either, at_place_set, if_cases}
+use Rattle.sci_core.proofs.Basics.{Options.{of_some}, Lists.{if_either, at_place_set, if_cases}}
 use Rattle.sci_core.proofs.Shape.Standings.{Alike, alike_itself}
 use Rattle.sci_core.proofs.Tidy.Waits.{BeginsToWait, EndsToWait, asking_waits, accepting_waits}
+use Rattle.sci_core.specs.declared.pending.Pending.{Pending}
+use Rattle.sci_core.specs.Node.{NodeOf, lines_of, home_place, home_of, pending_on, entry_of, node_logged, node_issuing, performed_by, performing_pending}
+use Rattle.sci_core.specs.Node.{node_performing, asked_by, node_asking, with_answer, served_at_home, served_in_cache, serving_at_home, serving_in_cache}
+use Rattle.sci_core.specs.Node.{serving_request, answered_by, node_serving, is_setback, node_refusing, replied_by, node_replying, accepted_by}
+use Rattle.sci_core.specs.Node.{node_accepting}
 
 pub record SameHomes (old new : NodeOf) : Type 0 where
   pub homes : new.homes ≡ old.homes

@@ -1,24 +1,18 @@
 -- That the parts of a node stay together.
 use Rattle.std.proofs.Common.{◌≡◌, ℕ, ◌+◌, ◌/◌, ◌<◌, Some, None, Option, List, [], ◌∷◌, ◌++◌, length, get_or, set, ◌∙◌, arith}
-use Rattle.std.specs.Prelude.{IfSome, true}
 use Rattle.std.proofs.lemmas.List.Folds.{sum_by-replicate}
-use Rattle.std.proofs.lemmas.List.{length-replicate, get_or-replicate}
-use Rattle.std.proofs.lemmas.List.{length-set, get_or-set_same, get_or-set_other}
-use Rattle.std.proofs.lemmas.List.{get_or_past, length_push}
-use Rattle.std.proofs.lemmas.List.Sums.{sum_by-set}
-use Rattle.std.proofs.lemmas.Bool.{cases_eq, cases_lt, and_parts, ltb-true, not-true}
-use Rattle.std.proofs.lemmas.Nat.{le-div}
-use Rattle.std.proofs.Math.Nat.{div-mul-le_self}
-use Rattle.sci_words.specs.declared.extent.Extent.{Extent}
-use Rattle.sci_words.specs.declared.operation.Op.{Op}
+use Rattle.std.proofs.lemmas.List.{length-replicate, get_or-replicate, length-set, get_or-set_same, get_or-set_other, get_or_past, length_push}
+use Rattle.std.proofs.lemmas.{List.Sums.{sum_by-set}, Bool.{cases_eq, cases_lt, and_parts, ltb-true, not-true}}
+use Rattle.std.proofs.{lemmas.Nat.{le-div}, Math.Nat.{div-mul-le_self}}
+use Rattle.std.specs.Prelude.{IfSome, true}
+use Rattle.sci_words.specs.declared.{extent.Extent.{Extent}, operation.Op.{Op}}
 use Rattle.sci_history.specs.declared.entry.Entry.{Entry}
 use Rattle.sci_home.specs.declared.state.HomeState.{HomeState}
 use Rattle.sci_cache.specs.Cache.{CacheOf, Letter}
 use Rattle.sci_core.specs.declared.pending.Pending.{Pending}
 use Rattle.sci_core.specs.Node.{NodeOf, IsNode, IsPendingOn, pending_on, lines_of, may_issue, node_issued, opening_node}
-use Rattle.sci_core.specs.Inside.{FitsInside}
+use Rattle.sci_core.specs.{Inside.{FitsInside}, Size.{Size}}
 use Rattle.sci_core.proofs.Step.Caches.{SameSizes}
-use Rattle.sci_core.specs.Size.{Size}
 
 pub fits_kept : (number : ℕ) (extent : Extent) (old new : CacheOf) (space limit : ℕ) → SameSizes old new → FitsInside number extent old space limit
     → FitsInside number extent new space limit

@@ -1,29 +1,19 @@
 -- Nothing stands in the way of an event exactly if it is enabled.
-use Rattle.std.proofs.Common.{◌≡◌, ℕ, ◌<◌, Bool, true, false, List, [], ◌∷◌, Option, Some, None, refl, sym, ap, ◌∙◌}
-use Rattle.std.proofs.Common.{arith}
-use Rattle.std.specs.Prelude.{option_map, IfSome, IsSome, is_some, is_none, Result, Ok, Err, slice_get}
+use Rattle.std.proofs.Common.{◌≡◌, ℕ, ◌<◌, Bool, true, false, List, [], ◌∷◌, Option, Some, None, refl, sym, ap, ◌∙◌, arith}
 use Rattle.std.proofs.lemmas.Bool.{cases_Bool, lt-ltb, ltb-true, ltb-false}
-use Rattle.sci_words.specs.declared.event.AskKind.{AskKind}
-use Rattle.sci_words.specs.declared.event.Event.{Event}
-use Rattle.sci_words.specs.declared.event.Event.TheVariants as event
-use Rattle.sci_words.specs.declared.operation.Op.{Op}
+use Rattle.std.specs.Prelude.{option_map, IfSome, IsSome, is_some, is_none, Result, Ok, Err, slice_get}
+use Rattle.sci_words.specs.declared.{event.{AskKind.{AskKind}, Event.{Event}}, operation.Op.{Op}}
 use Rattle.sci_packets.specs.declared.packet.Packet.{Packet}
-use Rattle.sci_cache.specs.declared.fault.AskFault.{AskFault}
-use Rattle.sci_cache.specs.Cache.{CacheOf, Letter, letter_of}
-use Rattle.sci_core.specs.declared.obstacle.Obstacle.{Obstacle}
-use Rattle.sci_core.specs.declared.taking.Taking.{Taking}
+use Rattle.sci_cache.specs.{declared.fault.AskFault.{AskFault}, Cache.{CacheOf, Letter, letter_of}}
+use Rattle.sci_core.specs.declared.{obstacle.Obstacle.{Obstacle}, taking.Taking.{Taking}}
 use Rattle.sci_core.specs.declared.taking.Taking.TheVariants.{Serve, Refuse, Accept}
 use Rattle.sci_core.specs.Node.{NodeOf, node_issuing, node_performing, node_asking, node_serving, node_refusing, node_replying, node_accepting, is_setback}
-use Rattle.sci_core.specs.Node.{lines_of, asked_by}
-use Rattle.sci_core.specs.Core.{Core, node_at, node_of, lane_of, stepping}
-use Rattle.sci_core.specs.Obstacles.{asked_obstacle, ask_obstacle, packet_obstacle, front_obstacle}
-use Rattle.sci_core.specs.Obstacles.{take_obstacle}
-use Rattle.sci_core.specs.Reached.{IsReached}
-use Rattle.sci_core.specs.Taking.{lane_kind, taking_event}
-use Rattle.sci_core.proofs.Tidy.Enabled.{accept_enabled, request_enabled}
-use Rattle.sci_core.proofs.Step.Sides.{steps_by_sides}
-use Rattle.sci_core.proofs.Step.Stepping.{if_true, if_false}
-use Rattle.sci_core.proofs.Step.Takings.{taking_from_nobody}
+use Rattle.sci_core.specs.{Node.{lines_of, asked_by}, Core.{Core, node_at, node_of, lane_of, stepping}}
+use Rattle.sci_core.specs.Obstacles.{asked_obstacle, ask_obstacle, packet_obstacle, front_obstacle, take_obstacle}
+use Rattle.sci_core.specs.{Reached.{IsReached}, Taking.{lane_kind, taking_event}}
+use Rattle.sci_core.proofs.{Tidy.Enabled.{accept_enabled, request_enabled}, Step.Sides.{steps_by_sides}}
+use Rattle.sci_core.proofs.Step.{Stepping.{if_true, if_false}, Takings.{taking_from_nobody}}
+use Rattle.sci_words.specs.declared.event.Event.TheVariants as event
 
 mapped : {A B : Type 0} (f : A → B) (o : Option A) → is_some (option_map f o) ≡ is_some o
 mapped f None = refl

@@ -2,15 +2,14 @@
 use Rattle.std.proofs.Common.{◌≡◌, ℕ, ◌<◌, List, Option, Some, None, refl, ap, ◌∙◌}
 use Rattle.std.specs.Prelude.{option_map}
 use Rattle.sci_words.specs.declared.event.Event.{Event}
-use Rattle.sci_words.specs.declared.event.Event.TheVariants as event
 use Rattle.sci_history.specs.declared.entry.Entry.{Entry}
 use Rattle.sci_cache.specs.Cache.{Letter}
-use Rattle.sci_core.specs.declared.lane.LaneKind.{LaneKind}
-use Rattle.sci_core.specs.declared.lane.LaneKind.TheVariants.{Requests, Answers}
+use Rattle.sci_core.specs.declared.lane.LaneKind.{LaneKind, TheVariants.{Requests, Answers}}
 use Rattle.sci_core.specs.Node.{NodeOf, node_issuing, node_performing, node_asking, node_serving, node_refusing, node_replying, node_accepting}
-use Rattle.sci_core.specs.Core.{Core, node_at, with_node, lane_place, Takes, changes, performs, sends, side, node_of, sent_by, taken_as, taken_from, step_by}
-use Rattle.sci_core.specs.Sides.{taken_to, TakesFront, StepsBySides}
+use Rattle.sci_core.specs.Core.{Core, node_at, with_node, lane_place, Takes, changes, performs, sends, side, node_of, sent_by, taken_as, taken_from}
+use Rattle.sci_core.specs.{Core.{step_by}, Sides.{taken_to, TakesFront, StepsBySides}}
 use Rattle.sci_core.proofs.Step.Stepping.{stepping_side, stepping_takes}
+use Rattle.sci_words.specs.declared.event.Event.TheVariants as event
 
 changed : (core : Core) (n : ℕ) (next : Option NodeOf) → step_by core n (changes next) ≡ option_map (with_node core n) next
 changed core n None = refl

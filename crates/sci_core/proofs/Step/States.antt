@@ -1,8 +1,7 @@
 -- A node that is read at its place, changes, and is written back, is the node with that number.
 use Rattle.std.proofs.Common.{◌≡◌, ℕ, ◌<◌, length, get_or, set, Option, Some, None, sym, ap, subst, ◌∙◌, arith}
+use Rattle.std.proofs.lemmas.{Option.{IfSome_then}, List.{get_or_read, get_or-set_same}}
 use Rattle.std.specs.Prelude.{IfSome}
-use Rattle.std.proofs.lemmas.Option.{IfSome_then}
-use Rattle.std.proofs.lemmas.List.{get_or_read, get_or-set_same}
 use Rattle.sci_words.specs.declared.event.Event.{Event}
 use Rattle.sci_core.specs.Node.{NodeOf, no_node}
 use Rattle.sci_core.specs.Core.{Core, Idle, Changes, node_at, with_node, node_of, side, stepping}

@@ -1,13 +1,12 @@
 -- A step, from its node's side.
-use Rattle.std.proofs.Common.{◌≡◌, ℕ, ◌<◌, ◌≤◌, nat_lt, Bool, true, false, if◌then◌else◌, List, [], ◌∷◌, Option, Some, None, refl, sym, ap, ◌∙◌, drop, arith}
+use Rattle.std.proofs.Common.{◌≡◌, ℕ, ◌<◌, ◌≤◌, nat_lt, Bool, true, false, if◌then◌else◌, List, [], ◌∷◌, Option, Some, None, refl, sym, ap, ◌∙◌, drop}
+use Rattle.std.proofs.{Common.{arith}, lemmas.Bool.{lt-ltb, le-ltb}}
 use Rattle.std.specs.Prelude.{slice_get}
-use Rattle.std.proofs.lemmas.Bool.{lt-ltb, le-ltb}
 use Rattle.sci_words.specs.declared.event.Event.{Event}
 use Rattle.sci_cache.specs.Cache.{Letter}
-use Rattle.sci_core.specs.declared.lane.LaneKind.{LaneKind}
-use Rattle.sci_core.specs.Node.{NodeOf}
-use Rattle.sci_core.specs.Core.{Core, node_at, with_node, lane_place, lane_of, Side, Idle, Changes, Sends, Takes, side, node_of, sent_by, taken_as, taken_from}
-use Rattle.sci_core.specs.Core.{step_by, stepping}
+use Rattle.sci_core.specs.{declared.lane.LaneKind.{LaneKind}, Node.{NodeOf}}
+use Rattle.sci_core.specs.Core.{Core, node_at, with_node, lane_place, lane_of, Side, Idle, Changes, Sends, Takes, side, node_of, sent_by, taken_as}
+use Rattle.sci_core.specs.Core.{taken_from, step_by, stepping}
 
 pub if_true : {X : Type 0} (b : Bool) (x y : X) → b ≡ true → (if b then x else y) ≡ x
 if_true true x y e = refl

@@ -1,26 +1,19 @@
 -- What each step of a well formed state did, in one of seven ways: the side of the event's node, with its packet, and the entry that it makes.
 use Rattle.std.proofs.Common.{◌≡◌, ℕ, ◌<◌, List, [], ◌∷◌, length, Option, Some, None, refl, sym, subst, arith}
-use Rattle.std.specs.Prelude.{IfSome, option_map}
-use Rattle.std.proofs.lemmas.Option.{IfSome_then}
+use Rattle.std.proofs.lemmas.{Option.{IfSome_then}, List.Elements.{All-head}}
+use Rattle.std.specs.{Prelude.{IfSome, option_map}, List.{All}}
 use Rattle.sci_core.proofs.Basics.Options.{if_below}
-use Rattle.std.specs.List.{All}
-use Rattle.std.proofs.lemmas.List.Elements.{All-head}
-use Rattle.sci_words.specs.declared.event.AskKind.{AskKind}
-use Rattle.sci_words.specs.declared.event.Event.{Event}
-use Rattle.sci_words.specs.declared.event.Event.TheVariants as event
-use Rattle.sci_words.specs.declared.operation.Op.{Op}
+use Rattle.sci_core.proofs.WellFormed.Parts.{SendsWell, RepliesWell, part_asking, part_replying}
+use Rattle.sci_core.proofs.{WellFormed.WellFormedSteps.{Comes, comes_from_lane}, Step.Places.{place_below}}
+use Rattle.sci_words.specs.declared.{event.{AskKind.{AskKind}, Event.{Event}}, operation.Op.{Op}}
 use Rattle.sci_history.specs.declared.entry.Entry.{Entry}
 use Rattle.sci_cache.specs.Cache.{Letter}
-use Rattle.sci_core.specs.declared.lane.LaneKind.{LaneKind}
-use Rattle.sci_core.specs.declared.lane.LaneKind.TheVariants.{Requests, Answers}
+use Rattle.sci_core.specs.declared.lane.LaneKind.{LaneKind, TheVariants.{Requests, Answers}}
 use Rattle.sci_core.specs.Node.{NodeOf, node_issuing, node_performing, node_asking, node_serving, node_refusing, node_replying, node_accepting}
 use Rattle.sci_core.specs.Core.{Core, node_at, with_node, lane_place, lane_at, lane_of, with_lane, changes, performs, sends, side, Takes, node_of, sent_by}
-use Rattle.sci_core.specs.Core.{taken_as, taken_from, step_by, stepping}
-use Rattle.sci_core.specs.Done.{performed}
+use Rattle.sci_core.specs.{Core.{taken_as, taken_from, step_by, stepping}, Done.{performed}}
 use Rattle.sci_core.specs.WellFormed.{IsInLane, IsWellFormed}
-use Rattle.sci_core.proofs.WellFormed.Parts.{SendsWell, RepliesWell, part_asking, part_replying}
-use Rattle.sci_core.proofs.Step.Places.{place_below}
-use Rattle.sci_core.proofs.WellFormed.WellFormedSteps.{Comes, comes_from_lane}
+use Rattle.sci_words.specs.declared.event.Event.TheVariants as event
 
 -- the front of a lane to node n is taken, and the node is this one next
 pub record Taken (core new : Core) (kind : LaneKind) (taking : NodeOf → Letter → Option NodeOf) : Type 0 where

@@ -1,13 +1,9 @@
 -- A run that memory stops.
-use Rattle.std.proofs.Common.{◌≡◌, ℕ, ◌<◌, List, length, get_or, take, arith}
+use Rattle.std.proofs.{Common.{◌≡◌, ℕ, ◌<◌, List, length, get_or, take, arith}, lemmas.Option.{slice_get-get_or}}
 use Rattle.std.specs.declared.alloc.AllocError.{AllocError}
-use Rattle.std.proofs.lemmas.Option.{slice_get-get_or}
 use Rattle.sci_words.specs.declared.event.Event.{Event}
-use Rattle.sci_core.specs.declared.fault.ApplyFault.{ApplyFault}
-use Rattle.sci_core.specs.declared.fault.ApplyFault.TheVariants.{Memory}
-use Rattle.sci_core.specs.Core.{Core, run_from, stepping}
-use Rattle.sci_core.specs.Fault.{IsFaultOf}
-use Rattle.sci_core.specs.Stopped.{IsStoppedAt}
+use Rattle.sci_core.specs.declared.fault.ApplyFault.{ApplyFault, TheVariants.{Memory}}
+use Rattle.sci_core.specs.{Core.{Core, run_from, stepping}, Fault.{IsFaultOf}, Stopped.{IsStoppedAt}}
 
 pub stopped : (old now new : Core) (events : List Event) (i : ℕ) (d : Event) (fault : ApplyFault) (refused : AllocError) → i < length events
     → now ≡ run_from old (take i events) → new ≡ now

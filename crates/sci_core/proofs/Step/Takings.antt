@@ -1,17 +1,15 @@
 -- A packet that a node takes: Serve, Refuse and Accept are one step.
 use Rattle.std.proofs.Common.{◌≡◌, ℕ, ◌<◌, ◌≤◌, set, drop, Some, None, refl, ◌∙◌, arith}
 use Rattle.std.specs.Prelude.{slice_get}
-use Rattle.sci_words.specs.declared.event.Event.TheVariants as event
 use Rattle.sci_cache.specs.Cache.{Letter}
-use Rattle.sci_core.specs.declared.lane.LaneKind.TheVariants.{Requests, Answers}
-use Rattle.sci_core.specs.declared.taking.Taking.{Taking}
+use Rattle.sci_core.specs.declared.{lane.LaneKind.TheVariants.{Requests, Answers}, taking.Taking.{Taking}}
 use Rattle.sci_core.specs.declared.taking.Taking.TheVariants.{Serve, Refuse, Accept}
 use Rattle.sci_core.specs.Node.{NodeOf, node_serving, node_refusing, node_accepting}
 use Rattle.sci_core.specs.Core.{Core, node_at, lane_place, lane_of, with_lane, taken_from, stepping}
-use Rattle.sci_core.specs.Taking.{lane_kind, taking_event, node_taking, IsTakable}
-use Rattle.sci_core.specs.WellFormed.{IsWellFormed}
+use Rattle.sci_core.specs.{Taking.{lane_kind, taking_event, node_taking, IsTakable}, WellFormed.{IsWellFormed}}
 use Rattle.sci_core.proofs.Step.Applied.{servable, acceptable}
 use Rattle.sci_core.proofs.Step.Stepping.{stepping_takes, stepping_from_nobody, empty_lane, front_taken}
+use Rattle.sci_words.specs.declared.event.Event.TheVariants as event
 
 -- there is no such sender
 pub taking_from_nobody : (core : Core) (taking : Taking) (from n : ℕ) → n < core.size.nodes → core.size.nodes ≤ from

@@ -1,30 +1,19 @@
 -- The answer that is under way to a node about a line waits at the node that answers, or is in the lane from there. By
 -- tidiness there is one at most, so the first that is found is it.
 use Rattle.std.proofs.Common.{◌≡◌, ◌≢◌, ◌⊎◌, ℕ, suc, ◌+◌, ◌*◌, ◌%◌, ◌<◌, ◌≤◌, ◌&&◌, ◌||◌, not, Bool, true, false, if◌then◌else◌, cond, ◌==◌, List, [], ◌∷◌}
-use Rattle.std.proofs.Common.{◌++◌, length, filter, get_or, take, drop, Option, Some, None, append_assoc, length-append, refl, sym, ap, ◌∙◌, subst, arith, inl}
-use Rattle.std.proofs.Common.{inr}
-use Rattle.std.specs.Prelude.{option_to_list}
-use Rattle.std.specs.Option.{option_or}
-use Rattle.std.specs.List.{flat_map, list_any, AllByRecursion}
-use Rattle.std.proofs.lemmas.Bool.{cases_Bool, cases_eq, ne_eqb}
-use Rattle.std.proofs.lemmas.List.{take-append-drop}
-use Rattle.std.proofs.lemmas.List.Elements.{filter-append, recursion_from_All}
-use Rattle.std.proofs.lemmas.List.Folds.{list_any-append}
+use Rattle.std.proofs.Common.{◌++◌, length, filter, get_or, take, drop, Option, Some, None, append_assoc, length-append, refl, sym, ap, ◌∙◌, subst, arith}
+use Rattle.std.proofs.{Common.{inl, inr}, lemmas.{Bool.{cases_Bool, cases_eq, ne_eqb}, List.{take-append-drop}}}
+use Rattle.std.proofs.lemmas.List.{Elements.{filter-append, recursion_from_All}, Folds.{list_any-append}}
 use Rattle.std.proofs.lemmas.Grind.{flat_map-append}
-use Rattle.sci_packets.specs.declared.body.Body.{Body}
-use Rattle.sci_packets.specs.Table.{is_request}
-use Rattle.sci_cache.specs.Cache.{Letter, line_of}
-use Rattle.sci_cache.specs.Line.{LineState}
-use Rattle.sci_core.specs.declared.lane.LaneKind.TheVariants.{Requests, Answers}
-use Rattle.sci_core.specs.Node.{NodeOf, no_node}
+use Rattle.std.specs.{Prelude.{option_to_list}, Option.{option_or}, List.{flat_map, list_any, AllByRecursion}}
+use Rattle.sci_packets.specs.{declared.body.Body.{Body}, Table.{is_request}}
+use Rattle.sci_cache.specs.{Cache.{Letter, line_of}, Line.{LineState}}
+use Rattle.sci_core.specs.{declared.lane.LaneKind.TheVariants.{Requests, Answers}, Node.{NodeOf, no_node}}
 use Rattle.sci_core.specs.Core.{Core, node_at, lane_at, lane_of, lane_place}
 use Rattle.sci_core.specs.Sharing.{asker_of, is_about, asks_about, answer_in, packets_of, under_way, answer_to}
-use Rattle.sci_core.specs.Tidy.{HasItsPackets, IsTidy}
-use Rattle.sci_core.specs.WellFormed.{IsInLane, IsWellFormed}
-use Rattle.sci_core.proofs.Basics.Options.{after_none}
-use Rattle.sci_core.proofs.Step.Places.{place_to, place_requests, place_answers}
-use Rattle.sci_core.proofs.Settling.Drains.{IsPlace, place_of}
-use Rattle.sci_core.proofs.Step.Steps.{lane_below}
+use Rattle.sci_core.specs.{Tidy.{HasItsPackets, IsTidy}, WellFormed.{IsInLane, IsWellFormed}}
+use Rattle.sci_core.proofs.{Basics.Options.{after_none}, Step.Places.{place_to, place_requests, place_answers}}
+use Rattle.sci_core.proofs.{Step.Steps.{lane_below}, Settling.Drains.{IsPlace, place_of}}
 use Rattle.sci_core.proofs.Tidy.Seeking.{seek, seek_append, seek_first, seek_second, seek_other, flat_more}
 
 abbrev waiting : NodeOf → List Letter

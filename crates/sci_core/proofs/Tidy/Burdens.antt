@@ -1,29 +1,20 @@
 -- How much can be under way: one packet for each line of a node that waits.
 use Rattle.std.proofs.Common.{◌≡◌, ℕ, zero, suc, ◌+◌, ◌*◌, ◌<◌, ◌≤◌, not, Bool, true, false, if◌then◌else◌, List, [], ◌∷◌, length, get_or, filter, take}
 use Rattle.std.proofs.Common.{Option, Some, None, refl, sym, ap, subst, ◌∙◌, arith, inl, inr}
-use Rattle.std.specs.Prelude.{count_by, IfSome, option_to_list}
-use Rattle.std.specs.List.{AllByRecursion, flat_map, sum_by}
-use Rattle.std.proofs.lemmas.List.Elements.{All-weaker, recursion_from_All}
+use Rattle.std.proofs.lemmas.{List.Elements.{All-weaker, recursion_from_All}, Bool.{cases_Bool, cases_lt}}
+use Rattle.std.proofs.lemmas.List.{length-append, take_all, Sums.{count_by_more_no, count_by_more_yes, sum_by-cons}}
 use Rattle.std.proofs.Math.Nat.{mul-le-mul_left}
-use Rattle.std.proofs.lemmas.Bool.{cases_Bool, cases_lt}
-use Rattle.std.proofs.lemmas.List.{length-append, take_all}
-use Rattle.std.proofs.lemmas.List.Sums.{count_by_more_no, count_by_more_yes, sum_by-cons}
+use Rattle.std.specs.{Prelude.{count_by, IfSome, option_to_list}, List.{AllByRecursion, flat_map, sum_by}}
 use Rattle.sci_history.proofs.Order.{all-append}
 use Rattle.sci_packets.specs.Table.{is_request}
-use Rattle.sci_cache.specs.State.{CacheState, Out, is_out, waits}
-use Rattle.sci_cache.specs.Line.{LineState, untouched}
+use Rattle.sci_cache.specs.{State.{CacheState, Out, is_out, waits}, Line.{LineState, untouched}}
 use Rattle.sci_cache.specs.Cache.{Letter, line_of, slots_taken}
 use Rattle.sci_core.specs.Core.{Core, lane_at, node_at}
 use Rattle.sci_core.specs.Draining.{IsLight, answer_weight, lane_weight, letter_weight, one_if, weight}
-use Rattle.sci_core.specs.Node.{NodeOf, no_node}
-use Rattle.sci_core.specs.Reached.{IsReachable}
-use Rattle.sci_core.specs.Sharing.{asker_of, is_about, packets_of, under_way}
-use Rattle.sci_core.specs.Tidy.{HasItsPackets}
-use Rattle.sci_core.specs.Size.{Size}
+use Rattle.sci_core.specs.{Node.{NodeOf, no_node}, Reached.{IsReachable}}
+use Rattle.sci_core.specs.{Sharing.{asker_of, is_about, packets_of, under_way}, Tidy.{HasItsPackets}, Size.{Size}}
 use Rattle.sci_core.specs.WellFormed.{IsAnswerLetter, IsInLane, IsPart, IsWellFormed}
-use Rattle.sci_core.proofs.Tidy.TidyRuns.{any_tidy}
-use Rattle.sci_core.proofs.Tidy.TidySteps.{about_from}
-use Rattle.sci_core.proofs.WellFormed.WellFormedSteps.{any_well}
+use Rattle.sci_core.proofs.{Tidy.{TidyRuns.{any_tidy}, TidySteps.{about_from}}, WellFormed.WellFormedSteps.{any_well}}
 
 -- ---- sums
 

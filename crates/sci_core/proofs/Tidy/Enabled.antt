@@ -1,38 +1,22 @@
 -- What comes by a lane of a reached state is taken, and is waited for.
-use Rattle.std.proofs.Common.{◌≡◌, ℕ, ◌<◌, ◌%◌, Bool, true, false, if◌then◌else◌, List, [], ◌∷◌, Option, Some, None, refl, sym, ap, subst, ◌∙◌, rules, arith}
+use Rattle.std.proofs.Common.{◌≡◌, ℕ, ◌<◌, ◌%◌, Bool, true, false, if◌then◌else◌, List, [], ◌∷◌, Option, Some, None, refl, sym, ap, subst, ◌∙◌, rules}
+use Rattle.std.proofs.{Common.{arith}, lemmas.Bool.{eq-eqb}}
 use Rattle.std.specs.Prelude.{option_map, ◌==◌, IsSome, slice_get}
-use Rattle.std.proofs.lemmas.Bool.{eq-eqb}
-use Rattle.sci_packets.specs.declared.body.Body.{Body}
-use Rattle.sci_packets.specs.declared.body.Body.TheVariants as body
-use Rattle.sci_packets.specs.Table.{IsRequest}
-use Rattle.sci_home.specs.declared.state.HomeState.{HomeState}
-use Rattle.sci_home.specs.Serving.{is_for_home, home_serving}
-use Rattle.sci_cache.specs.State.{CacheState, waits}
-use Rattle.sci_cache.specs.Serving.{serving}
-use Rattle.sci_cache.specs.Accepting.{accepting}
-use Rattle.sci_cache.specs.Line.{last_control, line_in}
-use Rattle.sci_cache.specs.Cache.{Letter, line_of, with_line}
-use Rattle.sci_core.proofs.Basics.Lists.{if_cases}
-use Rattle.sci_core.proofs.Basics.Options.{map_some}
-use Rattle.sci_core.specs.declared.lane.LaneKind.{LaneKind}
-use Rattle.sci_core.specs.declared.lane.LaneKind.TheVariants.{Requests, Answers}
-use Rattle.sci_core.specs.Node.{NodeOf, node_serving}
-use Rattle.sci_core.specs.Node.{node_refusing, is_setback, accepted_by}
-use Rattle.sci_core.specs.Core.{Core, node_at, lane_place, lane_of}
-use Rattle.sci_core.specs.Enabled.{IsAcceptedAt, AreServedAt}
-use Rattle.sci_core.specs.Reached.{IsReachable, IsReached}
-use Rattle.sci_core.specs.Sharing.{asker_of, packets_of, answer_in, answer_to}
-use Rattle.sci_core.specs.Tidy.{IsAccepted}
-use Rattle.sci_core.specs.WellFormed.{IsInLane}
-use Rattle.sci_core.proofs.Step.Applied.{front_holds, front_comes}
-use Rattle.sci_core.proofs.Tidy.Packets.{lane_has, packets_accepted}
-use Rattle.sci_core.proofs.Step.Places.{place_from}
-use Rattle.sci_core.proofs.ReachedLaws.{any_accepted}
-use Rattle.sci_core.proofs.Step.Steps.{lane_below}
-use Rattle.sci_core.proofs.Tidy.TidyRuns.{any_tidy, node_below}
-use Rattle.sci_core.proofs.Tidy.TidySteps.{about_from, request_asker, answer_asker}
-use Rattle.sci_core.proofs.Tidy.Waits.{some_has_one}
+use Rattle.sci_packets.specs.{declared.body.Body.{Body}, Table.{IsRequest}}
+use Rattle.sci_home.specs.{declared.state.HomeState.{HomeState}, Serving.{is_for_home, home_serving}}
+use Rattle.sci_cache.specs.{State.{CacheState, waits}, Serving.{serving}, Accepting.{accepting}}
+use Rattle.sci_cache.specs.{Line.{last_control, line_in}, Cache.{Letter, line_of, with_line}}
+use Rattle.sci_core.proofs.{Basics.{Lists.{if_cases}, Options.{map_some}}, Step.Applied.{front_holds, front_comes}}
+use Rattle.sci_core.proofs.{Step.{Places.{place_from}, Steps.{lane_below}}, Tidy.Packets.{lane_has, packets_accepted}}
+use Rattle.sci_core.proofs.Tidy.{TidyRuns.{any_tidy, node_below}, TidySteps.{about_from, request_asker, answer_asker}}
+use Rattle.sci_core.proofs.{Tidy.Waits.{some_has_one}, ReachedLaws.{any_accepted}}
 use Rattle.sci_core.proofs.WellFormed.WellFormedSteps.{any_well, reachable}
+use Rattle.sci_core.specs.declared.lane.LaneKind.{LaneKind, TheVariants.{Requests, Answers}}
+use Rattle.sci_core.specs.Node.{NodeOf, node_serving, node_refusing, is_setback, accepted_by}
+use Rattle.sci_core.specs.{Core.{Core, node_at, lane_place, lane_of}, Enabled.{IsAcceptedAt, AreServedAt}}
+use Rattle.sci_core.specs.{Reached.{IsReachable, IsReached}, Sharing.{asker_of, packets_of, answer_in, answer_to}}
+use Rattle.sci_core.specs.{Tidy.{IsAccepted}, WellFormed.{IsInLane}}
+use Rattle.sci_packets.specs.declared.body.Body.TheVariants as body
 
 -- ---- requests
 

@@ -1,13 +1,9 @@
 -- How each kind of event moves the packets of a node's asks about a line.
-use Rattle.std.proofs.Common.{◌≡◌, ℕ, ◌<◌, Bool, true, false, cond, List, [], ◌∷◌, ◌++◌, length, get_or, set, filter, Option, Some, None, refl, sym, ap, ◌∙◌}
-use Rattle.std.proofs.Common.{arith}
-use Rattle.std.proofs.Common.{append-nil, append_assoc}
-use Rattle.std.specs.Prelude.{option_to_list}
-use Rattle.std.specs.List.{flat_map}
-use Rattle.std.proofs.lemmas.List.Elements.{filter-append}
+use Rattle.std.proofs.Common.{◌≡◌, ℕ, ◌<◌, Bool, true, false, cond, List, [], ◌∷◌, ◌++◌, length, get_or, set, filter, Option, Some, None, refl, sym, ap}
+use Rattle.std.proofs.{Common.{◌∙◌, arith, append-nil, append_assoc}, lemmas.List.Elements.{filter-append}}
+use Rattle.std.specs.{Prelude.{option_to_list}, List.{flat_map}}
 use Rattle.sci_cache.specs.Cache.{Letter}
-use Rattle.sci_core.specs.Node.{NodeOf, no_node}
-use Rattle.sci_core.specs.Core.{Core, node_at, with_node, lane_at, with_lane}
+use Rattle.sci_core.specs.{Node.{NodeOf, no_node}, Core.{Core, node_at, with_node, lane_at, with_lane}}
 use Rattle.sci_core.specs.Sharing.{is_about, packets_of}
 use Rattle.sci_core.proofs.Basics.FlatMaps.{around, flat_same, flat_from_none, flat_from_one, nothing_before, nothing_after}
 

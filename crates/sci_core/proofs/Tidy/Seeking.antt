@@ -1,15 +1,11 @@
 -- Finding the first answer among packets, part by part.
-use Rattle.std.proofs.Common.{◌≡◌, ℕ, ◌+◌, ◌<◌, ◌&&◌, not, Bool, true, false, if◌then◌else◌, cond, List, [], ◌∷◌, ◌++◌, length, map, filter, get_or, take, drop}
-use Rattle.std.proofs.Common.{Option, Some, None, append-nil, refl, sym, ap, ◌∙◌}
-use Rattle.std.specs.Option.{option_or}
-use Rattle.sci_core.proofs.Basics.Options.{after_none, found_first}
-use Rattle.std.specs.List.{flat_map}
-use Rattle.std.proofs.lemmas.List.{take_more, map-append, take-append-drop}
-use Rattle.std.proofs.lemmas.List.Elements.{filter-append}
+use Rattle.std.proofs.Common.{◌≡◌, ℕ, ◌+◌, ◌<◌, ◌&&◌, not, Bool, true, false, if◌then◌else◌, cond, List, [], ◌∷◌, ◌++◌, length, map, filter, get_or, take}
+use Rattle.std.proofs.Common.{drop, Option, Some, None, append-nil, refl, sym, ap, ◌∙◌}
+use Rattle.std.proofs.lemmas.List.{take_more, map-append, take-append-drop, Elements.{filter-append}}
 use Rattle.std.proofs.lemmas.Grind.{flat_map-append}
-use Rattle.sci_packets.specs.declared.body.Body.{Body}
-use Rattle.sci_packets.specs.declared.packet.Packet.{Packet}
-use Rattle.sci_packets.specs.Table.{is_request}
+use Rattle.std.specs.{Option.{option_or}, List.{flat_map}}
+use Rattle.sci_core.proofs.Basics.Options.{after_none, found_first}
+use Rattle.sci_packets.specs.{declared.{body.Body.{Body}, packet.Packet.{Packet}}, Table.{is_request}}
 use Rattle.sci_cache.specs.Cache.{Letter, letter_of}
 use Rattle.sci_core.specs.Sharing.{is_about, answer_in}
 

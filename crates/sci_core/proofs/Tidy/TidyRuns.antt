@@ -1,32 +1,22 @@
 -- Every reached state is tidy.
 use Rattle.std.proofs.Common.{◌≡◌, ℕ, zero, suc, ◌+◌, ◌<◌, false, List, [], ◌∷◌, length, map, replicate, Option, Some, None, refl, sym, subst, arith}
-use Rattle.std.specs.Prelude.{IfSome, unwrap_or, option_to_list}
-use Rattle.std.specs.List.{flat_map, range_with_len}
-use Rattle.std.proofs.lemmas.List.{get_or-replicate}
-use Rattle.std.proofs.lemmas.List.FromFn.{get_or-map-range_with_len}
+use Rattle.std.proofs.lemmas.List.{get_or-replicate, FromFn.{get_or-map-range_with_len}}
+use Rattle.std.specs.{Prelude.{IfSome, unwrap_or, option_to_list}, List.{flat_map, range_with_len}}
 use Rattle.sci_words.specs.declared.event.Event.{Event}
 use Rattle.sci_history.specs.declared.entry.Entry.{Entry}
-use Rattle.sci_cache.specs.State.{waits}
-use Rattle.sci_cache.specs.Cache.{Letter}
+use Rattle.sci_cache.specs.{State.{waits}, Cache.{Letter}}
 use Rattle.sci_packets.specs.Table.{is_request}
 use Rattle.sci_core.specs.declared.lane.LaneKind.TheVariants.{Requests}
-use Rattle.sci_core.specs.Node.{NodeOf, opening_node, node_performing, node_serving, node_refusing, node_accepting}
-use Rattle.sci_core.specs.Node.{lines_of}
-use Rattle.sci_core.specs.Core.{Core, node_at, stepping, step, opening, run_from, run}
-use Rattle.sci_core.specs.Done.{performed}
-use Rattle.sci_core.specs.Reached.{IsReachable, IsReached}
-use Rattle.sci_core.specs.Sharing.{packets_of}
-use Rattle.sci_core.specs.Tidy.{IsTidy}
-use Rattle.sci_core.specs.WellFormed.{IsPart, IsWellFormed}
-use Rattle.sci_core.proofs.Basics.Options.{of_some}
-use Rattle.sci_core.proofs.WellFormed.Parts.{part_serving, part_refusing}
+use Rattle.sci_core.specs.Node.{NodeOf, opening_node, node_performing, node_serving, node_refusing, node_accepting, lines_of}
+use Rattle.sci_core.specs.{Core.{Core, node_at, stepping, step, opening, run_from, run}, Done.{performed}}
+use Rattle.sci_core.specs.{Reached.{IsReachable, IsReached}, Sharing.{packets_of}, Tidy.{IsTidy}}
+use Rattle.sci_core.specs.{WellFormed.{IsPart, IsWellFormed}, Size.{Size, IsSize, IsMachineSize}}
+use Rattle.sci_core.proofs.{Basics.Options.{of_some}, WellFormed.Parts.{part_serving, part_refusing}}
 use Rattle.sci_core.proofs.WellFormed.WellFormedSteps.{step_well, run_well, is_size, reachable, opened}
-use Rattle.sci_core.proofs.Tidy.WaitingNodes.{Stays, Answers, Accepts, issue_stays, perform_stays, ask_once, serve_answers, refuse_answers}
-use Rattle.sci_core.proofs.Tidy.WaitingNodes.{reply_replies, accept_accepts}
-use Rattle.sci_core.proofs.Step.Steps.{Taken, Stepped, By_issue, By_perform, By_ask, By_serve, By_refuse, By_reply, By_accept, stepping_stepped}
+use Rattle.sci_core.proofs.Tidy.WaitingNodes.{Stays, Answers, Accepts, issue_stays, perform_stays, ask_once, serve_answers, refuse_answers, reply_replies}
+use Rattle.sci_core.proofs.Tidy.WaitingNodes.{accept_accepts}
 use Rattle.sci_core.proofs.Tidy.TidySteps.{changed_tidy, asked_tidy, replied_tidy, served_tidy, accepted_tidy}
-use Rattle.sci_core.specs.Size.{Size}
-use Rattle.sci_core.specs.Size.{IsSize, IsMachineSize}
+use Rattle.sci_core.proofs.Step.Steps.{Taken, Stepped, By_issue, By_perform, By_ask, By_serve, By_refuse, By_reply, By_accept, stepping_stepped}
 
 pub node_below : (core : Core) (n : ℕ) → IsWellFormed core → n < core.size.nodes → n < length core.parts
 node_below core n well lt = let long = well.sizes.parts_long in omega arith

@@ -1,18 +1,14 @@
 -- Every step leaves a state tidy.
-use Rattle.std.proofs.Common.{◌≡◌, ℕ, ◌+◌, ◌%◌, ◌<◌, ◌≢◌, Bool, true, false, if◌then◌else◌, List, [], ◌∷◌, ◌++◌, length, filter, Option, refl, sym, ap, subst}
-use Rattle.std.proofs.Common.{◌∙◌, inl, inr, arith}
-use Rattle.std.specs.Prelude.{◌==◌, option_to_list}
+use Rattle.std.proofs.Common.{◌≡◌, ℕ, ◌+◌, ◌%◌, ◌<◌, ◌≢◌, Bool, true, false, if◌then◌else◌, List, [], ◌∷◌, ◌++◌, length, filter, Option, refl, sym, ap}
+use Rattle.std.proofs.Common.{subst, ◌∙◌, inl, inr, arith}
 use Rattle.std.proofs.lemmas.Bool.{cases_Bool, cases_eq, and_parts, and_from, eqb-true, eq-eqb}
 use Rattle.std.proofs.lemmas.List.{get_or-set_same, get_or-set_other}
-use Rattle.sci_packets.specs.declared.body.Body.{Body}
-use Rattle.sci_packets.specs.Table.{is_request}
-use Rattle.sci_cache.specs.State.{waits}
-use Rattle.sci_cache.specs.Line.{LineState}
-use Rattle.sci_cache.specs.Cache.{Letter, line_of}
+use Rattle.std.specs.Prelude.{◌==◌, option_to_list}
+use Rattle.sci_packets.specs.{declared.body.Body.{Body}, Table.{is_request}}
+use Rattle.sci_cache.specs.{State.{waits}, Line.{LineState}, Cache.{Letter, line_of}}
 use Rattle.sci_core.specs.Node.{NodeOf, lines_of, answering, no_node}
 use Rattle.sci_core.specs.Core.{Core, node_at, with_node, lane_at, with_lane}
-use Rattle.sci_core.specs.Sharing.{asker_of, is_about, packets_of}
-use Rattle.sci_core.specs.Tidy.{IsAwaited, HasItsPackets, IsTidy}
+use Rattle.sci_core.specs.{Sharing.{asker_of, is_about, packets_of}, Tidy.{IsAwaited, HasItsPackets, IsTidy}}
 use Rattle.sci_core.specs.WellFormed.{IsWellFormed}
 use Rattle.sci_core.proofs.Basics.Lists.{at_place_set}
 use Rattle.sci_core.proofs.Tidy.Packets.{packets_changed, packets_same, packets_asked, packets_replied, packets_served, packets_accepted, filter_joined}

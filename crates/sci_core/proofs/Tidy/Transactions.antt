@@ -1,37 +1,30 @@
 -- Transactions alternate, since the packets under way tell how far each is.
-use Rattle.std.proofs.Common.{◌≡◌, ℕ, ◌%◌, ◌<◌, Bool, true, false, if◌then◌else◌, List, [], ◌∷◌, ◌++◌, length, filter, Option, Some, None, refl, sym, ap, subst}
-use Rattle.std.proofs.Common.{◌∙◌, inl, inr, arith}
-use Rattle.std.specs.Prelude.{IfSome, unwrap_or, option_to_list, option_map, slice_get}
+use Rattle.std.proofs.Common.{◌≡◌, ℕ, ◌%◌, ◌<◌, Bool, true, false, if◌then◌else◌, List, [], ◌∷◌, ◌++◌, length, filter, Option, Some, None, refl, sym, ap}
+use Rattle.std.proofs.{Common.{subst, ◌∙◌, inl, inr, arith}, lemmas.{Bool.{cases_Bool}, List.Elements.{All-head}}}
+use Rattle.std.specs.{Prelude.{IfSome, unwrap_or, option_to_list, option_map, slice_get}, List.{All}}
 use Rattle.sci_core.proofs.Basics.Options.{if_below}
-use Rattle.std.specs.List.{All}
-use Rattle.std.proofs.lemmas.Bool.{cases_Bool}
-use Rattle.std.proofs.lemmas.List.Elements.{All-head}
-use Rattle.sci_words.specs.declared.event.Event.{Event}
-use Rattle.sci_words.specs.declared.event.Event.TheVariants as event
-use Rattle.sci_packets.specs.Table.{is_request}
-use Rattle.sci_cache.specs.Cache.{Letter}
-use Rattle.sci_history.specs.declared.entry.Entry.{Entry}
-use Rattle.sci_cache.specs.Cache.{line_of}
-use Rattle.sci_core.specs.declared.lane.LaneKind.TheVariants.{Requests, Answers as AnswerLane}
-use Rattle.sci_core.specs.Node.{NodeOf, answering, node_issuing, node_performing, node_accepting}
-use Rattle.sci_core.specs.Core.{Core, node_at, with_node, lane_place, lane_at, lane_of, with_lane, changes, performs, sends, side, Takes, node_of, taken_as}
-use Rattle.sci_core.specs.Core.{taken_from, step_by, stepping, step, opening}
-use Rattle.sci_core.specs.Sharing.{is_about, packets_of}
-use Rattle.sci_core.specs.Tidy.{IsTidy}
-use Rattle.sci_core.specs.WellFormed.{IsInLane, IsPart, IsWellFormed}
-use Rattle.sci_core.specs.Alternates.{Mark, Asked, Taken, Accepted, mark_of, marks_about, marks_of, trace, Phase, Idle, Sent, Served, IsAlternating, Alternates}
 use Rattle.sci_core.proofs.Tidy.Packets.{packets_changed, packets_same, packets_asked, packets_replied, packets_served, packets_accepted, filter_joined}
 use Rattle.sci_core.proofs.Tidy.Packets.{filter_left, filter_one, lane_has, node_has}
-use Rattle.sci_core.proofs.WellFormed.Parts.{SendsWell, RepliesWell, part_asking, part_serving, part_refusing, part_replying}
 use Rattle.sci_core.proofs.Tidy.Waits.{idle_has_none, some_has_one}
-use Rattle.sci_core.proofs.Tidy.WaitingNodes.{Stays, AsksOnce, Answers, Replies, Accepts, issue_stays, perform_stays, ask_once, serve_answers, refuse_answers}
-use Rattle.sci_core.proofs.Tidy.WaitingNodes.{reply_replies, accept_accepts}
-use Rattle.sci_core.proofs.WellFormed.WellFormedSteps.{Comes, comes_from_lane, step_well, opened}
+use Rattle.sci_core.proofs.Tidy.WaitingNodes.{Stays, AsksOnce, Answers, Replies, Accepts, issue_stays, perform_stays, ask_once, serve_answers}
+use Rattle.sci_core.proofs.Tidy.WaitingNodes.{refuse_answers, reply_replies, accept_accepts}
 use Rattle.sci_core.proofs.Tidy.TidySteps.{about_line, about_asker, request_asker, about_answer}
-use Rattle.sci_core.proofs.Step.Steps.{lane_below}
 use Rattle.sci_core.proofs.Tidy.TidyRuns.{node_below, waiting_answers, step_tidy, opening_none, opening_tidy}
-use Rattle.sci_core.specs.Size.{Size}
-use Rattle.sci_core.specs.Size.{IsSize}
+use Rattle.sci_core.proofs.WellFormed.Parts.{SendsWell, RepliesWell, part_asking, part_serving, part_refusing, part_replying}
+use Rattle.sci_core.proofs.WellFormed.WellFormedSteps.{Comes, comes_from_lane, step_well, opened}
+use Rattle.sci_core.proofs.Step.Steps.{lane_below}
+use Rattle.sci_words.specs.declared.event.Event.{Event}
+use Rattle.sci_packets.specs.Table.{is_request}
+use Rattle.sci_cache.specs.Cache.{Letter, line_of}
+use Rattle.sci_history.specs.declared.entry.Entry.{Entry}
+use Rattle.sci_core.specs.declared.lane.LaneKind.TheVariants.{Requests, Answers as AnswerLane}
+use Rattle.sci_core.specs.Node.{NodeOf, answering, node_issuing, node_performing, node_accepting}
+use Rattle.sci_core.specs.Core.{Core, node_at, with_node, lane_place, lane_at, lane_of, with_lane, changes, performs, sends, side, Takes, node_of}
+use Rattle.sci_core.specs.Core.{taken_as, taken_from, step_by, stepping, step, opening}
+use Rattle.sci_core.specs.{Sharing.{is_about, packets_of}, Tidy.{IsTidy}, WellFormed.{IsInLane, IsPart, IsWellFormed}}
+use Rattle.sci_core.specs.Alternates.{Mark, Asked, Taken, Accepted, mark_of, marks_about, marks_of, trace, Phase, Idle, Sent, Served, IsAlternating}
+use Rattle.sci_core.specs.{Alternates.{Alternates}, Size.{Size, IsSize}}
+use Rattle.sci_words.specs.declared.event.Event.TheVariants as event
 
 -- how far the transaction is whose packets are under way
 abbrev pub phase_of : List Letter → Phase

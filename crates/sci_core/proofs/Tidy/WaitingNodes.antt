@@ -1,27 +1,19 @@
 -- What each side of an event does with the waits of a node.
 use Rattle.std.proofs.Common.{◌≡◌, ℕ, ◌%◌, ◌<◌, ◌≢◌, Bool, true, false, if◌then◌else◌, Option, Some, None, refl, ap, subst, ◌∙◌, arith}
+use Rattle.std.proofs.lemmas.{Option.{IfSome_then}, List.{get_or-set_same, get_or-set_other}}
 use Rattle.std.specs.Prelude.{IfSome, is_some}
-use Rattle.std.proofs.lemmas.Option.{IfSome_then}
-use Rattle.std.proofs.lemmas.List.{get_or-set_same, get_or-set_other}
-use Rattle.sci_words.specs.declared.limits.TheConstants.{CONTROLS}
-use Rattle.sci_words.specs.declared.event.AskKind.{AskKind}
-use Rattle.sci_words.specs.declared.operation.Op.{Op}
+use Rattle.sci_words.specs.declared.{limits.TheConstants.{CONTROLS}, event.AskKind.{AskKind}, operation.Op.{Op}}
 use Rattle.sci_packets.specs.declared.body.Body.{Body}
 use Rattle.sci_history.specs.declared.entry.Entry.{Entry}
-use Rattle.sci_cache.specs.State.{CacheState, waits}
-use Rattle.sci_cache.specs.Asking.{Asked}
-use Rattle.sci_cache.specs.Serving.{serving}
+use Rattle.sci_cache.specs.{State.{CacheState, waits}, Asking.{Asked}, Serving.{serving}}
 use Rattle.sci_cache.specs.Performing.{Performed, performing}
 use Rattle.sci_cache.specs.Line.{LineState, untouched, line_in, line_asked, ask_or_fault}
 use Rattle.sci_cache.specs.Cache.{CacheOf, Letter, line_of, with_line, target_of, letter_asking, cache_asked}
-use Rattle.sci_core.specs.Node.{NodeOf, lines_of, node_issuing, node_performing}
-use Rattle.sci_core.specs.Node.{asked_by, node_asking, answering, serving_request}
-use Rattle.sci_core.specs.Node.{answered_by, node_serving, node_refusing, replied_by, node_replying, node_accepting}
+use Rattle.sci_core.specs.Node.{NodeOf, lines_of, node_issuing, node_performing, asked_by, node_asking, answering, serving_request, answered_by}
+use Rattle.sci_core.specs.Node.{node_serving, node_refusing, replied_by, node_replying, node_accepting}
 use Rattle.sci_core.specs.Tidy.{IsAwaited}
-use Rattle.sci_core.proofs.Basics.Lists.{if_either, at_place_set}
-use Rattle.sci_core.proofs.Basics.Options.{if_below, of_some}
-use Rattle.sci_core.proofs.Tidy.Waits.{BeginsToWait, asking_waits, Keeps, keeps_itself, KeepsWait, serving_waits, performing_waits}
-use Rattle.sci_core.proofs.Tidy.Waits.{asked_number}
+use Rattle.sci_core.proofs.Basics.{Lists.{if_either, at_place_set}, Options.{if_below, of_some}}
+use Rattle.sci_core.proofs.Tidy.Waits.{BeginsToWait, asking_waits, Keeps, keeps_itself, KeepsWait, serving_waits, performing_waits, asked_number}
 use Rattle.sci_core.proofs.Step.NodeSides.{ServedAs, At_home, In_cache, perform_as, request_served, accept_as}
 
 -- every line of the node is awaited as it was

@@ -1,22 +1,15 @@
 -- Each row of the tables, as far as it tells who waits and for which request. Who asks or takes an answer stands as it stood.
 use Rattle.std.proofs.Common.{◌≡◌, ℕ, ◌+◌, ◌%◌, ◌<◌, true, false, List, [], ◌∷◌, Some, None, refl, ◌∙◌, sym, ap, subst, arith, rules}
 use Rattle.std.specs.Prelude.{IfSome}
-use Rattle.sci_words.specs.declared.limits.TheConstants.{CONTROLS}
-use Rattle.sci_words.specs.declared.event.AskKind.{AskKind}
-use Rattle.sci_words.specs.declared.event.AskKind.TheVariants as kind
-use Rattle.sci_words.specs.declared.operation.Op.{Op}
+use Rattle.sci_words.specs.declared.{limits.TheConstants.{CONTROLS}, event.AskKind.{AskKind}, operation.Op.{Op}}
 use Rattle.sci_packets.specs.declared.body.Body.{Body}
-use Rattle.sci_packets.specs.declared.body.Body.TheVariants as body
-use Rattle.sci_cache.specs.State.{CacheState, Asking, Joining, FreshJoining, Head, FreshHead, Rolling}
-use Rattle.sci_cache.specs.State.{Telling, waits}
-use Rattle.sci_cache.specs.Asking.{Asked, asking}
-use Rattle.sci_cache.specs.Serving.{serving}
-use Rattle.sci_cache.specs.Accepting.{accepting}
-use Rattle.sci_cache.specs.Performing.{Performed, performing}
-use Rattle.sci_cache.specs.Line.{LineState}
-use Rattle.sci_cache.specs.Cache.{Letter}
+use Rattle.sci_cache.specs.State.{CacheState, Asking, Joining, FreshJoining, Head, FreshHead, Rolling, Telling, waits}
+use Rattle.sci_cache.specs.{Asking.{Asked, asking}, Serving.{serving}, Accepting.{accepting}}
+use Rattle.sci_cache.specs.{Performing.{Performed, performing}, Line.{LineState}, Cache.{Letter}}
 use Rattle.sci_core.specs.Tidy.{IsSentIn, IsAwaited, HasItsPackets}
 use Rattle.sci_core.proofs.Shape.Standings.{Alike, performing_keeps}
+use Rattle.sci_words.specs.declared.event.AskKind.TheVariants as kind
+use Rattle.sci_packets.specs.declared.body.Body.TheVariants as body
 
 -- ---- asking
 

@@ -1,23 +1,17 @@
 -- Each row of the tables makes identifiers of nodes from identifiers of nodes.
 use Rattle.std.proofs.Common.{◌≡◌, ℕ, ◌<◌, true, false, None, rules}
 use Rattle.std.specs.Prelude.{IfSome}
-use Rattle.sci_words.specs.declared.event.AskKind.{AskKind}
-use Rattle.sci_words.specs.declared.event.AskKind.TheVariants as kind
-use Rattle.sci_words.specs.declared.operation.Op.{Op}
-use Rattle.sci_packets.specs.declared.body.Body.{Body}
-use Rattle.sci_packets.specs.declared.body.Body.TheVariants as body
-use Rattle.sci_packets.specs.Table.{is_request}
-use Rattle.sci_home.specs.declared.state.HomeState.{HomeState}
-use Rattle.sci_home.specs.declared.state.HomeState.TheVariants as home
-use Rattle.sci_home.specs.Serving.{IsForHome, home_serving as serving_at_home}
-use Rattle.sci_cache.specs.State.{CacheState, Asking, Joining, FreshJoining, Head, FreshHead, Rolling}
-use Rattle.sci_cache.specs.State.{Telling}
-use Rattle.sci_cache.specs.Asking.{Asked, asking}
-use Rattle.sci_cache.specs.Serving.{serving}
-use Rattle.sci_cache.specs.Accepting.{accepting}
+use Rattle.sci_words.specs.declared.{event.AskKind.{AskKind}, operation.Op.{Op}}
+use Rattle.sci_packets.specs.{declared.body.Body.{Body}, Table.{is_request}}
+use Rattle.sci_home.specs.{declared.state.HomeState.{HomeState}, Serving.{IsForHome, home_serving as serving_at_home}}
+use Rattle.sci_cache.specs.State.{CacheState, Asking, Joining, FreshJoining, Head, FreshHead, Rolling, Telling}
+use Rattle.sci_cache.specs.{Asking.{Asked, asking}, Serving.{serving}, Accepting.{accepting}}
 use Rattle.sci_cache.specs.Performing.{Performed, performing}
 use Rattle.sci_core.specs.WellFormed.{IsBelow, NamesNodes, HomeNamesNodes, BodyNamesNodes}
 use Rattle.sci_core.proofs.Shape.Standings.{performing_keeps}
+use Rattle.sci_words.specs.declared.event.AskKind.TheVariants as kind
+use Rattle.sci_packets.specs.declared.body.Body.TheVariants as body
+use Rattle.sci_home.specs.declared.state.HomeState.TheVariants as home
 
 pub record AsksWell (nodes : ℕ) (asked : Asked) : Type 0 where
   pub next : NamesNodes nodes asked.next

@@ -1,39 +1,28 @@
 -- Each side of an event leaves a node's part well formed, and makes packets that are.
 use Rattle.std.proofs.Common.{◌≡◌, ℕ, ◌+◌, ◌<◌, ◌%◌, ◌&&◌, not, Bool, true, false, set, Option, Some, None, refl, subst, ◌∙◌, mod-lt, arith}
+use Rattle.std.proofs.lemmas.{List.{length-set, Elements.{All-push}}, Option.{IfSome_then}}
 use Rattle.std.specs.Prelude.{IfSome}
-use Rattle.std.proofs.lemmas.List.{length-set}
-use Rattle.std.proofs.lemmas.Option.{IfSome_then}
-use Rattle.sci_words.specs.declared.event.AskKind.{AskKind}
-use Rattle.sci_words.specs.declared.operation.Op.{Op}
-use Rattle.sci_words.specs.declared.limits.TheConstants.{CONTROLS}
-use Rattle.sci_packets.specs.declared.body.Body.{Body}
-use Rattle.sci_packets.specs.Table.{is_request}
+use Rattle.sci_words.specs.declared.{event.AskKind.{AskKind}, operation.Op.{Op}, limits.TheConstants.{CONTROLS}}
+use Rattle.sci_packets.specs.{declared.body.Body.{Body}, Table.{is_request}}
 use Rattle.sci_history.specs.declared.entry.Entry.{Entry}
 use Rattle.sci_home.specs.declared.state.HomeState.{HomeState}
 use Rattle.sci_home.specs.Serving.{opening_home, home_serving as serving_at_home_of}
-use Rattle.sci_cache.specs.State.{CacheState, is_out}
-use Rattle.sci_cache.specs.Asking.{Asked}
-use Rattle.sci_cache.specs.Serving.{serving}
-use Rattle.sci_cache.specs.Accepting.{accepting}
+use Rattle.sci_cache.specs.{State.{CacheState, is_out}, Asking.{Asked}, Serving.{serving}, Accepting.{accepting}}
 use Rattle.sci_cache.specs.Performing.{Performed, performing}
 use Rattle.sci_cache.specs.Line.{LineState, untouched, line_in, line_asked, ask_or_fault}
 use Rattle.sci_cache.specs.Cache.{CacheOf, Letter, line_of, with_line, target_of, letter_asking, cache_asked, has_slot}
 use Rattle.sci_core.specs.declared.pending.Pending.{Pending}
-use Rattle.sci_core.specs.Node.{NodeOf, home_of, home_place, pending_on, node_issuing, node_logged, entry_of}
-use Rattle.sci_core.specs.Node.{node_performing, asked_by, node_asking, answering}
-use Rattle.sci_core.specs.Node.{node_serving, node_refusing, replied_by, node_replying}
-use Rattle.sci_core.specs.Node.{node_accepting}
+use Rattle.sci_core.specs.Node.{NodeOf, home_of, home_place, pending_on, node_issuing, node_logged, entry_of, node_performing, asked_by, node_asking}
+use Rattle.sci_core.specs.Node.{answering, node_serving, node_refusing, replied_by, node_replying, node_accepting}
 use Rattle.sci_core.specs.WellFormed.{IsBelow, NamesNodes, HomeNamesNodes, BodyNamesNodes, IsRequestLetter, IsAnswerLetter, IsPart}
-use Rattle.sci_core.proofs.Basics.Lists.{at_set, if_either, if_cases}
-use Rattle.sci_core.proofs.Basics.Options.{if_below, of_some}
-use Rattle.std.proofs.lemmas.List.Elements.{All-push}
+use Rattle.sci_core.specs.Size.{Size}
+use Rattle.sci_core.proofs.Basics.{Lists.{at_set, if_either, if_cases}, Options.{if_below, of_some}}
 use Rattle.sci_core.proofs.Step.Caches.{same_line}
 use Rattle.sci_core.proofs.Step.NodeSides.{ServedAs, At_home, In_cache, with_state, perform_as, serve_as, accept_as}
-use Rattle.sci_core.proofs.WellFormed.Slots.{GetsSlot, StaysOut, slots_with_line, gets_none, performing_stays, serving_stays, awaiting_stays}
 use Rattle.sci_core.proofs.Step.Nodes.{node_with_cache, node_with_homes, node_with_waiting, node_with_issue, node_with_entry}
+use Rattle.sci_core.proofs.WellFormed.Slots.{GetsSlot, StaysOut, slots_with_line, gets_none, performing_stays, serving_stays, awaiting_stays}
 use Rattle.sci_core.proofs.WellFormed.Identifiers.{AsksWell, asking_names, ServesWell, serving_names, HomeServesWell, home_names, accepting_names}
 use Rattle.sci_core.proofs.WellFormed.Identifiers.{performing_names}
-use Rattle.sci_core.specs.Size.{Size}
 
 -- ---- parts in which one thing is another
 

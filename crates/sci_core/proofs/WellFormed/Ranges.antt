@@ -1,41 +1,26 @@
 -- In every reached state words are below 2^64, and versions no more than the operations that may be issued.
-use Rattle.std.proofs.Common.{◌≡◌, ℕ, zero, suc, ◌+◌, ◌*◌, ◌^◌, ◌<◌, ◌≤◌, List, [], ◌∷◌, All, length, map, filter, get_or, replicate, length-set, length-append}
-use Rattle.std.proofs.Common.{refl, sym, ap, subst, ◌∙◌, arith, inl, inr}
-use Rattle.std.specs.Prelude.{◌==◌, ◌&&◌, bit_and, IsTrue}
-use Rattle.std.specs.Int.{bit_not, w64}
-use Rattle.std.specs.List.{AllByRecursion, flat_map, range_with_len}
-use Rattle.std.proofs.Math.Nat.{mod-lt}
-use Rattle.std.proofs.lemmas.Nat.{or_lt, and_le_l}
-use Rattle.std.proofs.lemmas.Bool.{cases_lt, cases_eq, and_parts, ltb-true, eq-eqb, ne_eqb}
-use Rattle.std.proofs.lemmas.List.{get_or_past}
-use Rattle.std.proofs.lemmas.List.Elements.{All-set, All-from_recursion, recursion_from_All}
+use Rattle.std.proofs.Common.{◌≡◌, ℕ, zero, suc, ◌+◌, ◌*◌, ◌^◌, ◌<◌, ◌≤◌, List, [], ◌∷◌, All, length, map, filter, get_or, replicate, length-set}
+use Rattle.std.proofs.{Common.{length-append, refl, sym, ap, subst, ◌∙◌, arith, inl, inr}, Math.Nat.{mod-lt}}
+use Rattle.std.proofs.lemmas.{Nat.{or_lt, and_le_l}, Bool.{cases_lt, cases_eq, and_parts, ltb-true, eq-eqb, ne_eqb}}
+use Rattle.std.proofs.lemmas.List.{get_or_past, Elements.{All-set, All-from_recursion, recursion_from_All}}
 use Rattle.std.proofs.lemmas.List.FromFn.{get_or-map-range_with_len, length-map-range_with_len}
 use Rattle.std.proofs.lemmas.List.Sums.{length-filter, count_by-le-length}
+use Rattle.std.specs.{Prelude.{◌==◌, ◌&&◌, bit_and, IsTrue}, Int.{bit_not, w64}}
+use Rattle.std.specs.List.{AllByRecursion, flat_map, range_with_len}
 use Rattle.sci_words.specs.declared.limits.TheConstants.{WORDS_PER_LINE, MAX_NODES, MAX_OPERATIONS}
-use Rattle.sci_words.specs.declared.operation.Act.{Act}
-use Rattle.sci_words.specs.declared.operation.Act.TheVariants.{Load, Store, Lock}
-use Rattle.sci_words.specs.declared.operation.LockOp.{LockOp}
+use Rattle.sci_words.specs.declared.operation.{Act.{Act, TheVariants.{Load, Store, Lock}}, LockOp.{LockOp}}
 use Rattle.sci_words.specs.declared.operation.LockOp.TheVariants.{MaskSwap, CompareSwap, FetchAdd, BoundedAdd, WrapAdd}
-use Rattle.sci_words.specs.declared.operation.Op.{Op}
-use Rattle.sci_words.specs.declared.stamped.Stamped.{Stamped}
+use Rattle.sci_words.specs.declared.{operation.Op.{Op}, stamped.Stamped.{Stamped}}
 use Rattle.sci_words.specs.Operation.{word_sum, locked_word, effect_of_act, is_word, are_words, has_words}
 use Rattle.sci_words.specs.Stamped.{after, line_after, zero_line, zero_stamped}
-use Rattle.sci_history.specs.declared.entry.Entry.{Entry}
-use Rattle.sci_history.specs.History.{IsHistory}
+use Rattle.sci_history.specs.{declared.entry.Entry.{Entry}, History.{IsHistory}}
 use Rattle.sci_history.specs.Placed.{is_of_node, is_on_line, is_making, maker_count, on_line}
 use Rattle.sci_history.proofs.Histories.{versions-within}
 use Rattle.sci_history.proofs.Order.{filter_yes, filter_no, all_weaker, all_both, all-filter}
-use Rattle.sci_core.specs.Size.{Size}
-use Rattle.sci_core.specs.Core.{Core, node_at}
-use Rattle.sci_core.specs.Done.{done}
-use Rattle.sci_core.specs.InRange.{IsLine, IsStamped, IsReply, IsEntryOf}
-use Rattle.sci_core.specs.Outcome.{logs_of}
-use Rattle.sci_core.specs.Reached.{IsReachable, IsReached}
-use Rattle.sci_core.specs.Sharing.{last_at}
-use Rattle.sci_core.specs.WellFormed.{IsWellFormed}
-use Rattle.sci_core.proofs.History.Histories.{IsKnown}
-use Rattle.sci_core.proofs.Basics.Lists.{if_either}
-use Rattle.sci_core.proofs.Basics.Logs.{short_log}
+use Rattle.sci_core.specs.{Size.{Size}, Core.{Core, node_at}, Done.{done}}
+use Rattle.sci_core.specs.{InRange.{IsLine, IsStamped, IsReply, IsEntryOf}, Outcome.{logs_of}}
+use Rattle.sci_core.specs.{Reached.{IsReachable, IsReached}, Sharing.{last_at}, WellFormed.{IsWellFormed}}
+use Rattle.sci_core.proofs.{History.Histories.{IsKnown}, Basics.{Lists.{if_either}, Logs.{short_log}}}
 use Rattle.sci_core.proofs.ReachedLaws.{any_lawful, reached_logged, last_within, reached_log, reached_history}
 use Rattle.sci_core.proofs.WellFormed.WellFormedSteps.{reachable, reached_well}
 

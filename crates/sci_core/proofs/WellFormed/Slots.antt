@@ -1,19 +1,14 @@
 -- A line gets an entry only if a version slot is free, so a node has no more entries than slots.
-use Rattle.std.proofs.Common.{◌≡◌, ℕ, ◌+◌, ◌<◌, ◌≤◌, not, cond, Bool, true, false, set, refl, sym, ap, ◌∙◌}
-use Rattle.std.proofs.Common.{arith, rules}
+use Rattle.std.proofs.Common.{◌≡◌, ℕ, ◌+◌, ◌<◌, ◌≤◌, not, cond, Bool, true, false, set, refl, sym, ap, ◌∙◌, arith, rules}
+use Rattle.std.proofs.lemmas.{Bool.{cases_lt, ltb-true}, List.{set_past, Sums.{sum_by-set}}}
 use Rattle.std.specs.Prelude.{IfSome}
-use Rattle.std.proofs.lemmas.Bool.{cases_lt, ltb-true}
-use Rattle.std.proofs.lemmas.List.{set_past}
-use Rattle.std.proofs.lemmas.List.Sums.{sum_by-set}
 use Rattle.sci_words.specs.declared.operation.Op.{Op}
 use Rattle.sci_packets.specs.declared.body.Body.{Body}
-use Rattle.sci_packets.specs.declared.body.Body.TheVariants as body
-use Rattle.sci_cache.specs.State.{CacheState, Out, Head, is_out, waits}
-use Rattle.sci_cache.specs.Serving.{serving}
-use Rattle.sci_cache.specs.Performing.{Performed, performing}
-use Rattle.sci_cache.specs.Line.{LineState}
+use Rattle.sci_cache.specs.{State.{CacheState, Out, Head, is_out, waits}, Serving.{serving}}
+use Rattle.sci_cache.specs.{Performing.{Performed, performing}, Line.{LineState}}
 use Rattle.sci_cache.specs.Cache.{CacheOf, line_of, has_slot, slots_taken}
 use Rattle.sci_core.proofs.Shape.Standings.{performing_keeps}
+use Rattle.sci_packets.specs.declared.body.Body.TheVariants as body
 
 -- a line that gets an entry has a slot for it
 abbrev pub GetsSlot : CacheOf → ℕ → CacheState → Type 0

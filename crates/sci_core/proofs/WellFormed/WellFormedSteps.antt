@@ -1,33 +1,25 @@
 -- Every step leaves a state well formed, and keeps the machine's sizes. So every reached state is.
-use Rattle.std.proofs.Common.{◌≡◌, ℕ, ◌*◌, ◌<◌, List, [], ◌∷◌, ◌++◌, replicate, Option, Some, None, refl, sym, ap, subst, ◌∙◌, inl, inr}
-use Rattle.std.proofs.Common.{arith}
-use Rattle.std.specs.Prelude.{IfSome, unwrap_or, Result, Ok, Err, IfOk, IsErr}
-use Rattle.std.specs.List.{All}
-use Rattle.std.proofs.lemmas.Bool.{cases_lt}
-use Rattle.std.proofs.lemmas.List.{length-set, length-replicate, get_or-replicate, get_or_past}
-use Rattle.std.proofs.lemmas.List.Sums.{fold-append}
-use Rattle.std.proofs.lemmas.List.Folds.{sum_by-replicate}
+use Rattle.std.proofs.Common.{◌≡◌, ℕ, ◌*◌, ◌<◌, List, [], ◌∷◌, ◌++◌, replicate, Option, Some, None, refl, sym, ap, subst, ◌∙◌, inl, inr, arith}
+use Rattle.std.proofs.lemmas.{Bool.{cases_lt}, List.{length-set, length-replicate, get_or-replicate, get_or_past}}
+use Rattle.std.proofs.lemmas.List.{Sums.{fold-append}, Folds.{sum_by-replicate}}
 use Rattle.std.proofs.lemmas.List.Elements.{All-nil, All-head, All-tail, All-push}
 use Rattle.std.proofs.lemmas.List.FromFn.{length-map-range_with_len, get_or-map-range_with_len}
+use Rattle.std.specs.{Prelude.{IfSome, unwrap_or, Result, Ok, Err, IfOk, IsErr}, List.{All}}
 use Rattle.sci_words.specs.declared.event.Event.{Event}
-use Rattle.sci_words.specs.declared.event.Event.TheVariants as event
 use Rattle.sci_history.specs.declared.entry.Entry.{Entry}
 use Rattle.sci_cache.specs.Cache.{Letter}
-use Rattle.sci_core.specs.declared.lane.LaneKind.{LaneKind}
-use Rattle.sci_core.specs.declared.lane.LaneKind.TheVariants.{Requests, Answers}
+use Rattle.sci_core.specs.declared.lane.LaneKind.{LaneKind, TheVariants.{Requests, Answers}}
 use Rattle.sci_core.specs.Node.{NodeOf, opening_node, node_issuing, node_performing, node_asking, node_replying, no_node}
-use Rattle.sci_core.specs.Core.{Core, with_node, lane_place, lane_of, with_lane, Side, Idle, Changes, Sends, Takes, changes, performs, sends, side, node_of}
-use Rattle.sci_core.specs.Core.{sent_by, taken_as, taken_from, step_by, stepping, step, opening, run_from, run}
+use Rattle.sci_core.specs.Core.{Core, with_node, lane_place, lane_of, with_lane, Side, Idle, Changes, Sends, Takes, changes, performs, sends, side}
+use Rattle.sci_core.specs.Core.{node_of, sent_by, taken_as, taken_from, step_by, stepping, step, opening, run_from, run}
 use Rattle.sci_core.specs.Reached.{IsReachable, IsReachableNode, IsReached, IsReachedNode}
 use Rattle.sci_core.specs.WellFormed.{IsRequestLetter, IsAnswerLetter, IsInLane, IsPart, IsWellFormed}
-use Rattle.sci_core.proofs.Step.Nodes.{opening_is_node}
-use Rattle.sci_core.proofs.Basics.Lists.{at_place_set}
-use Rattle.sci_core.proofs.Basics.Options.{if_below}
-use Rattle.sci_core.proofs.Step.Places.{place_to, place_from, place_requests, place_answers}
-use Rattle.sci_core.proofs.WellFormed.Parts.{SendsWell, RepliesWell, part_issuing, part_performing, part_asking, part_serving, part_refusing, part_replying}
-use Rattle.sci_core.proofs.WellFormed.Parts.{part_accepting}
-use Rattle.sci_core.specs.Size.{Size}
-use Rattle.sci_core.specs.Size.{IsSize, IsMachineSize}
+use Rattle.sci_core.specs.Size.{Size, IsSize, IsMachineSize}
+use Rattle.sci_core.proofs.Step.{Nodes.{opening_is_node}, Places.{place_to, place_from, place_requests, place_answers}}
+use Rattle.sci_core.proofs.Basics.{Lists.{at_place_set}, Options.{if_below}}
+use Rattle.sci_core.proofs.WellFormed.Parts.{SendsWell, RepliesWell, part_issuing, part_performing, part_asking, part_serving, part_refusing}
+use Rattle.sci_core.proofs.WellFormed.Parts.{part_replying, part_accepting}
+use Rattle.sci_words.specs.declared.event.Event.TheVariants as event
 
 pub record StepsWell (old new : Core) : Type 0 where
   pub well : IsWellFormed new

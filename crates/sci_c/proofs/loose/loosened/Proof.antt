@@ -31,23 +31,17 @@ use denote.Triple.Clauses.{Lasts, lasts}
 use denote.Triple.Spec.{triple_of}
 use denote.Triple.Table.{framed}
 use denote.Triple.Walked.{says, Stays, stay_dropped, walk_of, ends_at}
-use Rattle.std.proofs.alloc.Calls.{Goes-blank}
-use Rattle.std.proofs.BoxSteps.Form as box
-use Rattle.std.proofs.BoxSteps.Steps.{box_out, box_in}
-use Rattle.std.proofs.raw_atomic.Walks.{proved_at}
-use Rattle.std.specs.Box.Ownership.{box_owns}
-use Rattle.std.specs.contracts.alloc.Global.{the_row as G}
-use Rattle.std.proofs.alloc.Global.TheLaws.{the_row_laws as G-laws, the_within as G-within}
+use Rattle.std.proofs.alloc.{Calls.{Goes-blank}, Global.TheLaws.{the_row_laws as G-laws, the_within as G-within}}
+use Rattle.std.proofs.{BoxSteps.Steps.{box_out, box_in}, raw_atomic.Walks.{proved_at}}
+use Rattle.std.proofs.{impls.GlobalAllocator.TheImpl.Met.{passed}, boxed.Box.into_raw.Met.{met}}
+use Rattle.std.specs.{Box.Ownership.{box_owns}, contracts.alloc.Global.{the_row as G}}
 use Rattle.std.specs.contracts.impls.GlobalAllocator.TheImpl.{ghosts, dict}
-use Rattle.std.proofs.impls.GlobalAllocator.TheImpl.Met.{passed}
+use Rattle.sci_c.specs.{Object.{chunk}, contracts.loose.loosened.Key.{name as #self}}
+use Rattle.sci_c.proofs.{LooseValues.{pointed, loose_in}, loose.loosened.Statement.{statement}}
+use Rattle.std.proofs.BoxSteps.Form as box
 use Rattle.std.specs.contracts.boxed.Box as boxes
 use Rattle.std.specs.contracts.boxed.Box.into_raw as callee
-use Rattle.std.proofs.boxed.Box.into_raw.Met.{met}
-use Rattle.sci_c.specs.Object.{chunk}
-use Rattle.sci_c.proofs.LooseValues.{pointed, loose_in}
 use Rattle.sci_c.specs.contracts.loose.loosened as f
-use Rattle.sci_c.specs.contracts.loose.loosened.Key.{name as #self}
-use Rattle.sci_c.proofs.loose.loosened.Statement.{statement}
 use Rattle.sci_c.proofs.loose.loosened.Code as code
 
 -- the allocator as the call passes it

@@ -1,13 +1,9 @@
 use Rattle.std.proofs.Common.{◌≡◌, sym, ap, ◌∙◌, subst}
 use Rattle.std.specs.Prelude.{ℕ, List, Some}
 use Rattle.sci_words.specs.declared.stamped.Stamped.{Stamped}
-use Rattle.sci_history.specs.declared.entry.Entry.{Entry}
-use Rattle.sci_history.specs.Lawful.{Lawful}
-use Rattle.sci_history.specs.Sequential.{IsSequentiallyConsistent}
+use Rattle.sci_history.specs.{declared.entry.Entry.{Entry}, Lawful.{Lawful}, Sequential.{IsSequentiallyConsistent}}
 use Rattle.sci_core.specs.Outcome.{logs_of}
-use Rattle.sci_c.specs.declared.handle.SciObject.{SciObject}
-use Rattle.sci_c.specs.declared.thing.Thing.{Thing}
-use Rattle.sci_c.specs.Journal.{JournalOf, journal_of}
+use Rattle.sci_c.specs.{declared.{handle.SciObject.{SciObject}, thing.Thing.{Thing}}, Journal.{JournalOf, journal_of}}
 use Rattle.sci_c.specs.Kinds.{logs_in, machine_in}
 use Rattle.sci_c.proofs.machine.sci_machine_logs.Goals as goal
 

@@ -1,25 +1,16 @@
 use Rattle.std.proofs.Common.{rules, arith, ◌≡◌, ◌++◌, ◌∙◌, ℕ, List, Option, drop, length, map, sym, ap, subst}
-use Rattle.std.proofs.lemmas.Grind.{common_steps}
-use Rattle.std.proofs.lemmas.Simd.{map-map}
-use Rattle.std.proofs.lemmas.List.{length-map}
+use Rattle.std.proofs.lemmas.{Grind.{common_steps}, Simd.{map-map}, List.{length-map}}
 use denote.Ref.{Bor}
 use Rattle.std.specs.Global.{Vec}
-use Rattle.sci_words.specs.declared.limits.TheConstants.{MAX_NODES}
-use Rattle.sci_words.specs.declared.stamped.Stamped.{Stamped}
-use Rattle.sci_history.specs.declared.entry.Entry.{Entry}
-use Rattle.sci_history.specs.declared.verdict.FaultKind.{FaultKind}
-use Rattle.sci_history.specs.declared.verdict.Verdict.TheVariants as verdict
-use Rattle.sci_history.specs.declared.order_verdict.OrderVerdict.{OrderVerdict}
-use Rattle.sci_history.specs.declared.order_verdict.OrderVerdict.TheVariants as order_verdict
-use Rattle.sci_history.specs.Audit.{IsFault, entries_of}
-use Rattle.sci_history.specs.Cycle.{IsOrderVerdict}
-use Rattle.sci_history.specs.Lawful.{Lawful}
-use Rattle.sci_history.specs.Placed.{AreOwn}
-use Rattle.sci_history.specs.Sequential.{IsSequentialOrder}
+use Rattle.sci_words.specs.declared.{limits.TheConstants.{MAX_NODES}, stamped.Stamped.{Stamped}}
+use Rattle.sci_history.specs.declared.{entry.Entry.{Entry}, verdict.FaultKind.{FaultKind}}
+use Rattle.sci_history.specs.{declared.order_verdict.OrderVerdict.{OrderVerdict}, Audit.{IsFault, entries_of}}
+use Rattle.sci_history.specs.{Cycle.{IsOrderVerdict}, Lawful.{Lawful}, Placed.{AreOwn}, Sequential.{IsSequentialOrder}}
 use Rattle.sci_history.proofs.AuditLines.{verdict_is}
-use Rattle.sci_c_values.specs.declared.entry.SciEntry.{SciEntry}
-use Rattle.sci_c_values.specs.Entry.{entry_struct}
+use Rattle.sci_c_values.specs.{declared.entry.SciEntry.{SciEntry}, Entry.{entry_struct}}
 use Rattle.sci_c.specs.Order.{ref_struct}
+use Rattle.sci_history.specs.declared.verdict.Verdict.TheVariants as verdict
+use Rattle.sci_history.specs.declared.order_verdict.OrderVerdict.TheVariants as order_verdict
 use Rattle.sci_c.proofs.ordering.found_order.Goals as goal
 
 fault_is_none : (line : ℕ) (kind : FaultKind) (at : Option (ℕ × ℕ)) → verdict.Fault line kind at ≡ verdict.Lawful → ⊥

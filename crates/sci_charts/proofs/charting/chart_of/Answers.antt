@@ -1,14 +1,10 @@
 use Rattle.std.proofs.Common.{◌≡◌, ◌+◌, ◌<◌, ◌≤◌, ◌++◌, ℕ, arith, get_or, length, refl, subst, sym, ◌∙◌}
-use Rattle.std.specs.Global.{Vec}
 use Rattle.std.proofs.lemmas.Result.{IfOk-weaker}
-use Rattle.sci_words.specs.declared.event.Event.{Event}
-use Rattle.sci_words.specs.declared.event.Event.TheVariants.{Issue}
-use Rattle.sci_words.specs.declared.operation.Act.TheVariants.{Load}
+use Rattle.std.specs.Global.{Vec}
+use Rattle.sci_words.specs.declared.{event.Event.{Event, TheVariants.{Issue}}, operation.Act.TheVariants.{Load}}
 use Rattle.sci_statistics.specs.Beginning.{before}
-use Rattle.sci_charts.specs.declared.charting.ChartRequest.{ChartRequest}
-use Rattle.sci_charts.specs.Rows.{Place, shown_places}
-use Rattle.sci_charts.specs.Drawing.{Adds, chart_end}
-use Rattle.sci_charts.specs.ChartAnswer.{IsChart}
+use Rattle.sci_charts.specs.{declared.charting.ChartRequest.{ChartRequest}, Rows.{Place, shown_places}}
+use Rattle.sci_charts.specs.{Drawing.{Adds, chart_end}, ChartAnswer.{IsChart}}
 use Rattle.sci_charts.proofs.Drawn.{behind_first, behind_more, draws_all, draws_up_to, ends_with}
 use Rattle.sci_charts.proofs.charting.chart_of.Goals as goal
 

@@ -1,7 +1,6 @@
 use Rattle.std.proofs.Common.{◌≡◌, ◌-◌, ℕ, List, [], ◌∷◌, ◌++◌, take, codes, append_assoc, sym, ap, ◌∙◌}
 use Rattle.sci_words.specs.declared.event.Event.{Event}
-use Rattle.sci_text.specs.Number.{field, number}
-use Rattle.sci_text.specs.Schedule.{event_details, event_line, event_word, first_node}
+use Rattle.sci_text.specs.{Number.{field, number}, Schedule.{event_details, event_line, event_word, first_node}}
 use Rattle.sci_charts.specs.Rows.{row_words}
 use Rattle.sci_charts.proofs.Ended.{without_last}
 use Rattle.sci_charts.proofs.layout.push_numbered.Goals as goal

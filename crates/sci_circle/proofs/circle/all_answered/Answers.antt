@@ -1,6 +1,4 @@
-use Rattle.std.proofs.Common.{sym, ◌∙◌}
-use Rattle.std.proofs.lemmas.List.{length-set}
-use Rattle.std.proofs.lemmas.List.Elements.{All-set}
+use Rattle.std.proofs.{Common.{sym, ◌∙◌}, lemmas.List.{length-set, Elements.{All-set}}}
 use Rattle.sci_circle.specs.declared.runner.Runner.{Runner}
 use Rattle.sci_drive.specs.Driving.{IsDriven}
 use Rattle.sci_station.specs.Station.{node_in}

@@ -1,8 +1,7 @@
 use Rattle.std.proofs.Common.{All, ◌≡◌, ◌≤◌, arith, suc, List, ◌∷◌, length, Vec, sym, ap, subst, ◌∙◌}
 use Rattle.std.proofs.lemmas.List.Elements.{All-head, All-push}
 use Rattle.sci_circle.specs.declared.runner.Runner.{Runner}
-use Rattle.sci_words.specs.declared.limits.TheConstants.{MAX_OPERATIONS}
-use Rattle.sci_words.specs.declared.operation.Op.{Op}
+use Rattle.sci_words.specs.declared.{limits.TheConstants.{MAX_OPERATIONS}, operation.Op.{Op}}
 use Rattle.sci_drive.specs.Driving.{HasSubmittedNothing, IsDriven}
 use Rattle.sci_station.specs.Station.{StationOf, node_in}
 use Rattle.sci_circle.proofs.circle.new_runners.Goals as goal

@@ -1,6 +1,6 @@
 use Rattle.std.proofs.Common.{arith, ◌≡◌, ◌≤◌, ◌<◌, ◌+◌, ◌-◌, ◌++◌, ◌∷◌, ap, append_assoc, drop, length, slice_index_or, sym, ◌∙◌}
-use Rattle.std.specs.List.{flat_map}
 use Rattle.std.proofs.lemmas.List.{drop_all, drop_more}
+use Rattle.std.specs.List.{flat_map}
 use Rattle.sci_text.specs.Number.{field}
 use Rattle.sci_command.proofs.packet_line.put_words.Goals as goal
 

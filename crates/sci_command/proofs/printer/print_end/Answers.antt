@@ -1,5 +1,4 @@
-use Rattle.std.proofs.Common.{sym, subst, ◌∙◌}
-use Rattle.std.proofs.lemmas.List.{append-nil}
+use Rattle.std.proofs.{Common.{sym, subst, ◌∙◌}, lemmas.List.{append-nil}}
 use Rattle.std.specs.Io.KnownBytes.{Appends}
 use Rattle.sci_text.specs.Tap.{has_failed, tapped}
 use Rattle.sci_command.proofs.Printed.{wrote_waiting}

@@ -1,7 +1,6 @@
 -- The packet that is found is one of them.
 use Rattle.std.proofs.Common.{◌≡◌, ◌<◌, Bool, length, map, get_or, true, sym, ap, ◌∙◌, arith}
-use Rattle.std.proofs.lemmas.List.{get_or-map, length-map}
-use Rattle.std.proofs.lemmas.List.Folds.{list_any_at}
+use Rattle.std.proofs.lemmas.List.{get_or-map, length-map, Folds.{list_any_at}}
 use Rattle.sci_cache.specs.Cache.{Letter, letter_of}
 use Rattle.sci_core.specs.Sharing.{asks_about}
 use Rattle.sci_core.proofs.asked.any_asks.Goals as goal

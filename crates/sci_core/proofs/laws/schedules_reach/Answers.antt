@@ -1,5 +1,4 @@
-use Rattle.sci_core.proofs.Tidy.TidyRuns.{run_reachable, run_reached}
-use Rattle.sci_core.proofs.WellFormed.WellFormedSteps.{reachable}
+use Rattle.sci_core.proofs.{Tidy.TidyRuns.{run_reachable, run_reached}, WellFormed.WellFormedSteps.{reachable}}
 use Rattle.sci_core.proofs.laws.schedules_reach.Goals as goal
 
 pub returns : goal.returns

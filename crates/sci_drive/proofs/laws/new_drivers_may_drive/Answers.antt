@@ -1,5 +1,4 @@
-use Rattle.sci_drive.proofs.Drives.{opens}
-use Rattle.sci_drive.proofs.InOrder.{opens_in_order}
+use Rattle.sci_drive.proofs.{Drives.{opens}, InOrder.{opens_in_order}}
 use Rattle.sci_drive.proofs.laws.new_drivers_may_drive.Goals as goal
 
 pub returns-clause-driven : goal.returns-clause-driven

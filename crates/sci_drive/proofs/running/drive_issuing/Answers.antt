@@ -1,15 +1,10 @@
-use Rattle.std.proofs.Common.{◌≡◌, true, List, sym, ap, subst, ◌∙◌}
+use Rattle.std.proofs.{Common.{◌≡◌, true, List, sym, ap, subst, ◌∙◌}, lemmas.Result.{IfOk-weaker}}
 use Rattle.std.specs.Prelude.{Result, Ok, Err, IfOk}
-use Rattle.std.proofs.lemmas.Result.{IfOk-weaker}
 use Rattle.sci_words.specs.declared.operation.Op.{Op}
-use Rattle.sci_drive.specs.Calls.{AreCalls, EndWithAllDone, times_done}
-use Rattle.sci_drive.specs.Driving.{DriverOf, IsInOrder, opening_driver}
-use Rattle.sci_drive.specs.Resting.{RestsInTime}
-use Rattle.sci_drive.specs.Rounds.{GoRounds}
-use Rattle.sci_drive.specs.Script.{IsFrontOf, IsLogOf, IsWholeLogOf}
+use Rattle.sci_drive.specs.{Calls.{AreCalls, EndWithAllDone, times_done}, Driving.{DriverOf, IsInOrder, opening_driver}}
+use Rattle.sci_drive.specs.{Resting.{RestsInTime}, Rounds.{GoRounds}, Script.{IsFrontOf, IsLogOf, IsWholeLogOf}}
 use Rattle.sci_drive.specs.declared.driver.Issuing.{Issuing}
-use Rattle.sci_drive.proofs.Calls.{calls_of, told_once}
-use Rattle.sci_drive.proofs.Drives.{log_of, whole_of}
+use Rattle.sci_drive.proofs.{Calls.{calls_of, told_once}, Drives.{log_of, whole_of}}
 use Rattle.sci_drive.proofs.running.drive_issuing.Goals as goal
 
 pub returns-clause-named : goal.returns-clause-named

@@ -1,12 +1,11 @@
 -- Each line is judged by its own entries, and the lines that were found lawful are all.
 use Rattle.std.proofs.Common.{◌≡◌, arith}
-use Rattle.sci_history.specs.declared.verdict.Verdict.TheVariants as verdicts
-use Rattle.sci_history.specs.Audit.{entries_of}
-use Rattle.sci_history.specs.Placed.{on_line}
+use Rattle.sci_history.specs.{Audit.{entries_of}, Placed.{on_line}}
 use Rattle.sci_history.proofs.ByLine.{list_at}
 use Rattle.sci_history.proofs.AuditLines.{known_on_line, lawful_from_found, lawful_all, lawful_more, fault_found, verdict_is}
-use Rattle.sci_history.proofs.auditing.audit.Goals as goal
 use Rattle.sci_history.proofs.auditing.audit.Goals.{After-get}
+use Rattle.sci_history.specs.declared.verdict.Verdict.TheVariants as verdicts
+use Rattle.sci_history.proofs.auditing.audit.Goals as goal
 
 entries : (c : After-get) → entries_of c.deref.result.now ≡ on_line c.loop-line.line c.args.logs.now
 entries c =

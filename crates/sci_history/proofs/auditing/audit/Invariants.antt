@@ -1,6 +1,5 @@
 use Rattle.std.proofs.Common.{ℕ, ◌<◌}
-use Rattle.sci_history.specs.Memory.{stamped_at}
-use Rattle.sci_history.specs.Lawful.{IsLawfulLine}
+use Rattle.sci_history.specs.{Memory.{stamped_at}, Lawful.{IsLawfulLine}}
 use Rattle.sci_history.proofs.auditing.audit.Given as goal
 
 -- the lines so far are lawful

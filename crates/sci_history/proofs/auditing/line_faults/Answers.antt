@@ -1,11 +1,9 @@
 -- Each line is judged by its own entries.
 use Rattle.std.proofs.Common.{◌≡◌}
-use Rattle.sci_history.specs.Audit.{entries_of}
-use Rattle.sci_history.specs.Placed.{on_line}
-use Rattle.sci_history.proofs.ByLine.{list_at}
-use Rattle.sci_history.proofs.AuditLines.{known_on_line, faults_more}
-use Rattle.sci_history.proofs.auditing.line_faults.Goals as goal
+use Rattle.sci_history.specs.{Audit.{entries_of}, Placed.{on_line}}
+use Rattle.sci_history.proofs.{ByLine.{list_at}, AuditLines.{known_on_line, faults_more}}
 use Rattle.sci_history.proofs.auditing.line_faults.Goals.{After-get}
+use Rattle.sci_history.proofs.auditing.line_faults.Goals as goal
 
 entries : (c : After-get) → entries_of c.deref.result.now ≡ on_line c.loop-line.line c.args.logs.now
 entries c =

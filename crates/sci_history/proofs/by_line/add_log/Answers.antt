@@ -1,8 +1,6 @@
-use Rattle.std.proofs.Common.{◌<◌, [], length, get_or, ◌∙◌, arith, refl}
-use Rattle.std.proofs.lemmas.List.{length-set}
+use Rattle.std.proofs.{Common.{◌<◌, [], length, get_or, ◌∙◌, arith, refl}, lemmas.List.{length-set}}
 use Rattle.sci_history.specs.Audit.{lists_of}
-use Rattle.sci_history.proofs.AuditFinds.{no_entry}
-use Rattle.sci_history.proofs.ByLine.{list_more}
+use Rattle.sci_history.proofs.{AuditFinds.{no_entry}, ByLine.{list_more}}
 use Rattle.sci_history.proofs.by_line.add_log.Goals as goal
 
 pub loop-entry-preserved : goal.loop-entry-preserved

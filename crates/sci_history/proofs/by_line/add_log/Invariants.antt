@@ -1,7 +1,6 @@
 use Rattle.std.proofs.Common.{◌≡◌, ◌++◌, [], ℕ, ◌<◌, length, take, get_or}
 use Rattle.std.specs.List.{filter}
-use Rattle.sci_history.specs.Placed.{is_on_line}
-use Rattle.sci_history.specs.Audit.{lists_of}
+use Rattle.sci_history.specs.{Placed.{is_on_line}, Audit.{lists_of}}
 use Rattle.sci_history.proofs.by_line.add_log.Given as goal
 
 -- each list has the entries so far that are on its line

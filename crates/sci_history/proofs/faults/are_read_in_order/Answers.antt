@@ -1,7 +1,6 @@
 -- A look at each entry and the next finds entries by node and serial.
-use Rattle.std.proofs.Common.{◌≡◌, ℕ, subst, rules}
+use Rattle.std.proofs.{Common.{◌≡◌, ℕ, subst, rules}, lemmas.List.Sorted.{answers_always}}
 use Rattle.std.specs.List.{IsAllAdjacentAnswer}
-use Rattle.std.proofs.lemmas.List.Sorted.{answers_always}
 use denote.Ref.{Bor}
 use Rattle.sci_history.specs.declared.entry.Entry.{Entry}
 use Rattle.sci_history.proofs.ReadOrder.{is_read_before, read_in_order}

@@ -1,14 +1,12 @@
 -- Entries in order stay, and else stable sorts by serial and by node put them so.
-use Rattle.std.proofs.Common.{List, sym, ap, ◌∙◌, rules}
-use Rattle.std.proofs.lemmas.List.Sorted.{answers_always}
+use Rattle.std.proofs.{Common.{List, sym, ap, ◌∙◌, rules}, lemmas.List.Sorted.{answers_always}}
 use denote.Ref.{Bor}
 use Rattle.std.specs.Global.{Vec}
-use Rattle.sci_history.specs.declared.entry.Entry.{Entry}
-use Rattle.sci_history.specs.Placed.{by_node_and_serial}
-use Rattle.sci_history.specs.Audit.{entries_of}
+use Rattle.sci_history.specs.{declared.entry.Entry.{Entry}, Placed.{by_node_and_serial}, Audit.{entries_of}}
 use Rattle.sci_history.proofs.PlacedSort.{sorted_by_node}
+use Rattle.sci_history.proofs.faults.by_node_and_serial.Goals.{then-not-are_read_in_order+in_ok-sort_by_key+in_ok-sort_by_key-2}
+use Rattle.sci_history.proofs.faults.by_node_and_serial.Goals.{else-not-are_read_in_order}
 use Rattle.sci_history.proofs.faults.by_node_and_serial.Goals as goal
-use Rattle.sci_history.proofs.faults.by_node_and_serial.Goals.{then-not-are_read_in_order+in_ok-sort_by_key+in_ok-sort_by_key-2, else-not-are_read_in_order}
 
 pub returns : goal.returns
 returns c =

@@ -1,10 +1,8 @@
-use Rattle.std.proofs.Common.{◌≡◌, true, false, arith, take}
-use Rattle.std.proofs.lemmas.Bool.Decides.{nat_tests}
-use Rattle.std.proofs.lemmas.Grind.{common_steps}
+use Rattle.std.proofs.{Common.{◌≡◌, true, false, arith, take}, lemmas.{Bool.Decides.{nat_tests}, Grind.{common_steps}}}
 use Rattle.sci_history.specs.Audit.{is_version_twice, entries_of}
 use Rattle.sci_history.proofs.AuditFinds.{entry_at, later_here, later_more, made_more}
-use Rattle.sci_history.proofs.faults.collected_twice.Goals as goal
 use Rattle.sci_history.proofs.faults.collected_twice.Goals.{else-is_maker-via-then-is_maker+in_ok-insert+else-not-branch, else-is_maker-via-else-is_maker}
+use Rattle.sci_history.proofs.faults.collected_twice.Goals as goal
 
 pub returns-then-not-branch : goal.returns-then-not-branch
 returns-then-not-branch c =

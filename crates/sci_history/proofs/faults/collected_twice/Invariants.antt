@@ -1,9 +1,6 @@
 use Rattle.std.proofs.Common.{◌≡◌, ℕ, take}
-use Rattle.std.specs.Ordering.{nat_cmp}
-use Rattle.std.specs.BTreeSet.{contains}
-use Rattle.std.specs.List.{list_any}
-use Rattle.sci_history.specs.Placed.{makes}
-use Rattle.sci_history.specs.Audit.{entries_of, is_version_twice}
+use Rattle.std.specs.{Ordering.{nat_cmp}, BTreeSet.{contains}, List.{list_any}}
+use Rattle.sci_history.specs.{Placed.{makes}, Audit.{entries_of, is_version_twice}}
 use Rattle.sci_history.proofs.AuditFinds.{FailsLater}
 use Rattle.sci_history.proofs.faults.collected_twice.Given as goal
 

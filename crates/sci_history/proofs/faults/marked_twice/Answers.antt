@@ -1,11 +1,10 @@
 use Rattle.std.specs.Global.{Vec}
 use Rattle.std.proofs.Common.{◌≡◌, ◌+◌, refl, ◌-◌, ◌∙◌, true, false, sym, ap, subst, arith, take, length, set, List, Bool}
 use Rattle.std.proofs.lemmas.List.{length-set}
-use Rattle.sci_history.specs.Audit.{is_version_twice, entries_of}
-use Rattle.sci_history.specs.Placed.{is_making}
+use Rattle.sci_history.specs.{Audit.{is_version_twice, entries_of}, Placed.{is_making}}
 use Rattle.sci_history.proofs.AuditFinds.{HasMarked, entry_at, later_here, later_more, maker_within, mark_is, marked_load, marked_maker}
-use Rattle.sci_history.proofs.faults.marked_twice.Goals as goal
 use Rattle.sci_history.proofs.faults.marked_twice.Goals.{then-is_maker+else-index, else-is_maker}
+use Rattle.sci_history.proofs.faults.marked_twice.Goals as goal
 
 pub overflow_sub-mark : goal.overflow_sub-mark
 overflow_sub-mark c = (maker_within c.args.entries.now c.loop-entry.entry-index c.args.makers c.loop-entry-test.true c.requires

@@ -1,8 +1,7 @@
 use Rattle.std.proofs.Common.{◌≡◌, ℕ, ◌<◌, length, take, get_or, None}
 use Rattle.std.specs.List.{filter}
 use Rattle.sci_words.specs.declared.limits.TheConstants.{MAX_NODES}
-use Rattle.sci_history.specs.Placed.{is_of_node}
-use Rattle.sci_history.specs.Audit.{entries_of, is_out_of_order, last_entry}
+use Rattle.sci_history.specs.{Placed.{is_of_node}, Audit.{entries_of, is_out_of_order, last_entry}}
 use Rattle.sci_history.proofs.AuditFinds.{FailsLater}
 use Rattle.sci_history.proofs.faults.out_of_order.Given as goal
 

@@ -1,10 +1,7 @@
 -- A stable sort by version, with its maker first, puts entries by node and serial in placed order.
-use Rattle.std.proofs.Common.{ℕ, Bool, not, rules}
-use Rattle.std.proofs.lemmas.List.Sorted.{answers_always}
+use Rattle.std.proofs.{Common.{ℕ, Bool, not, rules}, lemmas.List.Sorted.{answers_always}}
 use denote.Ref.{Bor}
-use Rattle.sci_history.specs.declared.entry.Entry.{Entry}
-use Rattle.sci_history.specs.Placed.{is_making}
-use Rattle.sci_history.specs.Audit.{entries_of}
+use Rattle.sci_history.specs.{declared.entry.Entry.{Entry}, Placed.{is_making}, Audit.{entries_of}}
 use Rattle.sci_history.proofs.PlacedSort.{sorted_placed}
 use Rattle.sci_history.proofs.faults.placed.Goals as goal
 

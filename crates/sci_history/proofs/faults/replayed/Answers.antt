@@ -1,5 +1,4 @@
-use Rattle.std.proofs.Common.{◌≡◌, ◌<◌, true, false, sym, arith, take}
-use Rattle.std.proofs.lemmas.Grind.{common_steps}
+use Rattle.std.proofs.{Common.{◌≡◌, ◌<◌, true, false, sym, arith, take}, lemmas.Grind.{common_steps}}
 use Rattle.sci_words.specs.declared.limits.TheConstants.{WORDS_PER_LINE}
 use Rattle.sci_history.specs.Audit.{is_reply_wrong, entries_of}
 use Rattle.sci_history.proofs.AuditFinds.{entry_at, later_here, later_more, words_more, all_at}

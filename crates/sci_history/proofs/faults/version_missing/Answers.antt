@@ -1,7 +1,5 @@
-use Rattle.std.proofs.Common.{◌≡◌, true, false, arith}
-use Rattle.std.proofs.lemmas.Bool.Decides.{nat_tests}
+use Rattle.std.proofs.{Common.{◌≡◌, true, false, arith, take}, lemmas.Bool.Decides.{nat_tests}}
 use Rattle.sci_history.specs.Audit.{is_version_missing, entries_of}
-use Rattle.std.proofs.Common.{take}
 use Rattle.sci_history.proofs.AuditFinds.{entry_at, later_here, later_more}
 use Rattle.sci_history.proofs.faults.version_missing.Goals as goal
 

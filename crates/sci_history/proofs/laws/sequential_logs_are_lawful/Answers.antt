@@ -1,7 +1,5 @@
-use Rattle.std.proofs.Common.{◌<◌}
-use Rattle.std.proofs.lemmas.List.Kept.{AllPairs-filter}
-use Rattle.sci_history.specs.declared.entry.Entry.{Entry}
-use Rattle.sci_history.specs.Placed.{is_on_line}
+use Rattle.std.proofs.{Common.{◌<◌}, lemmas.List.Kept.{AllPairs-filter}}
+use Rattle.sci_history.specs.{declared.entry.Entry.{Entry}, Placed.{is_on_line}}
 use Rattle.sci_history.proofs.SequentialRuns.{order_is_lawful}
 use Rattle.sci_history.proofs.laws.sequential_logs_are_lawful.Goals as goal
 

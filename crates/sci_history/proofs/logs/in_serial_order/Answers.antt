@@ -1,8 +1,6 @@
 -- A stable sort by serial puts a copy in serial order.
-use Rattle.std.proofs.Common.{ap, ◌∙◌, rules}
-use Rattle.std.proofs.lemmas.List.Sorted.{answers_always}
-use Rattle.sci_history.specs.declared.entry.Entry.{Entry}
-use Rattle.sci_history.specs.Placed.{in_serial_order}
+use Rattle.std.proofs.{Common.{ap, ◌∙◌, rules}, lemmas.List.Sorted.{answers_always}}
+use Rattle.sci_history.specs.{declared.entry.Entry.{Entry}, Placed.{in_serial_order}}
 use Rattle.sci_history.proofs.PlacedSort.{sorted_by_serial}
 use Rattle.sci_history.proofs.logs.in_serial_order.Goals as goal
 

@@ -1,17 +1,12 @@
 -- Each issue is the oracle's next, and no log is full before its last.
 use Rattle.std.proofs.Common.{◌≡◌, ◌<◌, length, get_or, take, refl, ap, ◌∙◌, subst, arith}
-use Rattle.std.proofs.lemmas.List.{length-take, take_more, take_all}
-use Rattle.std.proofs.lemmas.List.Elements.{recursion_from_All}
-use Rattle.sci_words.specs.declared.operation.Act.TheVariants.{Load}
-use Rattle.sci_words.specs.declared.limits.TheConstants.{MAX_OPERATIONS}
+use Rattle.std.proofs.lemmas.List.{length-take, take_more, take_all, Elements.{recursion_from_All}}
+use Rattle.sci_words.specs.declared.{operation.Act.TheVariants.{Load}, limits.TheConstants.{MAX_OPERATIONS}}
 use Rattle.std.specs.Prelude.{List, Err}
-use Rattle.sci_history.specs.declared.entry.Entry.{Entry}
-use Rattle.sci_history.specs.Placed.{log_of}
-use Rattle.sci_history.specs.Oracle.{Issue, IsInRange}
+use Rattle.sci_history.specs.{declared.entry.Entry.{Entry}, Placed.{log_of}, Oracle.{Issue, IsInRange}}
 use Rattle.sci_history.proofs.OracleSteps.{Ran, ran_none, ran_long, ran_version, ran_step, range-take, fewer_logged}
-use Rattle.sci_history.proofs.Oracles.{oracle-lawful}
+use Rattle.sci_history.proofs.{Oracles.{oracle-lawful}, oracle.run_oracle.Goals.{After-of}}
 use Rattle.sci_history.proofs.oracle.run_oracle.Goals as goal
-use Rattle.sci_history.proofs.oracle.run_oracle.Goals.{After-of}
 
 abbrev no_issue : Issue
 no_issue = (0, record { line = 0; word = 0; act = Load })

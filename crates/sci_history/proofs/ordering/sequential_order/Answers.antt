@@ -1,10 +1,7 @@
 use Rattle.std.specs.Global.{Vec}
 use Rattle.std.proofs.Common.{◌≡◌, ℕ, List, length, sym, ap, subst, ◌∙◌, arith}
-use Rattle.sci_history.specs.Audit.{entries_of}
-use Rattle.sci_history.specs.Judged.{IsJudged}
-use Rattle.sci_history.specs.Placing.{AreOrderable, lists_of_counts}
-use Rattle.sci_history.proofs.Cycles.{no_order_with_cycle}
-use Rattle.sci_history.proofs.FoundOrders.{all_done, are_blocked}
+use Rattle.sci_history.specs.{Audit.{entries_of}, Judged.{IsJudged}, Placing.{AreOrderable, lists_of_counts}}
+use Rattle.sci_history.proofs.{Cycles.{no_order_with_cycle}, FoundOrders.{all_done, are_blocked}}
 use Rattle.sci_history.proofs.ordering.sequential_order.Goals as goal
 
 pub place_all-requires-clause-few : goal.place_all-requires-clause-few

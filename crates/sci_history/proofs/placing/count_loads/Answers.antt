@@ -1,13 +1,10 @@
 use Rattle.std.specs.Global.{Vec}
-use Rattle.std.proofs.Common.{◌≡◌, ◌≤◌, ◌+◌, ℕ, List, set, sym, ap, subst, ◌∙◌, arith}
-use Rattle.std.proofs.lemmas.List.{get_or_default}
-use Rattle.sci_history.specs.declared.entry.Entry.{Entry}
-use Rattle.sci_history.specs.Audit.{entries_of}
-use Rattle.sci_history.specs.Placed.{maker_count}
+use Rattle.std.proofs.{Common.{◌≡◌, ◌≤◌, ◌+◌, ℕ, List, set, sym, ap, subst, ◌∙◌, arith}, lemmas.List.{get_or_default}}
+use Rattle.sci_history.specs.{declared.entry.Entry.{Entry}, Audit.{entries_of}, Placed.{maker_count}}
 use Rattle.sci_history.proofs.AuditFinds.{all_at, entry_at}
 use Rattle.sci_history.proofs.LoadCounts.{HasCounted, counted_load, counted_maker, few_counted}
-use Rattle.sci_history.proofs.placing.count_loads.Goals as goal
 use Rattle.sci_history.proofs.placing.count_loads.Goals.{then-not-is_maker, else-not-is_maker}
+use Rattle.sci_history.proofs.placing.count_loads.Goals as goal
 
 pub index_mut-requires : goal.index_mut-requires
 index_mut-requires c =

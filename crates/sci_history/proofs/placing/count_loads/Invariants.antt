@@ -1,5 +1,4 @@
-use Rattle.sci_history.specs.Audit.{entries_of}
-use Rattle.sci_history.specs.Placed.{maker_count}
+use Rattle.sci_history.specs.{Audit.{entries_of}, Placed.{maker_count}}
 use Rattle.sci_history.proofs.LoadCounts.{HasCounted}
 use Rattle.sci_history.proofs.placing.count_loads.Given as goal
 

@@ -1,20 +1,13 @@
 use denote.Ref.{Bor}
 use Rattle.std.specs.Prelude.{All}
-use Rattle.std.proofs.Common.{◌≡◌, ◌≤◌, List, length, sym, subst, arith}
-use Rattle.std.proofs.lemmas.List.Elements.{All-from_recursion}
-use Rattle.sci_history.specs.declared.entry.Entry.{Entry}
-use Rattle.sci_history.specs.declared.verdict.Verdict.TheVariants as verdicts
-use Rattle.sci_history.specs.Audit.{entries_of}
-use Rattle.sci_history.specs.Lawful.{IsLawfulLine}
-use Rattle.sci_history.specs.Memory.{stamped_at}
-use Rattle.sci_history.specs.Placed.{maker_count, on_line}
-use Rattle.sci_history.specs.Placing.{HasCounts}
+use Rattle.std.proofs.{Common.{◌≡◌, ◌≤◌, List, length, sym, subst, arith}, lemmas.List.Elements.{All-from_recursion}}
+use Rattle.sci_history.specs.{declared.entry.Entry.{Entry}, Audit.{entries_of}, Lawful.{IsLawfulLine}}
+use Rattle.sci_history.specs.{Memory.{stamped_at}, Placed.{maker_count, on_line}, Placing.{HasCounts}}
 use Rattle.sci_history.proofs.AuditLines.{known_on_line, lawful_from_found, lawful_all, lawful_more, fault_found, verdict_is}
-use Rattle.sci_history.proofs.ByLine.{list_at}
-use Rattle.sci_history.proofs.FoundOrders.{orderable}
-use Rattle.sci_history.proofs.LoadCounts.{counts_more}
-use Rattle.sci_history.proofs.placing.judge_lines.Goals as goal
+use Rattle.sci_history.proofs.{ByLine.{list_at}, FoundOrders.{orderable}, LoadCounts.{counts_more}}
 use Rattle.sci_history.proofs.placing.judge_lines.Goals.{After-index-entries, After-deref-in-loop-line}
+use Rattle.sci_history.specs.declared.verdict.Verdict.TheVariants as verdicts
+use Rattle.sci_history.proofs.placing.judge_lines.Goals as goal
 
 -- the entries of the line, each time that its list is read
 entries : (c : After-index-entries) (refs : List (Bor Entry)) → refs ≡ c.index-entries.result.now.items

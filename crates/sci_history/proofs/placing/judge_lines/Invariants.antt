@@ -1,7 +1,5 @@
 use Rattle.std.proofs.Common.{◌≡◌, ◌<◌, ℕ, [], length, get_or}
-use Rattle.sci_history.specs.Lawful.{IsLawfulLine}
-use Rattle.sci_history.specs.Memory.{stamped_at}
-use Rattle.sci_history.specs.Placed.{on_line}
+use Rattle.sci_history.specs.{Lawful.{IsLawfulLine}, Memory.{stamped_at}, Placed.{on_line}}
 use Rattle.sci_history.specs.Placing.{HasCounts, lists_of_counts}
 use Rattle.sci_history.proofs.placing.judge_lines.Given as goal
 

@@ -1,6 +1,5 @@
 use Rattle.std.proofs.Common.{arith}
-use Rattle.sci_history.specs.Audit.{entries_of}
-use Rattle.sci_history.specs.Placing.{rests_of}
+use Rattle.sci_history.specs.{Audit.{entries_of}, Placing.{rests_of}}
 use Rattle.sci_history.proofs.PlaceSteps.{entries_long, order_within}
 use Rattle.sci_history.proofs.placing.place_all.Goals as goal
 

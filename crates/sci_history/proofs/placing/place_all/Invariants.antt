@@ -1,6 +1,5 @@
 use Rattle.std.proofs.Common.{◌-◌, length}
-use Rattle.sci_history.specs.Audit.{entries_of}
-use Rattle.sci_history.specs.Placing.{IsPlacing, all_of, rests_of}
+use Rattle.sci_history.specs.{Audit.{entries_of}, Placing.{IsPlacing, all_of, rests_of}}
 use Rattle.sci_history.proofs.placing.place_all.Given as goal
 
 abbrev pub invariant-loop-placing : goal.invariant-loop-placing

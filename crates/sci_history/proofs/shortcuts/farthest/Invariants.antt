@@ -1,7 +1,6 @@
 use Rattle.std.proofs.Common.{◌≡◌, ◌<◌, ℕ, Some}
 use Rattle.std.specs.Prelude.{slice_get}
-use Rattle.sci_history.specs.declared.order_verdict.Step.{Step}
-use Rattle.sci_history.specs.Shortcuts.{ComesAfterAt, IsFree}
+use Rattle.sci_history.specs.{declared.order_verdict.Step.{Step}, Shortcuts.{ComesAfterAt, IsFree}}
 use Rattle.sci_history.proofs.shortcuts.farthest.Given as goal
 
 -- the last so far that the step comes after

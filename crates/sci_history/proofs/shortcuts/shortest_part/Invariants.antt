@@ -1,7 +1,6 @@
 use Rattle.std.proofs.Common.{◌≡◌, ◌<◌, ◌+◌, ℕ, Some}
 use Rattle.std.specs.Prelude.{slice_get}
-use Rattle.sci_history.specs.declared.order_verdict.Step.{Step}
-use Rattle.sci_history.specs.Shortcuts.{IsFree, IsFreeWithin}
+use Rattle.sci_history.specs.{declared.order_verdict.Step.{Step}, Shortcuts.{IsFree, IsFreeWithin}}
 use Rattle.sci_history.proofs.shortcuts.shortest_part.Given as goal
 
 -- no entry comes after one before it that is nearer

@@ -1,11 +1,10 @@
 use Rattle.std.specs.Global.{Vec}
 use Rattle.std.proofs.Common.{◌<◌, ◌≡◌, ◌++◌, ◌∷◌, [], get_or, length, ap, sym, subst, refl, ◌∙◌, arith}
 use Rattle.std.proofs.lemmas.Option.{slice_get-get_or}
-use Rattle.sci_history.specs.declared.order_verdict.Step.{Step}
-use Rattle.sci_history.specs.Shortcuts.{IsBareRoundOf}
+use Rattle.sci_history.specs.{declared.order_verdict.Step.{Step}, Shortcuts.{IsBareRoundOf}}
 use Rattle.sci_history.proofs.Shortening.{IsKept, kept_closes, kept_more, no_step, still_kept}
-use Rattle.sci_history.proofs.shortcuts.without_shortcuts.Goals as goal
 use Rattle.sci_history.proofs.shortcuts.without_shortcuts.Goals.{then-place-next+in_ok-push, else-place-next}
+use Rattle.sci_history.proofs.shortcuts.without_shortcuts.Goals as goal
 
 pub loop-place-preserved : goal.loop-place-preserved
 loop-place-preserved c =

@@ -1,6 +1,5 @@
 use Rattle.std.proofs.Common.{sym, ◌∙◌, arith}
-use Rattle.sci_history.proofs.Cycles.{got}
-use Rattle.sci_history.proofs.Waits.{none_more}
+use Rattle.sci_history.proofs.{Cycles.{got}, Waits.{none_more}}
 use Rattle.sci_history.proofs.waiting.blocker_in.Goals as goal
 
 pub loop-place-preserved : goal.loop-place-preserved

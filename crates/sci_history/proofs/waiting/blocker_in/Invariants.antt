@@ -1,7 +1,6 @@
 use Rattle.std.proofs.Common.{◌≡◌, ◌≤◌, ◌<◌, ℕ, Some, None}
 use Rattle.std.specs.Prelude.{slice_get}
-use Rattle.sci_history.specs.declared.entry.Entry.{Entry}
-use Rattle.sci_history.specs.Placing.{line_reason}
+use Rattle.sci_history.specs.{declared.entry.Entry.{Entry}, Placing.{line_reason}}
 use Rattle.sci_history.proofs.waiting.blocker_in.Given as goal
 
 -- none of those so far comes before the entry

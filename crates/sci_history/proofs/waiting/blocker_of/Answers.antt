@@ -1,6 +1,5 @@
 use Rattle.std.proofs.Common.{◌≡◌, None}
-use Rattle.sci_history.specs.declared.entry.Entry.{Entry}
-use Rattle.sci_history.specs.Placing.{line_reason}
+use Rattle.sci_history.specs.{declared.entry.Entry.{Entry}, Placing.{line_reason}}
 use Rattle.sci_history.proofs.Waits.{all_left}
 use Rattle.sci_history.proofs.waiting.blocker_of.Goals as goal
 

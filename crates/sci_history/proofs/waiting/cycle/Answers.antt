@@ -1,15 +1,13 @@
 use Rattle.std.specs.Global.{Vec}
 use Rattle.std.proofs.Common.{◌-◌, ◌*◌, take, drop, ◌≡◌, ◌+◌, ◌≤◌, ℕ, Some, length, set, ap, sym, subst, ◌∙◌, arith}
-use Rattle.std.proofs.lemmas.List.{length-set}
-use Rattle.std.proofs.lemmas.Result.{IfOk-weaker}
+use Rattle.std.proofs.lemmas.{List.{length-set}, Result.{IfOk-weaker}}
 use Rattle.sci_words.specs.declared.limits.TheConstants.{MAX_NODES}
-use Rattle.sci_history.specs.Cycle.{HasNoShortcut, IsCycle}
-use Rattle.sci_history.specs.Shortcuts.{IsBareRoundOf}
+use Rattle.sci_history.specs.{Cycle.{HasNoShortcut, IsCycle}, Shortcuts.{IsBareRoundOf}}
 use Rattle.sci_history.specs.declared.order_verdict.Step.{Step}
 use Rattle.sci_history.proofs.Shortening.{cycle_kept}
 use Rattle.sci_history.proofs.Walks.{IsWalking, sliced, walk_closes, walk_ends, walk_more, walk_short}
-use Rattle.sci_history.proofs.waiting.cycle.Goals as goal
 use Rattle.sci_history.proofs.waiting.cycle.Goals.{After-deref}
+use Rattle.sci_history.proofs.waiting.cycle.Goals as goal
 
 -- the steps from the first at the node on
 closing : (c : After-deref) → IsCycle c.args.logs.now (take (length c.deref.result.now - c.in-Some.start) (drop c.in-Some.start c.deref.result.now))

@@ -1,9 +1,7 @@
 use Rattle.std.proofs.Common.{◌≡◌, None, ℕ, arith}
 use borrow.Author.Count.{below_more}
 use Rattle.std.specs.List.{AllByRecursion}
-use Rattle.sci_history.specs.declared.entry.Entry.{Entry}
-use Rattle.sci_history.specs.Placed.{log_of}
-use Rattle.sci_history.specs.Placing.{line_reason, rests_of}
+use Rattle.sci_history.specs.{declared.entry.Entry.{Entry}, Placed.{log_of}, Placing.{line_reason, rests_of}}
 use Rattle.sci_history.proofs.Waits.{all_nodes}
 use Rattle.sci_history.proofs.waiting.find_blocker.Goals as goal
 

@@ -1,7 +1,6 @@
 use Rattle.std.proofs.Common.{◌≡◌, ◌<◌, ℕ, None}
 use Rattle.std.specs.List.{AllByRecursion}
-use Rattle.sci_history.specs.Placed.{log_of}
-use Rattle.sci_history.specs.Placing.{line_reason, rests_of}
+use Rattle.sci_history.specs.{Placed.{log_of}, Placing.{line_reason, rests_of}}
 use Rattle.sci_history.proofs.waiting.find_blocker.Given as goal
 
 -- none of the nodes so far has one

@@ -1,6 +1,5 @@
 use Rattle.std.proofs.Common.{◌++◌, ◌∷◌, [], List, append_assoc, get_or, length, refl, ap, ◌∙◌, arith}
-use Rattle.sci_history.specs.declared.order_verdict.Step.{Step}
-use Rattle.sci_history.specs.declared.order_verdict.Reason.TheVariants.{Logged}
+use Rattle.sci_history.specs.declared.order_verdict.{Step.{Step}, Reason.TheVariants.{Logged}}
 use Rattle.sci_history.proofs.AuditFinds.{no_entry}
 use Rattle.sci_history.proofs.Waits.{begins_at, behind_at, blocker_below, leads_one, leads_two, never_free}
 use Rattle.sci_history.proofs.waiting.push_wait.Goals as goal

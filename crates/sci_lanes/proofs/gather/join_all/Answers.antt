@@ -1,8 +1,6 @@
 use Rattle.std.proofs.Common.{◌≡◌, ◌+◌, [], ◌∷◌, ◌++◌, sym, ap, subst, ◌∙◌, arith, map}
-use Rattle.std.specs.Prelude.{slice_get}
-use Rattle.std.specs.List.{remove}
-use Rattle.sci_lanes.specs.Ends.{EndOf, nodes_in}
-use Rattle.sci_lanes.specs.Gathering.{HasTurns}
+use Rattle.std.specs.{Prelude.{slice_get}, List.{remove}}
+use Rattle.sci_lanes.specs.{Ends.{EndOf, nodes_in}, Gathering.{HasTurns}}
 use Rattle.sci_lanes.proofs.Joining.{AreJoining, mapped_at, mapped_less, one_joined}
 use Rattle.sci_lanes.proofs.gather.join_all.Goals as goal
 

@@ -1,10 +1,7 @@
-use Rattle.std.proofs.Common.{◌≡◌, ℕ, inl, inr, map, Some, ap, subst, ◌∙◌, arith}
+use Rattle.std.proofs.{Common.{◌≡◌, ℕ, inl, inr, map, Some, ap, subst, ◌∙◌, arith}, lemmas.Bool.{cases_lt}}
+use Rattle.std.proofs.lemmas.{List.{length-map}, Option.{slice_get_within}}
 use Rattle.std.specs.Prelude.{slice_get}
-use Rattle.std.proofs.lemmas.Bool.{cases_lt}
-use Rattle.std.proofs.lemmas.List.{length-map}
-use Rattle.std.proofs.lemmas.Option.{slice_get_within}
-use Rattle.sci_lanes.specs.Shown.{me_of}
-use Rattle.sci_lanes.specs.Ends.{EndOf}
+use Rattle.sci_lanes.specs.{Shown.{me_of}, Ends.{EndOf}}
 use Rattle.sci_lanes.proofs.Joining.{mapped_at}
 use Rattle.sci_lanes.proofs.gather.place_of.Goals as goal
 

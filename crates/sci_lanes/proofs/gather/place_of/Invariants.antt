@@ -1,8 +1,7 @@
 -- None of the ends so far has this number.
 use Rattle.std.proofs.Common.{◌≡◌, ◌≢◌, ℕ, ◌<◌, map, Some}
 use Rattle.std.specs.Prelude.{slice_get}
-use Rattle.sci_lanes.specs.Shown.{me_of}
-use Rattle.sci_lanes.specs.Ends.{EndOf}
+use Rattle.sci_lanes.specs.{Shown.{me_of}, Ends.{EndOf}}
 use Rattle.sci_lanes.proofs.gather.place_of.Given as goal
 
 abbrev pub invariant-loop-place : goal.invariant-loop-place

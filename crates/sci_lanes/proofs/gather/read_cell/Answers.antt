@@ -1,8 +1,6 @@
 use Rattle.std.proofs.Common.{◌≡◌, ◌++◌, ◌∷◌, [], refl, ap, ◌∙◌, length}
-use Rattle.sci_packets.specs.declared.packet.Packet.{Packet}
-use Rattle.sci_packets.specs.Spelling.{words_of}
-use Rattle.sci_lanes.proofs.Calls.{ok_first, ok_err}
-use Rattle.sci_lanes.proofs.Reading.{spelled_here}
+use Rattle.sci_packets.specs.{declared.packet.Packet.{Packet}, Spelling.{words_of}}
+use Rattle.sci_lanes.proofs.{Calls.{ok_first, ok_err}, Reading.{spelled_here}}
 use Rattle.sci_lanes.proofs.gather.read_cell.Goals as goal
 
 pub returns-in-Ok-clause-full : goal.returns-in-Ok-clause-full

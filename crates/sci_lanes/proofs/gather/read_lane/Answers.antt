@@ -1,5 +1,4 @@
-use Rattle.std.proofs.Common.{◌+◌, ◌*◌, ◌%◌, ◌≤◌, List, length, map, ap, ◌∙◌, arith}
-use Rattle.std.proofs.lemmas.List.{take_all}
+use Rattle.std.proofs.{Common.{◌+◌, ◌*◌, ◌%◌, ◌≤◌, List, length, map, ap, ◌∙◌, arith}, lemmas.List.{take_all}}
 use Rattle.sci_packets.specs.declared.packet.Packet.{Packet}
 use Rattle.sci_cache.specs.Cache.{letter_of}
 use Rattle.sci_lanes.proofs.Reading.{one_more}

@@ -2,9 +2,7 @@
 use Rattle.std.proofs.Common.{◌≡◌, ◌%◌, ◌≤◌, List, length, take}
 use Rattle.std.specs.VecDeque.{deque_len, deque_capacity}
 use Rattle.sci_packets.specs.declared.packet.Packet.{Packet}
-use Rattle.sci_lanes.specs.declared.view.Outbound.{Outbound}
-use Rattle.sci_lanes.specs.declared.view.Inbound.{Inbound}
-use Rattle.sci_lanes.specs.Shown.{Fits}
+use Rattle.sci_lanes.specs.{declared.view.{Outbound.{Outbound}, Inbound.{Inbound}}, Shown.{Fits}}
 use Rattle.sci_lanes.proofs.gather.read_lane.Given as goal
 
 abbrev pub invariant-loop-passed : goal.invariant-loop-passed

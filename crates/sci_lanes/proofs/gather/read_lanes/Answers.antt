@@ -1,11 +1,8 @@
 use Rattle.std.proofs.Common.{◌≡◌, ℕ, ◌+◌, ◌%◌, ◌/◌, ◌<◌, List, length, get_or, sym, ap, subst, ◌∙◌, arith}
-use Rattle.std.specs.List.{AllByRecursion}
-use Rattle.std.specs.VecDeque.{deque_len, deque_capacity}
 use Rattle.std.proofs.lemmas.List.{length_push}
+use Rattle.std.specs.{List.{AllByRecursion}, VecDeque.{deque_len, deque_capacity}}
 use Rattle.sci_cache.specs.Cache.{Letter}
-use Rattle.sci_lanes.specs.Cells.{lane_count}
-use Rattle.sci_lanes.specs.Shown.{Fits}
-use Rattle.sci_lanes.specs.Gathering.{AreLanes, HasFour}
+use Rattle.sci_lanes.specs.{Cells.{lane_count}, Shown.{Fits}, Gathering.{AreLanes, HasFour}}
 use Rattle.sci_lanes.proofs.Reading.{turn_there, lanes_more}
 use Rattle.sci_lanes.proofs.gather.read_lanes.Goals as goal
 

@@ -1,10 +1,7 @@
 -- The lanes so far are read, and there is room for the packets of the others.
 use Rattle.std.proofs.Common.{◌≡◌, ◌+◌, ◌≤◌, length}
-use Rattle.std.specs.Prelude.{vec_capacity}
-use Rattle.std.specs.List.{AllByRecursion}
-use Rattle.std.specs.VecDeque.{deque_len, deque_capacity}
-use Rattle.sci_lanes.specs.Cells.{lane_count}
-use Rattle.sci_lanes.specs.Gathering.{AreLanes, HasFour}
+use Rattle.std.specs.{Prelude.{vec_capacity}, List.{AllByRecursion}, VecDeque.{deque_len, deque_capacity}}
+use Rattle.sci_lanes.specs.{Cells.{lane_count}, Gathering.{AreLanes, HasFour}}
 use Rattle.sci_lanes.proofs.gather.read_lanes.Given as goal
 
 abbrev pub invariant-loop-room : goal.invariant-loop-room

@@ -3,9 +3,7 @@ use Rattle.std.proofs.lemmas.List.{length_push}
 use mathlib.Core.Option.{none}
 use Rattle.atomic_table.specs.Table.{Me, Allows, step}
 use Rattle.sci_core.specs.Size.{size_of}
-use Rattle.sci_lanes.specs.declared.view.View.{View}
-use Rattle.sci_lanes.specs.Shown.{IsKept}
-use Rattle.sci_lanes.specs.Gathering.{Gathers, HasNodes, IsReadOff}
+use Rattle.sci_lanes.specs.{declared.view.View.{View}, Shown.{IsKept}, Gathering.{Gathers, HasNodes, IsReadOff}}
 use Rattle.sci_lanes.specs.Cells.{word_count}
 use Rattle.sci_lanes.proofs.Gathering.{gathers}
 use Rattle.sci_lanes.proofs.gather.read_words.Goals as goal

@@ -1,8 +1,7 @@
 -- The seat has read the words so far, and if these are some, they are those of a state.
 use Rattle.std.proofs.Common.{◌≡◌, ◌≤◌, ◌<◌, []}
 use Rattle.std.specs.Prelude.{vec_capacity, length}
-use Rattle.sci_lanes.specs.Cells.{word_count}
-use Rattle.sci_lanes.specs.Gathering.{IsReadOff}
+use Rattle.sci_lanes.specs.{Cells.{word_count}, Gathering.{IsReadOff}}
 use Rattle.sci_lanes.proofs.gather.read_words.Given as goal
 
 abbrev pub invariant-loop-place : goal.invariant-loop-place

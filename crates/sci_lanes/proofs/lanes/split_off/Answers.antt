@@ -1,13 +1,9 @@
 use Rattle.std.proofs.Common.{◌≡◌, ◌<◌, ◌*◌, sym, ap, subst, ◌∙◌, arith}
-use Rattle.std.specs.Arc.{arc_value}
-use Rattle.std.specs.Prelude.{IfOk, replicate}
+use Rattle.std.specs.{Arc.{arc_value}, Prelude.{IfOk, replicate}}
 use Rattle.atomic_table.specs.Table.{Splits}
 use Rattle.sci_core.specs.Size.{size_of}
-use Rattle.sci_lanes.specs.declared.view.Part.{Part}
-use Rattle.sci_lanes.specs.Cells.{lane_count}
-use Rattle.sci_lanes.specs.Shown.{IsKept, opening_part}
-use Rattle.sci_lanes.specs.Telling.{part_of}
-use Rattle.sci_lanes.specs.Ends.{EndOf, FitsInside, IsSeated, first_off, first_only}
+use Rattle.sci_lanes.specs.{declared.view.Part.{Part}, Cells.{lane_count}, Shown.{IsKept, opening_part}}
+use Rattle.sci_lanes.specs.{Telling.{part_of}, Ends.{EndOf, FitsInside, IsSeated, first_off, first_only}}
 use Rattle.sci_lanes.proofs.Opening.{machine_size, split_asks, knows_after, knows_new, inside_opened, seated_opened}
 use Rattle.sci_lanes.proofs.lanes.split_off.Goals as goal
 

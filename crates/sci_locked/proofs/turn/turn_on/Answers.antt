@@ -1,10 +1,8 @@
 use Rattle.std.proofs.Common.{◌≡◌, ℕ, refl, sym, subst, rules}
 use Rattle.sci_core.specs.Core.{Core}
 use Rattle.sci_policy.specs.Policy.{turned}
-use Rattle.sci_turn.specs.Far.{HasAskedAll}
-use Rattle.sci_turn.specs.Posts.{IsPost}
-use Rattle.sci_turn.proofs.Idling.{may_idle}
-use Rattle.sci_turn.proofs.Working.{post_after}
+use Rattle.sci_turn.specs.{Far.{HasAskedAll}, Posts.{IsPost}}
+use Rattle.sci_turn.proofs.{Idling.{may_idle}, Working.{post_after}}
 use Rattle.sci_locked.specs.Lent.{post_at}
 use Rattle.sci_locked.proofs.Lanes.{alone_still}
 use Rattle.sci_locked.proofs.turn.turn_on.Goals as goal

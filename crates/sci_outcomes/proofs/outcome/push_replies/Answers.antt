@@ -1,6 +1,4 @@
-use Rattle.std.proofs.Common.{arith}
-use Rattle.std.proofs.lemmas.Grind.{common_steps}
-use Rattle.std.proofs.lemmas.List.Elements.{filter_map-append}
+use Rattle.std.proofs.{Common.{arith}, lemmas.{Grind.{common_steps}, List.Elements.{filter_map-append}}}
 use Rattle.sci_outcomes.proofs.outcome.push_replies.Goals.{in-Some+in_ok-push, in_default}
 use Rattle.sci_outcomes.proofs.outcome.push_replies.Goals as goal
 

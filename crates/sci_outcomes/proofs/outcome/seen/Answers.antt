@@ -1,7 +1,5 @@
 use Rattle.std.proofs.Common.{◌∙◌, ap, sym, subst, length, List}
-use Rattle.sci_history.specs.declared.entry.Entry.{Entry}
-use Rattle.sci_history.specs.Audit.{AreWithin}
-use Rattle.sci_history.specs.Lawful.{Lawful}
+use Rattle.sci_history.specs.{declared.entry.Entry.{Entry}, Audit.{AreWithin}, Lawful.{Lawful}}
 use Rattle.sci_history.specs.Sequential.{IsSequentiallyConsistent}
 use Rattle.sci_outcomes.specs.Outcomes.{replies_in}
 use Rattle.sci_outcomes.proofs.outcome.seen.Goals as goal

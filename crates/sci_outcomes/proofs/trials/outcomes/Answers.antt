@@ -1,6 +1,5 @@
 use Rattle.std.proofs.Common.{subst}
-use Rattle.sci_outcomes.specs.declared.trials.Turns.{Turns}
-use Rattle.sci_outcomes.specs.Trials.{IsSightingOf, turns_of_run}
+use Rattle.sci_outcomes.specs.{declared.trials.Turns.{Turns}, Trials.{IsSightingOf, turns_of_run}}
 use Rattle.sci_outcomes.proofs.Sightings.{seen_more}
 use Rattle.sci_outcomes.proofs.trials.outcomes.Goals as goal
 

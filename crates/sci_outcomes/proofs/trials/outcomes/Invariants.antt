@@ -1,7 +1,5 @@
 use Rattle.std.proofs.Common.{◌≡◌, List, length}
-use Rattle.sci_outcomes.specs.declared.outcome.Sighting.{Sighting}
-use Rattle.sci_outcomes.specs.Rows.{HasCounted}
-use Rattle.sci_outcomes.specs.Trials.{AreSightings}
+use Rattle.sci_outcomes.specs.{declared.outcome.Sighting.{Sighting}, Rows.{HasCounted}, Trials.{AreSightings}}
 use Rattle.sci_outcomes.proofs.trials.outcomes.Given as goal
 
 -- what was seen of the runs so far

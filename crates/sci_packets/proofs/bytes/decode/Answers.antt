@@ -1,9 +1,8 @@
-use Rattle.std.proofs.Common.{arith, Err, Ok}
-use Rattle.std.proofs.lemmas.Result.{err_from_is_err_and}
+use Rattle.std.proofs.{Common.{arith, Err, Ok}, lemmas.Result.{err_from_is_err_and}}
 use Rattle.sci_packets.specs.declared.fault.PacketFault.TheVariants.{Short}
 use Rattle.sci_packets.proofs.Packets.{Found, only_found, none_found, none_refused, is_found, too_short}
-use Rattle.sci_packets.proofs.bytes.decode.Goals as goal
 use Rattle.sci_packets.proofs.bytes.decode.Goals.{After-size_of-len}
+use Rattle.sci_packets.proofs.bytes.decode.Goals as goal
 
 found : (c : After-size_of-len) → Found c.in_ok-packet.packet c.size_of-len.result c.args.bytes.now
 found c =

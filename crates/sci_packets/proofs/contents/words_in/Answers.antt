@@ -1,6 +1,4 @@
-use Rattle.std.proofs.Common.{arith, inl, inr}
-use Rattle.std.proofs.lemmas.Bool.{cases_lt}
-use Rattle.std.proofs.lemmas.List.{get_or_past}
+use Rattle.std.proofs.{Common.{arith, inl, inr}, lemmas.{Bool.{cases_lt}, List.{get_or_past}}}
 use Rattle.sci_packets.proofs.contents.words_in.Goals as goal
 
 pub returns-clause-fits : goal.returns-clause-fits

@@ -1,14 +1,11 @@
-use Rattle.std.proofs.Common.{◌≡◌, ◌/◌, Some, Ok, Err, refl, arith}
-use Rattle.std.proofs.lemmas.Result.{err_from_is_err_and}
-use Rattle.sci_packets.specs.declared.fault.PacketFault.TheVariants.{Short}
-use Rattle.sci_packets.specs.Fault.{fault_of, fault_of_words}
+use Rattle.std.proofs.{Common.{◌≡◌, ◌/◌, Some, Ok, Err, refl, arith}, lemmas.Result.{err_from_is_err_and}}
+use Rattle.sci_packets.specs.{declared.fault.PacketFault.TheVariants.{Short}, Fault.{fault_of, fault_of_words}}
 use Rattle.sci_packets.specs.Fields.{word_bytes}
-use Rattle.sci_packets.proofs.Fields.{length-word_bytes}
-use Rattle.sci_packets.proofs.FromWords.{Only, only_words, none_in_words}
+use Rattle.sci_packets.proofs.{Fields.{length-word_bytes}, FromWords.{Only, only_words, none_in_words}}
 use Rattle.sci_packets.proofs.Packets.{Found, only_found, is_found, too_short}
 use Rattle.sci_packets.proofs.WordLaws.{BeginsWords, begins_words, word_bytes-fits}
-use Rattle.sci_packets.proofs.words.from_words.Goals as goal
 use Rattle.sci_packets.proofs.words.from_words.Goals.{Then-words-lt-SHORT_WORDS, After-from_residual, After-size_of}
+use Rattle.sci_packets.proofs.words.from_words.Goals as goal
 
 none_if_short : (c : Then-words-lt-SHORT_WORDS) → Some Short ≡ fault_of (word_bytes c.args.words.now)
 none_if_short c = too_short (word_bytes c.args.words.now) (omega (arith, length-word_bytes c.args.words.now))

@@ -1,6 +1,5 @@
 use Rattle.std.proofs.Common.{arith}
-use Rattle.sci_packets.proofs.Packets.{packet_made}
-use Rattle.sci_packets.proofs.WordLaws.{length-words_of, two_written, eleven_written}
+use Rattle.sci_packets.proofs.{Packets.{packet_made}, WordLaws.{length-words_of, two_written, eleven_written}}
 use Rattle.sci_packets.proofs.words.to_words.Goals as goal
 
 pub returns-in-None-clause-words : goal.returns-in-None-clause-words

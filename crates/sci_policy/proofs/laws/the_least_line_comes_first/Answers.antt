@@ -1,5 +1,4 @@
-use Rattle.sci_policy.proofs.Found.{least_fits}
-use Rattle.sci_policy.proofs.Least.{least_first}
+use Rattle.sci_policy.proofs.{Found.{least_fits}, Least.{least_first}}
 use Rattle.sci_policy.proofs.laws.the_least_line_comes_first.Goals as goal
 
 pub returns-clause-fits : goal.returns-clause-fits

@@ -1,5 +1,4 @@
-use Rattle.std.proofs.Common.{◌≡◌, ◌&&◌, ℕ, Bool, Some, None, true, sym, ap, ◌∙◌, inl, inr}
-use Rattle.std.proofs.lemmas.Bool.{cases_lt}
+use Rattle.std.proofs.{Common.{◌≡◌, ◌&&◌, ℕ, Bool, Some, None, true, sym, ap, ◌∙◌, inl, inr}, lemmas.Bool.{cases_lt}}
 use Rattle.sci_cache.specs.Kinds.{is_of}
 use Rattle.sci_core.specs.Node.{lines_of}
 use Rattle.sci_policy.specs.Lines.{state_on}

@@ -1,8 +1,7 @@
 use Rattle.std.proofs.Common.{◌≡◌, ◌≤◌, ◌<◌, ◌-◌, ◌&&◌, ℕ, Bool, false}
 use Rattle.sci_cache.specs.Kinds.{is_of}
 use Rattle.sci_core.specs.Node.{lines_of}
-use Rattle.sci_policy.specs.Lines.{state_on}
-use Rattle.sci_policy.specs.Scan.{IsTest}
+use Rattle.sci_policy.specs.{Lines.{state_on}, Scan.{IsTest}}
 use Rattle.sci_policy.proofs.lines.least_with.Given as goal
 
 -- none of the lines so far is of the kind and passes

@@ -1,11 +1,11 @@
 use Rattle.std.proofs.Common.{rules, ◌≡◌, ◌<◌, ◌≤◌, ◌&&◌, ℕ, Bool, Option, Some, true, false, refl, sym, ◌∙◌, arith}
 use Rattle.sci_cache.specs.declared.line_kind.LineKind.{LineKind}
 use Rattle.sci_core.specs.Node.{NodeOf, lines_of, pending_on}
-use Rattle.sci_policy.specs.Lines.{has_pending, state_on}
-use Rattle.sci_policy.specs.Scan.{is_of_named}
-use Rattle.sci_policy.proofs.Oldest.{IsFoundBelow, IsNarrowed, line_found, none_up_to, of_kind, of_no_kind, nothing_pending, older_found, not_meant, not_older}
-use Rattle.sci_policy.proofs.lines.oldest.Goals as goal
+use Rattle.sci_policy.specs.{Lines.{has_pending, state_on}, Scan.{is_of_named}}
+use Rattle.sci_policy.proofs.Oldest.{IsFoundBelow, IsNarrowed, line_found, none_up_to, of_kind, of_no_kind, nothing_pending, older_found, not_meant}
+use Rattle.sci_policy.proofs.Oldest.{not_older}
 use Rattle.sci_policy.proofs.lines.oldest.Goals.{else-is_older-via-then-is_older+else-test, else-is_older-via-else-is_older}
+use Rattle.sci_policy.proofs.lines.oldest.Goals as goal
 
 -- what was found so far is what there is up to a line, if no line between is of the kind and has an operation pending
 up_to : (node : NodeOf) (kind : Option LineKind) (IsMeant : (ℕ → Bool) → Type 0) (k n : ℕ) (found : Option (ℕ × ℕ)) → k ≤ n

@@ -1,7 +1,6 @@
 use Rattle.std.proofs.Common.{◌≤◌, ◌-◌}
 use Rattle.sci_core.specs.Node.{lines_of}
-use Rattle.sci_policy.specs.Lines.{state_on}
-use Rattle.sci_policy.specs.Scan.{IsTest, is_of_named}
+use Rattle.sci_policy.specs.{Lines.{state_on}, Scan.{IsTest, is_of_named}}
 use Rattle.sci_policy.proofs.Oldest.{IsFoundBelow, IsNarrowed}
 use Rattle.sci_policy.proofs.lines.oldest.Given as goal
 

@@ -1,8 +1,7 @@
 use Rattle.std.proofs.Common.{◌≡◌, ◌-◌, ℕ, Bool}
 use Rattle.sci_cache.specs.Kinds.{is_of}
 use Rattle.sci_core.specs.Node.{lines_of}
-use Rattle.sci_policy.specs.Lines.{state_on}
-use Rattle.sci_policy.specs.Policy.{set_of}
+use Rattle.sci_policy.specs.{Lines.{state_on}, Policy.{set_of}}
 use Rattle.sci_policy.proofs.Marks.{AreJoined}
 use Rattle.sci_policy.proofs.policy.with_kind.Given as goal
 

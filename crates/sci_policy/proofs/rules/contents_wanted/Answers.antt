@@ -1,9 +1,6 @@
 use Rattle.std.proofs.Common.{rules, ◌≡◌, ◌&&◌, ℕ, None, sym, ap, ◌∙◌}
-use Rattle.std.specs.Prelude.{is_some}
-use Rattle.std.specs.Option.{option_and_then}
-use Rattle.sci_policy.specs.Lines.{oldest, state_on}
-use Rattle.sci_policy.specs.Policy.{operation_asks}
-use Rattle.sci_policy.specs.Scan.{is_of_named}
+use Rattle.std.specs.{Prelude.{is_some}, Option.{option_and_then}}
+use Rattle.sci_policy.specs.{Lines.{oldest, state_on}, Policy.{operation_asks}, Scan.{is_of_named}}
 use Rattle.sci_policy.proofs.Oldest.{oldest_of_kind}
 use Rattle.sci_policy.proofs.rules.contents_wanted.Goals as goal
 

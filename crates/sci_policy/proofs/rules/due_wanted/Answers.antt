@@ -1,8 +1,7 @@
 use Rattle.std.proofs.Common.{rules, ◌≡◌, ℕ, ap, ◌∙◌}
 use Rattle.std.specs.Prelude.{option_map}
 use Rattle.sci_words.specs.declared.event.AskKind.TheVariants.{Claim}
-use Rattle.sci_policy.specs.declared.want.Want.TheVariants.{Ask}
-use Rattle.sci_policy.specs.Policy.{has}
+use Rattle.sci_policy.specs.{declared.want.Want.TheVariants.{Ask}, Policy.{has}}
 use Rattle.sci_policy.proofs.rules.due_wanted.Goals as goal
 
 pub returns : goal.returns

@@ -2,8 +2,7 @@ use Rattle.std.proofs.Common.{rules, ◌≡◌, ap, ◌∙◌}
 use Rattle.std.specs.Prelude.{is_some, option_map}
 use Rattle.sci_cache.specs.Kinds.{could_give_way}
 use Rattle.sci_core.specs.Node.{node_performing}
-use Rattle.sci_policy.specs.declared.want.Want.TheVariants.{Perform}
-use Rattle.sci_policy.specs.Lines.{state_on}
+use Rattle.sci_policy.specs.{declared.want.Want.TheVariants.{Perform}, Lines.{state_on}}
 use Rattle.sci_policy.proofs.Oldest.{oldest_of_kind}
 use Rattle.sci_policy.proofs.rules.perform_wanted.Goals as goal
 

@@ -1,9 +1,7 @@
 use Rattle.std.proofs.Common.{rules, ◌≡◌, ◌||◌, ℕ, ap, ◌∙◌}
 use Rattle.std.specs.Prelude.{option_map}
 use Rattle.sci_words.specs.declared.event.AskKind.TheVariants.{Purge}
-use Rattle.sci_policy.specs.declared.want.Want.TheVariants.{Ask}
-use Rattle.sci_policy.specs.Lines.{has_pending}
-use Rattle.sci_policy.specs.Policy.{has}
+use Rattle.sci_policy.specs.{declared.want.Want.TheVariants.{Ask}, Lines.{has_pending}, Policy.{has}}
 use Rattle.sci_policy.proofs.rules.purge_wanted.Goals as goal
 
 pub returns : goal.returns

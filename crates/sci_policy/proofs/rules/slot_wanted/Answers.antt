@@ -1,13 +1,9 @@
 -- A slot is wanted for the oldest operation.
 use Rattle.std.proofs.Common.{rules, ◌≡◌, ◌&&◌, ℕ, not, Bool, true, false, if◌then◌else◌, Some, None, refl, sym, ap, ◌∙◌}
-use Rattle.std.specs.Prelude.{is_some}
-use Rattle.std.specs.Option.{option_and_then}
-use Rattle.sci_cache.specs.Kinds.{could_give_way, gives_way}
-use Rattle.sci_cache.specs.State.{is_out}
-use Rattle.sci_cache.specs.Cache.{has_slot}
+use Rattle.std.specs.{Prelude.{is_some}, Option.{option_and_then}}
+use Rattle.sci_cache.specs.{Kinds.{could_give_way, gives_way}, State.{is_out}, Cache.{has_slot}}
 use Rattle.sci_core.specs.Node.{NodeOf}
-use Rattle.sci_policy.specs.Lines.{least, oldest, some_line, state_on}
-use Rattle.sci_policy.specs.Policy.{ask_of, lacks_slot, slot_for}
+use Rattle.sci_policy.specs.{Lines.{least, oldest, some_line, state_on}, Policy.{ask_of, lacks_slot, slot_for}}
 use Rattle.sci_policy.proofs.rules.slot_wanted.Goals as goal
 
 -- whom the oldest operation's line has to give way, if it lacks a slot

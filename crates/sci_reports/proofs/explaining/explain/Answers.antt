@@ -1,7 +1,5 @@
 use Rattle.std.proofs.Common.{rules, sym}
-use Rattle.sci_text.specs.LogFault.{IsLogFault}
-use Rattle.sci_text.specs.FirstFault.{IsTold}
-use Rattle.sci_text.specs.Tap.{has_failed, tapped}
+use Rattle.sci_text.specs.{LogFault.{IsLogFault}, FirstFault.{IsTold}, Tap.{has_failed, tapped}}
 use Rattle.sci_command.proofs.Answers.{answer_made, answer_refused}
 use Rattle.sci_reports.specs.ExplainAnswer.{IsExplainAnswer, IsExplanationOf}
 use Rattle.sci_reports.proofs.Answered.{explained_judged}

@@ -1,5 +1,4 @@
-use Rattle.std.proofs.Common.{◌≡◌, true, false, arith, get_or, take}
-use Rattle.std.proofs.lemmas.Bool.Decides.{nat_tests}
+use Rattle.std.proofs.{Common.{◌≡◌, true, false, arith, get_or, take}, lemmas.Bool.Decides.{nat_tests}}
 use Rattle.sci_history.specs.Audit.{is_version_missing}
 use Rattle.sci_reports.specs.EntryLines.{entries_in}
 use Rattle.sci_reports.proofs.FoundEntries.{fails_here, fails_later, no_numbered}

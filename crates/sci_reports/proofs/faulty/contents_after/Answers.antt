@@ -1,12 +1,11 @@
-use Rattle.std.proofs.Common.{◌<◌, arith, ap}
-use Rattle.std.proofs.lemmas.Grind.{common_steps}
+use Rattle.std.proofs.{Common.{◌<◌, arith, ap}, lemmas.Grind.{common_steps}}
 use Rattle.sci_words.specs.declared.limits.TheConstants.{WORDS_PER_LINE}
 use Rattle.sci_history.specs.declared.entry.Entry.{Entry}
 use Rattle.sci_history.proofs.AuditFinds.{words_more}
 use Rattle.sci_reports.specs.EntryLines.{entry_refs}
 use Rattle.sci_reports.proofs.FoundEntries.{all_so, ref_at, within_refs}
-use Rattle.sci_reports.proofs.faulty.contents_after.Goals as goal
 use Rattle.sci_reports.proofs.faulty.contents_after.Goals.{then-from-lt-WORDS_PER_LINE, else-from-lt-WORDS_PER_LINE}
+use Rattle.sci_reports.proofs.faulty.contents_after.Goals as goal
 
 pub loop-at-preserved : goal.loop-at-preserved
 loop-at-preserved c = λ within.

@@ -1,10 +1,8 @@
 use Rattle.std.proofs.Common.{◌≡◌, ◌<◌, Option, Some, None, true, false, arith, ap, get_or, inl, inr, length, set, sym, take, ◌∙◌}
+use Rattle.std.proofs.lemmas.{Bool.{cases_eq}, List.{get_or-set_same, get_or-set_other, get_or_default, length-set}}
 use Rattle.std.specs.Prelude.{option_map}
-use Rattle.std.proofs.lemmas.Bool.{cases_eq}
-use Rattle.std.proofs.lemmas.List.{get_or-set_same, get_or-set_other, get_or_default, length-set}
 use Rattle.sci_words.specs.declared.limits.TheConstants.{MAX_NODES}
-use Rattle.sci_history.specs.declared.entry.Entry.{Entry}
-use Rattle.sci_history.specs.Audit.{breaks_order, is_out_of_order}
+use Rattle.sci_history.specs.{declared.entry.Entry.{Entry}, Audit.{breaks_order, is_out_of_order}}
 use Rattle.sci_history.proofs.AuditFinds.{latest_other, latest_own}
 use Rattle.sci_reports.specs.EntryLines.{entries_in, entry_of, entry_refs}
 use Rattle.sci_reports.proofs.FoundEntries.{all_so, fails_here, fails_later, no_numbered, ref_at, within_refs}

@@ -1,9 +1,7 @@
 use Rattle.std.proofs.Common.{◌≡◌, ◌<◌, ℕ, None, get_or, length, take}
-use Rattle.std.specs.Prelude.{All, option_map}
-use Rattle.std.specs.List.{filter}
+use Rattle.std.specs.{Prelude.{All, option_map}, List.{filter}}
 use Rattle.sci_words.specs.declared.limits.TheConstants.{MAX_NODES}
-use Rattle.sci_history.specs.Placed.{is_of_node}
-use Rattle.sci_history.specs.Audit.{is_out_of_order, last_entry}
+use Rattle.sci_history.specs.{Placed.{is_of_node}, Audit.{is_out_of_order, last_entry}}
 use Rattle.sci_history.proofs.AuditFinds.{FailsLater}
 use Rattle.sci_reports.specs.EntryLines.{entries_in, entry_of, entry_refs}
 use Rattle.sci_reports.proofs.faulty.disordered.Given as goal

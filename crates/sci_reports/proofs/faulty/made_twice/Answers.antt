@@ -1,9 +1,6 @@
-use Rattle.std.proofs.Common.{◌≡◌, true, false, arith, ap, get_or, take}
-use Rattle.std.proofs.lemmas.Bool.Decides.{nat_tests}
+use Rattle.std.proofs.{Common.{◌≡◌, true, false, arith, ap, get_or, take}, lemmas.Bool.Decides.{nat_tests}}
 use Rattle.std.proofs.lemmas.Grind.{common_steps}
-use Rattle.sci_history.specs.declared.entry.Entry.{Entry}
-use Rattle.sci_history.specs.Placed.{makes}
-use Rattle.sci_history.specs.Audit.{is_version_twice}
+use Rattle.sci_history.specs.{declared.entry.Entry.{Entry}, Placed.{makes}, Audit.{is_version_twice}}
 use Rattle.sci_history.proofs.AuditFinds.{made_more}
 use Rattle.sci_reports.specs.EntryLines.{entries_in, entry_refs}
 use Rattle.sci_reports.proofs.FoundEntries.{fails_here, fails_later, no_numbered, ref_at, within_refs}

@@ -1,10 +1,6 @@
 use Rattle.std.proofs.Common.{◌≡◌, ℕ, take}
-use Rattle.std.specs.Prelude.{is_some}
-use Rattle.std.specs.Ordering.{nat_cmp}
-use Rattle.std.specs.BTreeMap.{get}
-use Rattle.std.specs.List.{list_any}
-use Rattle.sci_history.specs.Placed.{makes}
-use Rattle.sci_history.specs.Audit.{is_version_twice}
+use Rattle.std.specs.{Prelude.{is_some}, Ordering.{nat_cmp}, BTreeMap.{get}, List.{list_any}}
+use Rattle.sci_history.specs.{Placed.{makes}, Audit.{is_version_twice}}
 use Rattle.sci_history.proofs.AuditFinds.{FailsLater}
 use Rattle.sci_reports.specs.EntryLines.{entries_in, entry_refs}
 use Rattle.sci_reports.proofs.faulty.made_twice.Given as goal

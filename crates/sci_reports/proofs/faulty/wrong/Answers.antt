@@ -1,9 +1,8 @@
 use Rattle.std.proofs.Common.{◌≡◌, ◌<◌, ℕ, List, Some, true, false, arith, rules, ap, get_or, take, ◌∙◌}
-use Rattle.std.specs.Prelude.{slice_index}
 use Rattle.std.proofs.lemmas.Grind.{common_steps}
+use Rattle.std.specs.Prelude.{slice_index}
 use Rattle.sci_words.specs.declared.limits.TheConstants.{WORDS_PER_LINE}
-use Rattle.sci_history.specs.declared.entry.Entry.{Entry}
-use Rattle.sci_history.specs.Audit.{is_reply_wrong}
+use Rattle.sci_history.specs.{declared.entry.Entry.{Entry}, Audit.{is_reply_wrong}}
 use Rattle.sci_history.proofs.AuditFinds.{words_more}
 use Rattle.sci_reports.specs.EntryLines.{entries_in, entry_refs}
 use Rattle.sci_reports.proofs.FoundEntries.{all_so, fails_here, fails_later, no_numbered, ref_at, stands_at, within_refs}

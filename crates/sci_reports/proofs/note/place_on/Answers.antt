@@ -1,7 +1,6 @@
-use Rattle.std.proofs.Common.{arith, inl, inr, length, sym}
-use Rattle.std.specs.Prelude.{◌==◌}
-use Rattle.std.proofs.lemmas.Bool.{cases_eq, eq-eqb, ne_eqb}
+use Rattle.std.proofs.{Common.{arith, inl, inr, length, sym}, lemmas.Bool.{cases_eq, eq-eqb, ne_eqb}}
 use Rattle.std.proofs.lemmas.List.Sums.{position_or_len_is}
+use Rattle.std.specs.Prelude.{◌==◌}
 use Rattle.sci_reports.proofs.FoundEntries.{no_numbered}
 use Rattle.sci_reports.proofs.note.place_on.Goals as goal
 

@@ -1,10 +1,9 @@
-use Rattle.std.proofs.Common.{◌<◌, arith, length, refl}
-use Rattle.std.proofs.lemmas.Bool.{eq-eqb, ne_eqb}
+use Rattle.std.proofs.{Common.{◌<◌, arith, length, refl}, lemmas.Bool.{eq-eqb, ne_eqb}}
 use Rattle.sci_history.proofs.AuditFinds.{no_entry}
 use Rattle.sci_reports.specs.EntryLines.{numberings}
 use Rattle.sci_reports.proofs.EntriesOn.{entry_more, entry_past}
-use Rattle.sci_reports.proofs.numbered.add_log.Goals as goal
 use Rattle.sci_reports.proofs.numbered.add_log.Goals.{then-entry-line+in_ok-push, else-entry-line}
+use Rattle.sci_reports.proofs.numbered.add_log.Goals as goal
 
 pub loop-entry-preserved : goal.loop-entry-preserved
 loop-entry-preserved c =

@@ -1,7 +1,6 @@
 -- The sorted logs are lawful too, and are searched as they stand.
 use Rattle.std.proofs.Common.{◌≡◌, ◌↔◌, length, sym, ◌∙◌, subst}
-use Rattle.sci_history.specs.Audit.{AreWithin}
-use Rattle.sci_history.specs.Cycle.{IsOrdered}
+use Rattle.sci_history.specs.{Audit.{AreWithin}, Cycle.{IsOrdered}}
 use Rattle.sci_command.specs.declared.outcome.Outcome.TheVariants.{Done, Refused}
 use Rattle.sci_reports.specs.OrderAnswer.{IsFound, IsOrderText}
 use Rattle.sci_reports.proofs.Orders.{if_ok_three, serial_found}

@@ -1,11 +1,9 @@
 -- The fault of logs that aren't lawful is what the audit found.
 use Rattle.std.proofs.Common.{◌≡◌, ◌↔◌, subst}
-use Rattle.sci_history.specs.declared.verdict.Verdict.{Verdict}
-use Rattle.sci_history.specs.declared.verdict.Verdict.TheVariants as verdicts
-use Rattle.sci_history.specs.Audit.{IsVerdict}
-use Rattle.sci_history.specs.Lawful.{Lawful}
+use Rattle.sci_history.specs.{declared.verdict.Verdict.{Verdict}, Audit.{IsVerdict}, Lawful.{Lawful}}
 use Rattle.sci_command.specs.VerdictLine.{verdict_text}
 use Rattle.sci_reports.proofs.Orders.{fault_found}
+use Rattle.sci_history.specs.declared.verdict.Verdict.TheVariants as verdicts
 use Rattle.sci_reports.proofs.ordering.found_if_lawful.Goals as goal
 
 pub returns-in_ok-verdict_line-in-Fault : goal.returns-in_ok-verdict_line-in-Fault

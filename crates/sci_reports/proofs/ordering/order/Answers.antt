@@ -1,7 +1,5 @@
 use Rattle.std.proofs.Common.{rules, sym}
-use Rattle.sci_text.specs.FirstFault.{IsTold}
-use Rattle.sci_text.specs.LogFault.{IsLogFault}
-use Rattle.sci_text.specs.Tap.{has_failed, tapped}
+use Rattle.sci_text.specs.{FirstFault.{IsTold}, LogFault.{IsLogFault}, Tap.{has_failed, tapped}}
 use Rattle.sci_command.proofs.Answers.{answer_made, answer_refused}
 use Rattle.sci_reports.specs.OrderAnswer.{IsOrderAnswer, IsOrderOf}
 use Rattle.sci_reports.proofs.ordering.order.Goals as goal

@@ -1,6 +1,5 @@
 use Rattle.std.proofs.Common.{List, map, sym, subst}
-use Rattle.sci_lanes.specs.Ends.{EndOf, LanesOf}
-use Rattle.sci_lanes.specs.Gathering.{AreOf}
+use Rattle.sci_lanes.specs.{Ends.{EndOf, LanesOf}, Gathering.{AreOf}}
 use Rattle.sci_running_tests.proofs.lane_tests.gathers.Goals as goal
 
 pub gather-requires-2 : goal.gather-requires-2

@@ -1,6 +1,4 @@
-use Rattle.std.proofs.Common.{◌≡◌, All, arith, sym, subst}
-use Rattle.std.proofs.lemmas.Grind.{common_steps}
-use Rattle.std.proofs.lemmas.List.Elements.{All-push}
+use Rattle.std.proofs.{Common.{◌≡◌, All, arith, sym, subst}, lemmas.{Grind.{common_steps}, List.Elements.{All-push}}}
 use Rattle.sci_policy.specs.Policy.{opening_policy}
 use Rattle.sci_runs.specs.declared.player.Player.{Player}
 use Rattle.sci_runs.proofs.player.new_players.Goals as goal

@@ -1,12 +1,8 @@
 use Rattle.std.proofs.Common.{◌≡◌, ℕ, List, refl, sym, subst, rules}
 use Rattle.std.specs.Prelude.{slice_index_or}
-use Rattle.sci_core.specs.Core.{Core, node_at}
-use Rattle.sci_core.specs.Node.{NodeOf, no_node}
-use Rattle.sci_policy.specs.Policy.{turned}
-use Rattle.sci_policy.specs.Rest.{MayIdle}
-use Rattle.sci_turn.specs.Far.{HasAskedAll}
-use Rattle.sci_turn.specs.Idle.{IsIdleTurn}
-use Rattle.sci_turn.specs.Moves.{IsTurn}
+use Rattle.sci_core.specs.{Core.{Core, node_at}, Node.{NodeOf, no_node}}
+use Rattle.sci_policy.specs.{Policy.{turned}, Rest.{MayIdle}}
+use Rattle.sci_turn.specs.{Far.{HasAskedAll}, Idle.{IsIdleTurn}, Moves.{IsTurn}}
 use Rattle.sci_locked.specs.Lent.{post_at}
 use Rattle.sci_runs.specs.Deeds.{IsWholeTurn}
 use Rattle.sci_runs.proofs.turn.turn_on.Goals as goal

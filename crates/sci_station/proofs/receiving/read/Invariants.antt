@@ -1,9 +1,6 @@
 use Rattle.std.proofs.Common.{◌≡◌, ◌≤◌, length, take}
-use Rattle.sci_lanes.specs.Shown.{inbound_at}
-use Rattle.sci_lanes.specs.Telling.{IsShown}
-use Rattle.sci_lanes.specs.Ends.{lane_at_cell}
-use Rattle.sci_station.specs.Budgets.{HasNoMore}
-use Rattle.sci_station.specs.Ends.{IsStill, LeavesOthers}
+use Rattle.sci_lanes.specs.{Shown.{inbound_at}, Telling.{IsShown}, Ends.{lane_at_cell}}
+use Rattle.sci_station.specs.{Budgets.{HasNoMore}, Ends.{IsStill, LeavesOthers}}
 use Rattle.sci_station.proofs.receiving.read.Given as goal
 
 abbrev pub invariant-loop-index : goal.invariant-loop-index

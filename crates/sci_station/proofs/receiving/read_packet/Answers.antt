@@ -1,17 +1,11 @@
 use Rattle.std.proofs.Common.{◌≤◌, ◌≡◌, ℕ, List, [], ◌∷◌, length, get_or, take, refl, sym, ap, ◌∙◌, arith, inl, inr, ◌⊎◌}
 use Rattle.std.proofs.lemmas.List.{get_or-take, length-take-le}
-use Rattle.sci_packets.specs.Spelling.{CountsWords, SpellsInWords}
-use Rattle.sci_packets.specs.declared.packet.Packet.{Packet}
-use Rattle.sci_lanes.specs.Ends.{IsNextToTake, lane_at_cell}
-use Rattle.sci_lanes.specs.Shown.{inbound_at}
-use Rattle.sci_lanes.specs.Telling.{IsFront, IsShown}
-use Rattle.sci_lanes.specs.declared.cell.CellId.{CellId}
-use Rattle.sci_lanes.specs.declared.view.Part.{Part}
-use Rattle.sci_station.proofs.Cells.{front_found}
-use Rattle.sci_station.proofs.Spelled.{front_spelled, never_refused, only_that}
-use Rattle.sci_station.proofs.Stills.{still_takes}
+use Rattle.sci_packets.specs.{Spelling.{CountsWords, SpellsInWords}, declared.packet.Packet.{Packet}}
+use Rattle.sci_lanes.specs.{Ends.{IsNextToTake, lane_at_cell}, Shown.{inbound_at}, Telling.{IsFront, IsShown}}
+use Rattle.sci_lanes.specs.declared.{cell.CellId.{CellId}, view.Part.{Part}}
+use Rattle.sci_station.proofs.{Cells.{front_found}, Spelled.{front_spelled, never_refused, only_that}}
+use Rattle.sci_station.proofs.{Stills.{still_takes}, receiving.read_packet.Goals.{After-from_words}}
 use Rattle.sci_station.proofs.receiving.read_packet.Goals as goal
-use Rattle.sci_station.proofs.receiving.read_packet.Goals.{After-from_words}
 
 some_few : {count : ℕ} → (count ≡ 2) ⊎ (count ≡ 11) → (1 ≤ count) × (count ≤ 11)
 some_few (inl two) = (omega arith, omega arith)

@@ -4,9 +4,7 @@ use Rattle.sci_station.specs.Ends.{LeavesOthers}
 use Rattle.sci_station.proofs.Budgets.{no_more_less, no_more_then}
 use Rattle.sci_station.proofs.Stills.{fill_still, known_others, lane_still, others_then, still_sends, still_then}
 use Rattle.sci_station.proofs.Cells.{filled_there}
-use Rattle.sci_lanes.specs.declared.view.Outbound.{Outbound}
-use Rattle.sci_lanes.specs.Shown.{outbound_at}
-use Rattle.sci_lanes.specs.Ends.{EndOf, lane_at_cell}
+use Rattle.sci_lanes.specs.{declared.view.Outbound.{Outbound}, Shown.{outbound_at}, Ends.{EndOf, lane_at_cell}}
 use Rattle.sci_station.proofs.sending.fill.Goals as goal
 
 -- one word more is filled

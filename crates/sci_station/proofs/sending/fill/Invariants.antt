@@ -1,8 +1,6 @@
 use Rattle.std.proofs.Common.{◌≡◌, ◌<◌, take, true}
-use Rattle.sci_lanes.specs.Shown.{outbound_at}
-use Rattle.sci_lanes.specs.Ends.{lane_at_cell}
-use Rattle.sci_station.specs.Budgets.{HasNoMore}
-use Rattle.sci_station.specs.Ends.{IsStill, LeavesOthers}
+use Rattle.sci_lanes.specs.{Shown.{outbound_at}, Ends.{lane_at_cell}}
+use Rattle.sci_station.specs.{Budgets.{HasNoMore}, Ends.{IsStill, LeavesOthers}}
 use Rattle.sci_station.proofs.sending.fill.Given as goal
 
 abbrev pub invariant-loop-place : goal.invariant-loop-place

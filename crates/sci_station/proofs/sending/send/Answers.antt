@@ -1,19 +1,13 @@
 use Rattle.std.proofs.Common.{◌≡◌, ◌≤◌, ◌⊎◌, inl, inr, ℕ, ◌+◌, ◌-◌, List, ◌∷◌, get_or, length, refl, sym, ap, subst, ◌∙◌, arith}
 use Rattle.sci_packets.specs.Spelling.{words_of}
 use Rattle.sci_cache.specs.Cache.{letter_of}
-use Rattle.sci_core.specs.declared.lane.LaneKind.{LaneKind}
-use Rattle.sci_core.specs.Core.{Sends, lane_of, lane_place, side}
-use Rattle.sci_core.specs.Node.{NodeOf}
-use Rattle.sci_lanes.specs.Ends.{EndOf, lane_at_cell, nodes_in}
-use Rattle.sci_lanes.specs.Shown.{me_of}
-use Rattle.sci_lanes.specs.Telling.{state_of}
+use Rattle.sci_core.specs.{declared.lane.LaneKind.{LaneKind}, Core.{Sends, lane_of, lane_place, side}, Node.{NodeOf}}
+use Rattle.sci_lanes.specs.{Ends.{EndOf, lane_at_cell, nodes_in}, Shown.{me_of}, Telling.{state_of}}
 use Rattle.sci_station.specs.Ends.{IsStill, LeavesOthers}
-use Rattle.sci_station.proofs.Cells.{looked_vacant}
-use Rattle.sci_station.proofs.Events.{made_later}
-use Rattle.sci_station.proofs.Spelled.{whole_words}
+use Rattle.sci_station.proofs.{Cells.{looked_vacant}, Events.{made_later}, Spelled.{whole_words}}
 use Rattle.sci_station.proofs.Stills.{known_others, lane_still, look_still, others_then, still_sends, still_then}
-use Rattle.sci_station.proofs.sending.send.Goals as goal
 use Rattle.sci_station.proofs.sending.send.Goals.{After-look, After-fill}
+use Rattle.sci_station.proofs.sending.send.Goals as goal
 
 -- the lane was looked at, and the next cell filled
 looked : (c : After-look) → IsStill c.args.end.now c.look.new.self

@@ -1,5 +1,4 @@
-use Rattle.std.proofs.Common.{◌∙◌}
-use Rattle.std.proofs.lemmas.Result.{on_ok_weaker}
+use Rattle.std.proofs.{Common.{◌∙◌}, lemmas.Result.{on_ok_weaker}}
 use Rattle.sci_statistics.specs.StatsAnswer.{line_text, line_rows}
 use Rattle.sci_command.proofs.Joined.{joined}
 use Rattle.sci_statistics.proofs.figures.push_line.Goals as goal

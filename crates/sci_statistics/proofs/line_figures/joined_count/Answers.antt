@@ -1,5 +1,4 @@
-use Rattle.std.proofs.Common.{rules}
-use Rattle.std.proofs.iter.runs.Made.{chains}
+use Rattle.std.proofs.{Common.{rules}, iter.runs.Made.{chains}}
 use Rattle.sci_statistics.proofs.line_figures.joined_count.Goals as goal
 
 pub returns : goal.returns

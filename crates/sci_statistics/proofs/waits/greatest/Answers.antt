@@ -1,8 +1,7 @@
 use Rattle.std.proofs.Common.{rules, tests, ℕ, Option, ap, sym, ◌∙◌}
-use Rattle.std.specs.Option.{unwrap_or}
-use Rattle.std.proofs.lemmas.Iterator.{YieldsList-from_slice, YieldsList-from_map}
-use Rattle.std.proofs.lemmas.Iterator.Adapters.{option_map_id}
+use Rattle.std.proofs.lemmas.Iterator.{YieldsList-from_slice, YieldsList-from_map, Adapters.{option_map_id}}
 use Rattle.std.proofs.lemmas.Iterator.Consumers.{max_from_yields_List}
+use Rattle.std.specs.Option.{unwrap_or}
 use Rattle.sci_statistics.specs.declared.waits.Wait.{Wait}
 use Rattle.sci_statistics.proofs.waits.greatest.Goals as goal
 

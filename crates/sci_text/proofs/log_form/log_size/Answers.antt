@@ -1,10 +1,9 @@
-use Rattle.std.proofs.Common.{sym, ◌∙◌, arith}
-use Rattle.std.proofs.lemmas.Option.{same_Some}
+use Rattle.std.proofs.{Common.{sym, ◌∙◌, arith}, lemmas.Option.{same_Some}}
 use Rattle.sci_text.proofs.Operations.{byte_some, byte_refused}
-use Rattle.sci_text.proofs.log_form.log_size.Goals as goal
 use Rattle.sci_text.proofs.log_form.log_size.Goals.{then-nodes-eq0-via-then-nodes-eq0, then-nodes-eq0-via-else-nodes-eq0+then-nodes-gt-MAX_NODES}
 use Rattle.sci_text.proofs.log_form.log_size.Goals.{then-nodes-eq0-via-else-nodes-eq0+else-nodes-gt-MAX_NODES+then-lines-eq0}
 use Rattle.sci_text.proofs.log_form.log_size.Goals.{then-nodes-eq0-via-else-nodes-eq0+else-nodes-gt-MAX_NODES+else-lines-eq0+then-lines-gt-MAX_LINES}
+use Rattle.sci_text.proofs.log_form.log_size.Goals as goal
 
 pub returns-in_err-nodes-clause-none : goal.returns-in_err-nodes-clause-none
 returns-in_err-nodes-clause-none c =

@@ -1,12 +1,8 @@
-use Rattle.std.proofs.Common.{◌≡◌, ℕ, ◌+◌, sym, subst, arith, length}
+use Rattle.std.proofs.{Common.{◌≡◌, ℕ, ◌+◌, sym, subst, arith, length}, lemmas.Result.{err_from_is_err_and}}
 use Rattle.std.specs.Prelude.{codes}
-use Rattle.sci_text.specs.declared.fault.TextFaultKind.TheVariants.{Syntax}
-use Rattle.std.proofs.lemmas.Result.{err_from_is_err_and}
-use Rattle.sci_text.specs.FirstFault.{IsToldAt}
-use Rattle.sci_text.specs.LogValue.{HasAllLines}
-use Rattle.sci_text.specs.LogReading.{AddsLast}
-use Rattle.sci_text.proofs.Results.{ok_then, err_then}
-use Rattle.sci_text.proofs.LogFaults.{gives_front, gives_no_front}
+use Rattle.sci_text.specs.{declared.fault.TextFaultKind.TheVariants.{Syntax}, FirstFault.{IsToldAt}}
+use Rattle.sci_text.specs.{LogValue.{HasAllLines}, LogReading.{AddsLast}}
+use Rattle.sci_text.proofs.{Results.{ok_then, err_then}, LogFaults.{gives_front, gives_no_front}}
 use Rattle.sci_text.proofs.LogFronts.{last_shrinks, last_goes_on, last_front_more, last_refused, few_refused}
 use Rattle.sci_text.proofs.log_lines.contents.Goals as goal
 

@@ -1,8 +1,5 @@
-use Rattle.std.proofs.Common.{◌<◌, arith, length}
-use Rattle.std.proofs.lemmas.Bool.Decides.{nat_tests}
-use Rattle.sci_text.specs.LogValue.{entry_count, front_of}
-use Rattle.sci_text.specs.LogReading.{AddsEntry}
-use Rattle.std.proofs.lemmas.Result.{err_from_is_err_and}
+use Rattle.std.proofs.{Common.{◌<◌, arith, length}, lemmas.{Bool.Decides.{nat_tests}, Result.{err_from_is_err_and}}}
+use Rattle.sci_text.specs.{LogValue.{entry_count, front_of}, LogReading.{AddsEntry}}
 use Rattle.sci_text.proofs.Results.{ok_then, err_then}
 use Rattle.sci_text.proofs.LogFronts.{started, no_last_after, entry_shrinks, front_more, latest_more, entries_go_on, count_more, entry_refused}
 use Rattle.sci_text.proofs.log_lines.entries.Goals as goal

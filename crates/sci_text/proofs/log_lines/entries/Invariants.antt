@@ -1,7 +1,5 @@
 use Rattle.std.proofs.Common.{◌≡◌, ◌+◌, ◌≤◌, ◌++◌, length}
-use Rattle.sci_text.specs.Log.{entry_lines}
-use Rattle.sci_text.specs.LogValue.{IsFront, entry_count, front_of}
-use Rattle.sci_text.specs.LogReading.{IsLatest, NoLast}
+use Rattle.sci_text.specs.{Log.{entry_lines}, LogValue.{IsFront, entry_count, front_of}, LogReading.{IsLatest, NoLast}}
 use Rattle.sci_text.specs.LogFault.{first_lines}
 use Rattle.sci_text.proofs.log_lines.entries.Given as goal
 

@@ -1,5 +1,4 @@
-use Rattle.std.proofs.Common.{arith}
-use Rattle.std.proofs.lemmas.List.{ext_get_or}
+use Rattle.std.proofs.{Common.{arith}, lemmas.List.{ext_get_or}}
 use Rattle.sci_words.specs.Stamped.{zero_stamped}
 use Rattle.sci_text.proofs.log_lines.last_of.Goals as goal
 

@@ -1,10 +1,9 @@
 -- Each refusal is the fault of the line that was read.
-use Rattle.std.proofs.Common.{◌^◌, ◌<◌, length, ap, inr, arith}
-use Rattle.std.proofs.lemmas.Result.{err_from_is_err_and}
+use Rattle.std.proofs.{Common.{◌^◌, ◌<◌, length, ap, inr, arith}, lemmas.Result.{err_from_is_err_and}}
 use Rattle.sci_text.specs.LogValue.{front_of}
 use Rattle.sci_text.proofs.LogFaults.{neither, entry_none, entry_long, entry_lower, entry_unfit, IsSaid, is_said, entry_outside, entry_too_many, entry_ok}
-use Rattle.sci_text.proofs.log_lines.push_entry.Goals as goal
 use Rattle.sci_text.proofs.log_lines.push_entry.Goals.{In-Some-entry}
+use Rattle.sci_text.proofs.log_lines.push_entry.Goals as goal
 
 pub returns-in_default-clause-fault : goal.returns-in_default-clause-fault
 returns-in_default-clause-fault c =

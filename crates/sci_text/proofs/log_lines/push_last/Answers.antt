@@ -2,11 +2,10 @@
 use Rattle.std.proofs.Common.{◌≡◌, ℕ, ◌^◌, ◌<◌, ◌++◌, ◌∷◌, [], List, length, Some, refl, ap, sym, subst, ◌∙◌, inl, inr, arith}
 use Rattle.std.proofs.lemmas.Result.{err_from_is_err_and}
 use Rattle.sci_words.specs.declared.stamped.Stamped.{Stamped}
-use Rattle.sci_text.specs.LogReading.{AddsLast, no_logs, last_line_read}
-use Rattle.sci_text.specs.LogValue.{HasRoom, front_of}
+use Rattle.sci_text.specs.{LogReading.{AddsLast, no_logs, last_line_read}, LogValue.{HasRoom, front_of}}
 use Rattle.sci_text.proofs.LogFaults.{neither, last_none, last_long, last_other, last_no_room, last_no_entry, last_range, last_ok}
-use Rattle.sci_text.proofs.log_lines.push_last.Goals as goal
 use Rattle.sci_text.proofs.log_lines.push_last.Goals.{Else-not-has_room}
+use Rattle.sci_text.proofs.log_lines.push_last.Goals as goal
 
 pub returns-in_default-clause-fault : goal.returns-in_default-clause-fault
 returns-in_default-clause-fault c =

@@ -1,8 +1,6 @@
 use Rattle.std.proofs.Common.{◌≡◌, ◌∙◌}
-use Rattle.sci_text.specs.Tap.{has_failed, tapped}
-use Rattle.sci_text.specs.LogFault.{IsLogFault}
-use Rattle.sci_text.proofs.FirstFaults.{told_of_bytes}
-use Rattle.sci_text.proofs.LogOneFault.{log_read_as}
+use Rattle.sci_text.specs.{Tap.{has_failed, tapped}, LogFault.{IsLogFault}}
+use Rattle.sci_text.proofs.{FirstFaults.{told_of_bytes}, LogOneFault.{log_read_as}}
 use Rattle.sci_text.proofs.log_reading.read_logs.Goals as goal
 
 pub returns-clause-only : goal.returns-clause-only

@@ -1,7 +1,6 @@
 -- The text of logs within the limits is one of them.
 use Rattle.std.proofs.Common.{◌≡◌, List, ℕ, rules, sym, subst, append_assoc}
-use Rattle.sci_text.specs.Log.{log_text}
-use Rattle.sci_text.specs.LogValue.{IsLogs}
+use Rattle.sci_text.specs.{Log.{log_text}, LogValue.{IsLogs}}
 use Rattle.sci_text.proofs.log_writing.logs_text.Goals as goal
 
 pub returns-clause-says : goal.returns-clause-says

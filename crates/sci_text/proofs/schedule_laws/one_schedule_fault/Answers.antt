@@ -1,5 +1,4 @@
-use Rattle.sci_text.proofs.Schedules.{schedules}
-use Rattle.sci_text.proofs.Listings.{one_fault}
+use Rattle.sci_text.proofs.{Schedules.{schedules}, Listings.{one_fault}}
 use Rattle.sci_text.proofs.schedule_laws.one_schedule_fault.Goals as goal
 
 pub returns : goal.returns

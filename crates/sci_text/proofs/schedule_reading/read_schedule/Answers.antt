@@ -1,10 +1,6 @@
 use Rattle.std.proofs.Common.{◌≡◌, ◌∙◌}
-use Rattle.sci_text.specs.Schedule.{schedule_text}
-use Rattle.sci_text.proofs.Listings.{value_read}
-use Rattle.sci_text.proofs.Schedules.{schedules}
-use Rattle.sci_text.specs.Tap.{has_failed, tapped}
-use Rattle.sci_text.specs.ScheduleFault.{IsScheduleFault}
-use Rattle.sci_text.proofs.FirstFaults.{told_of_bytes}
+use Rattle.sci_text.specs.{Schedule.{schedule_text}, Tap.{has_failed, tapped}, ScheduleFault.{IsScheduleFault}}
+use Rattle.sci_text.proofs.{Listings.{value_read}, Schedules.{schedules}, FirstFaults.{told_of_bytes}}
 use Rattle.sci_text.proofs.schedule_reading.read_schedule.Goals as goal
 
 pub returns-clause-only : goal.returns-clause-only

@@ -1,9 +1,6 @@
-use Rattle.std.proofs.Common.{◌≡◌, ◌++◌, ap, ◌∙◌}
-use Rattle.std.proofs.lemmas.Bool.{false≢true}
-use Rattle.std.proofs.lemmas.Result.{err_from_is_err_and}
+use Rattle.std.proofs.{Common.{◌≡◌, ◌++◌, ap, ◌∙◌}, lemmas.{Bool.{false≢true}, Result.{err_from_is_err_and}}}
 use Rattle.sci_text.specs.Script.{machine_line}
-use Rattle.sci_text.proofs.LineLengths.{line_short}
-use Rattle.sci_text.proofs.Lines.{said_fault, said_is, says}
+use Rattle.sci_text.proofs.{LineLengths.{line_short}, Lines.{said_fault, said_is, says}}
 use Rattle.sci_text.proofs.ScriptReads.{Size, machine_format, is_size, limits_fit}
 use Rattle.sci_text.proofs.script_lines.machine.Goals as goal
 

@@ -1,8 +1,5 @@
-use Rattle.std.proofs.Common.{inr}
-use Rattle.std.proofs.lemmas.Result.{err_from_is_err_and}
-use Rattle.sci_text.proofs.Lines.{said_is}
-use Rattle.sci_text.proofs.Listings.{line_unsaid, line_refused}
-use Rattle.sci_text.proofs.Scripts.{scripts}
+use Rattle.std.proofs.{Common.{inr}, lemmas.Result.{err_from_is_err_and}}
+use Rattle.sci_text.proofs.{Lines.{said_is}, Listings.{line_unsaid, line_refused}, Scripts.{scripts}}
 use Rattle.sci_text.proofs.script_lines.push_line.Goals as goal
 
 pub returns-in_err-node-clause-fault : goal.returns-in_err-node-clause-fault

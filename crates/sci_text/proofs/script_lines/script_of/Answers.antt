@@ -1,6 +1,4 @@
-use Rattle.sci_text.proofs.Results.{ok_then}
-use Rattle.sci_text.proofs.Listings.{line_shrinks}
-use Rattle.sci_text.proofs.Scripts.{scripts}
+use Rattle.sci_text.proofs.{Results.{ok_then}, Listings.{line_shrinks}, Scripts.{scripts}}
 use Rattle.sci_text.proofs.script_lines.script_of.Goals as goal
 
 pub loop-rest-smaller : goal.loop-rest-smaller

@@ -1,10 +1,6 @@
 use Rattle.std.proofs.Common.{◌≡◌, ◌∙◌}
-use Rattle.sci_text.specs.Script.{script_text}
-use Rattle.sci_text.proofs.Listings.{value_read}
-use Rattle.sci_text.proofs.Scripts.{scripts}
-use Rattle.sci_text.specs.Tap.{has_failed, tapped}
-use Rattle.sci_text.specs.ScriptFault.{IsScriptFault}
-use Rattle.sci_text.proofs.FirstFaults.{told_of_bytes}
+use Rattle.sci_text.specs.{Script.{script_text}, Tap.{has_failed, tapped}, ScriptFault.{IsScriptFault}}
+use Rattle.sci_text.proofs.{Listings.{value_read}, Scripts.{scripts}, FirstFaults.{told_of_bytes}}
 use Rattle.sci_text.proofs.script_reading.read_script.Goals as goal
 
 pub returns-clause-only : goal.returns-clause-only

@@ -1,9 +1,7 @@
 -- What was taken stands behind what was written before.
-use Rattle.std.proofs.Common.{◌≡◌, ◌-◌, ◌≤◌, false, length, take, drop, refl, ◌∙◌, arith}
+use Rattle.std.proofs.{Common.{◌≡◌, ◌-◌, ◌≤◌, false, length, take, drop, refl, ◌∙◌, arith}, Math.Bool.{or-false}}
+use Rattle.std.proofs.lemmas.{Bool.{ne_eqb}, List.{length-drop, take_all}}
 use Rattle.std.specs.Io.KnownBytes.{Appends}
-use Rattle.std.proofs.Math.Bool.{or-false}
-use Rattle.std.proofs.lemmas.Bool.{ne_eqb}
-use Rattle.std.proofs.lemmas.List.{length-drop, take_all}
 use Rattle.sci_text.specs.Tap.{has_failed, is_called_again, tapped}
 use Rattle.sci_text.proofs.LogLines.{appends_on}
 use Rattle.sci_text.proofs.writing.write_text.Goals as goal

@@ -1,27 +1,17 @@
 use Rattle.std.proofs.Common.{◌≡◌, ◌<◌, ◌≤◌, ℕ, List, All, Ok, true, Vec, ◌++◌, drop, length, map, take, get_or, refl, sym, ap, subst, ◌∙◌}
 use Rattle.std.specs.Prelude.{slice_index_or}
-use Rattle.sci_words.specs.declared.operation.Op.{Op}
-use Rattle.sci_history.specs.declared.entry.Entry.{Entry}
-use Rattle.sci_history.specs.Placed.{log_of}
-use Rattle.sci_history.specs.Sequential.{IsInProgramOrder}
-use Rattle.sci_core.specs.Outcome.{logs_of}
-use Rattle.sci_lanes.specs.Ends.{EndOf}
-use Rattle.sci_words.specs.declared.limits.TheConstants.{MAX_OPERATIONS}
-use Rattle.sci_core.specs.Size.{Size, size_of}
-use Rattle.sci_lanes.specs.Shown.{me_of}
-use Rattle.sci_lanes.specs.Gathering.{AreAll, AreOf, IsLedTo}
-use Rattle.sci_drive.specs.Driving.{HasSubmittedNothing}
-use Rattle.sci_drive.specs.Script.{IsFrontOf, IsLogOf, IsWholeLogOf}
-use Rattle.sci_station.specs.Ends.{IsSameEnd}
-use Rattle.sci_station.specs.Station.{StationOf, end_in, node_in}
+use Rattle.sci_words.specs.declared.{operation.Op.{Op}, limits.TheConstants.{MAX_OPERATIONS}}
+use Rattle.sci_history.specs.{declared.entry.Entry.{Entry}, Placed.{log_of}, Sequential.{IsInProgramOrder}}
+use Rattle.sci_core.specs.{Outcome.{logs_of}, Size.{Size, size_of}}
+use Rattle.sci_lanes.specs.{Ends.{EndOf}, Shown.{me_of}, Gathering.{AreAll, AreOf, IsLedTo}}
+use Rattle.sci_drive.specs.{Driving.{HasSubmittedNothing}, Script.{IsFrontOf, IsLogOf, IsWholeLogOf}}
+use Rattle.sci_station.specs.{Ends.{IsSameEnd}, Station.{StationOf, end_in, node_in}}
 use Rattle.sci_lanes.proofs.Gathered.{node_log}
-use Rattle.sci_threads.proofs.Sharing.{came_back, each_end, each_log, in_order, opened_long, opened_known, opened_all_fresh}
-use Rattle.sci_threads.proofs.Sharing.{sized_for, whole_if, written_back}
-use Rattle.sci_threads.specs.declared.share.Share.{Share}
-use Rattle.sci_threads.proofs.Going.{HasRun, all_run}
-use Rattle.sci_threads.specs.Shares.{HaveGoneOn, IsWell, operations_of, own_of}
-use Rattle.sci_threads.proofs.running.run_to_machine.Goals as goal
+use Rattle.sci_threads.proofs.Sharing.{came_back, each_end, each_log, in_order, opened_long, opened_known, opened_all_fresh, sized_for, whole_if}
+use Rattle.sci_threads.proofs.{Sharing.{written_back}, Going.{HasRun, all_run}}
 use Rattle.sci_threads.proofs.running.run_to_machine.Goals.{In-Ok, In_ok-stations}
+use Rattle.sci_threads.specs.{declared.share.Share.{Share}, Shares.{HaveGoneOn, IsWell, operations_of, own_of}}
+use Rattle.sci_threads.proofs.running.run_to_machine.Goals as goal
 
 pub shares-requires : goal.shares-requires
 shares-requires g c =

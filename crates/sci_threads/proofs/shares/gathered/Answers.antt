@@ -1,6 +1,5 @@
 use Rattle.std.proofs.Common.{◌≡◌, ◌++◌, [], ◌∷◌, List, Ok, true, sym, ap, ◌∙◌, append_assoc}
-use Rattle.std.proofs.lemmas.List.{map-append}
-use Rattle.std.proofs.lemmas.List.Elements.{All-push}
+use Rattle.std.proofs.lemmas.List.{map-append, Elements.{All-push}}
 use Rattle.sci_threads.proofs.shares.gathered.Goals.{then-not-branch, else-not-branch}
 use Rattle.sci_threads.proofs.shares.gathered.Goals as goal
 

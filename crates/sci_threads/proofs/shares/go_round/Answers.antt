@@ -1,7 +1,5 @@
-use Rattle.std.proofs.Common.{arith}
-use Rattle.std.proofs.lemmas.List.Elements.{All-set}
-use Rattle.sci_threads.specs.Shares.{IsWell}
-use Rattle.sci_threads.specs.declared.share.Share.{Share}
+use Rattle.std.proofs.{Common.{arith}, lemmas.List.Elements.{All-set}}
+use Rattle.sci_threads.specs.{Shares.{IsWell}, declared.share.Share.{Share}}
 use Rattle.sci_threads.proofs.Going.{all_stay, one_on}
 use Rattle.sci_threads.proofs.shares.go_round.Goals as goal
 

@@ -1,7 +1,6 @@
 use Rattle.std.proofs.Common.{◌≡◌, ◌≤◌, ◌<◌, ℕ, List, length, take, sym, ap, subst, ◌∙◌, arith}
 use Rattle.std.proofs.lemmas.List.{take_all}
-use Rattle.sci_words.specs.declared.limits.TheConstants.{MAX_OPERATIONS}
-use Rattle.sci_words.specs.declared.operation.Op.{Op}
+use Rattle.sci_words.specs.declared.{limits.TheConstants.{MAX_OPERATIONS}, operation.Op.{Op}}
 use Rattle.sci_threads.specs.Shares.{operations_of}
 use Rattle.sci_threads.proofs.Sharing.{few_own}
 use Rattle.sci_threads.proofs.shares.operations_by_node.Goals as goal

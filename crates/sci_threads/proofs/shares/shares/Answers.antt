@@ -1,13 +1,10 @@
 use Rattle.std.proofs.Common.{◌≡◌, ◌<◌, ◌≤◌, ◌++◌, ◌∷◌, [], List, All, Ok, inl, inr, false, length, map, sym, ap, subst, ◌∙◌, append_assoc, arith}
-use Rattle.std.proofs.lemmas.List.{append-nil, get_or-map, map-append}
-use Rattle.std.proofs.lemmas.List.Elements.{All-head, All-push, All-tail}
-use Rattle.sci_words.specs.declared.limits.TheConstants.{MAX_OPERATIONS}
-use Rattle.sci_words.specs.declared.operation.Op.{Op}
+use Rattle.std.proofs.lemmas.List.{append-nil, get_or-map, map-append, Elements.{All-head, All-push, All-tail}}
+use Rattle.sci_words.specs.declared.{limits.TheConstants.{MAX_OPERATIONS}, operation.Op.{Op}}
 use Rattle.sci_drive.specs.Driving.{DriverOf, HasSubmittedNothing, IsDriven, IsInOrder, opening_driver}
 use Rattle.sci_lanes.specs.Shown.{me_of}
 use Rattle.sci_station.specs.Station.{StationOf, node_in}
-use Rattle.sci_threads.specs.Shares.{IsOpened, IsWell, own_of}
-use Rattle.sci_threads.specs.declared.share.Share.{Share}
+use Rattle.sci_threads.specs.{Shares.{IsOpened, IsWell, own_of}, declared.share.Share.{Share}}
 use Rattle.sci_threads.proofs.shares.shares.Goals as goal
 
 pub bounds-plan-me : goal.bounds-plan-me

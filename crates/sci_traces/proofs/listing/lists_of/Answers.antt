@@ -1,9 +1,7 @@
 use Rattle.std.proofs.Common.{arith, ◌≡◌, ◌+◌, ◌<◌, ◌≤◌, ℕ, Option, get_or, length, subst}
 use Rattle.sci_core.specs.Core.{stepping}
 use Rattle.sci_traces.specs.ListsAnswer.{IsListed}
-use Rattle.sci_words.specs.declared.event.Event.{Event}
-use Rattle.sci_words.specs.declared.event.Event.TheVariants.{Issue}
-use Rattle.sci_words.specs.declared.operation.Act.TheVariants.{Load}
+use Rattle.sci_words.specs.declared.{event.Event.{Event, TheVariants.{Issue}}, operation.Act.TheVariants.{Load}}
 use Rattle.sci_statistics.specs.Beginning.{before}
 use Rattle.sci_traces.proofs.Listed.{lists_more, lists_all}
 use Rattle.sci_traces.proofs.listing.lists_of.Goals as goal

@@ -1,5 +1,4 @@
-use Rattle.std.proofs.Common.{◌%◌, ap}
-use Rattle.std.proofs.lemmas.Result.{on_ok_weaker}
+use Rattle.std.proofs.{Common.{◌%◌, ap}, lemmas.Result.{on_ok_weaker}}
 use Rattle.sci_traces.proofs.Listed.{authority_judged, list_appended}
 use Rattle.sci_traces.proofs.listing.push_list.Goals as goal
 

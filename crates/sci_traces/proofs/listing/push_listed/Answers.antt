@@ -1,5 +1,4 @@
-use Rattle.std.proofs.Common.{sym}
-use Rattle.std.proofs.lemmas.Result.{on_ok_weaker}
+use Rattle.std.proofs.{Common.{sym}, lemmas.Result.{on_ok_weaker}}
 use Rattle.sci_core.specs.Core.{stepping}
 use Rattle.sci_traces.proofs.Listed.{none_listed, event_listed}
 use Rattle.sci_traces.proofs.listing.push_listed.Goals as goal

@@ -1,7 +1,5 @@
 use Rattle.std.proofs.Common.{arith, rules, ◌≡◌, ◌+◌, ◌<◌, length, sym}
-use Rattle.sci_words.specs.declared.event.Event.{Event}
-use Rattle.sci_words.specs.declared.event.Event.TheVariants.{Issue}
-use Rattle.sci_words.specs.declared.operation.Act.TheVariants.{Load}
+use Rattle.sci_words.specs.declared.{event.Event.{Event, TheVariants.{Issue}}, operation.Act.TheVariants.{Load}}
 use Rattle.sci_statistics.specs.Beginning.{before}
 use Rattle.sci_traces.specs.TraceAnswer.{trace_text, trace_outcome}
 use Rattle.sci_traces.proofs.Traced.{traces_more, traces_last}

@@ -1,10 +1,7 @@
 use Rattle.std.proofs.Common.{◌<◌, ◌≤◌, ◌-◌, ℕ}
 use Rattle.sci_core.specs.declared.lane.LaneKind.TheVariants.{Answers}
-use Rattle.sci_policy.specs.Turn.{MadeNothing}
-use Rattle.sci_policy.specs.Policy.{PolicyOf}
-use Rattle.sci_turn.specs.Posts.{nodes_in}
-use Rattle.sci_turn.specs.Moves.{GoesOn}
-use Rattle.sci_turn.specs.Idle.{WasEmpty}
+use Rattle.sci_policy.specs.{Turn.{MadeNothing}, Policy.{PolicyOf}}
+use Rattle.sci_turn.specs.{Posts.{nodes_in}, Moves.{GoesOn}, Idle.{WasEmpty}}
 use Rattle.sci_turn.proofs.turn.accept_all.Given as goal
 
 abbrev pub invariant-answers : goal.invariant-answers

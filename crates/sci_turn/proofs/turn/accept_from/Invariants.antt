@@ -1,6 +1,5 @@
 use Rattle.std.proofs.Common.{◌≡◌}
-use Rattle.sci_policy.specs.Turn.{MadeNothing}
-use Rattle.sci_policy.specs.Policy.{PolicyOf}
+use Rattle.sci_policy.specs.{Turn.{MadeNothing}, Policy.{PolicyOf}}
 use Rattle.sci_turn.specs.Moves.{GoesOn}
 use Rattle.sci_turn.proofs.turn.accept_from.Given as goal
 

@@ -1,7 +1,6 @@
 use Rattle.std.proofs.Common.{◌≡◌, ◌<◌, ◌+◌, ◌%◌, ℕ}
 use Rattle.sci_policy.specs.Turn.{MadeNothing}
-use Rattle.sci_turn.specs.Moves.{GoesOn}
-use Rattle.sci_turn.specs.Idle.{TookNone}
+use Rattle.sci_turn.specs.{Moves.{GoesOn}, Idle.{TookNone}}
 use Rattle.sci_turn.proofs.turn.take_all.Given as goal
 
 abbrev pub invariant-loop-place : goal.invariant-loop-place

@@ -1,17 +1,12 @@
 use Rattle.std.proofs.Common.{◌≡◌, None, refl, sym, ap, ◌∙◌, rules}
 use Rattle.sci_cache.specs.Cache.{letter_of}
 use Rattle.sci_core.specs.Node.{NodeOf}
-use Rattle.sci_policy.specs.Policy.{decided}
-use Rattle.sci_policy.specs.Turn.{decided_event}
+use Rattle.sci_policy.specs.{Policy.{decided}, Turn.{decided_event}}
 use Rattle.sci_policy.proofs.Telling.{tells_something}
-use Rattle.sci_turn.specs.Posts.{PostOf, node_in}
-use Rattle.sci_turn.specs.Moves.{GoesOn, taken_next}
-use Rattle.sci_turn.proofs.Enabled.{may_take}
-use Rattle.sci_turn.proofs.Events.{goes_taken, take_is_own}
-use Rattle.sci_turn.proofs.Moments.{so_now, taken_event}
-use Rattle.sci_turn.proofs.Turns.{goes_still, goes_then}
+use Rattle.sci_turn.specs.{Posts.{PostOf, node_in}, Moves.{GoesOn, taken_next}}
+use Rattle.sci_turn.proofs.{Enabled.{may_take}, Events.{goes_taken, take_is_own}, Moments.{so_now, taken_event}}
+use Rattle.sci_turn.proofs.{Turns.{goes_still, goes_then}, turn.take_seen.Goals.{After-reply}}
 use Rattle.sci_turn.proofs.turn.take_seen.Goals as goal
-use Rattle.sci_turn.proofs.turn.take_seen.Goals.{After-reply}
 
 pub take-requires-clause-may : goal.take-requires-clause-may
 take-requires-clause-may g c =

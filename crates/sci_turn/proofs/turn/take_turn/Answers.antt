@@ -1,17 +1,13 @@
 use Rattle.std.proofs.Common.{◌≡◌, [], None, refl, sym, subst, ◌∙◌}
-use Rattle.sci_policy.specs.declared.progress.Progress.{Progress}
-use Rattle.sci_policy.specs.Policy.{PolicyOf, turned}
-use Rattle.sci_policy.specs.Turn.{Counts, MayPerform}
-use Rattle.sci_policy.specs.Worker.{HasSameWork, IsNodeTurn}
+use Rattle.sci_policy.specs.{declared.progress.Progress.{Progress}, Policy.{PolicyOf, turned}}
+use Rattle.sci_policy.specs.{Turn.{Counts, MayPerform}, Worker.{HasSameWork, IsNodeTurn}}
 use Rattle.sci_policy.proofs.Telling.{idle_tells}
-use Rattle.sci_turn.specs.Posts.{IsPost, PostOf, node_in}
-use Rattle.sci_turn.specs.Moves.{GoesOn, HasEnded, HasMoved, IsTurn}
+use Rattle.sci_turn.specs.{Posts.{IsPost, PostOf, node_in}, Moves.{GoesOn, HasEnded, HasMoved, IsTurn}}
 use Rattle.sci_turn.specs.Far.{HasAskedAll}
-use Rattle.sci_turn.proofs.Idling.{idle_turn, may_idle}
-use Rattle.sci_turn.proofs.Turns.{ends_there, goes_then, turn_begins}
+use Rattle.sci_turn.proofs.{Idling.{idle_turn, may_idle}, Turns.{ends_there, goes_then, turn_begins}}
 use Rattle.sci_turn.proofs.Working.{node_turn, post_after, turn_work}
-use Rattle.sci_turn.proofs.turn.take_turn.Goals as goal
 use Rattle.sci_turn.proofs.turn.take_turn.Goals.{After-reply, After-accept_all, After-take_all}
+use Rattle.sci_turn.proofs.turn.take_turn.Goals as goal
 
 -- what a turn that came so far is
 record Came (before : PolicyOf) (old : PostOf) (after : PolicyOf) (new : PostOf) (tells : Progress) : Type 0 where

@@ -1,13 +1,11 @@
 -- What is written is the line of the verdict of the log that was read.
 use Rattle.std.proofs.Common.{◌≡◌, sym, ◌∙◌}
 use Rattle.sci_history.specs.declared.verdict.Verdict.{Verdict}
-use Rattle.sci_history.specs.declared.verdict.Verdict.TheVariants as verdicts
-use Rattle.sci_text.specs.FirstFault.{IsTold}
-use Rattle.sci_text.specs.LogFault.{IsLogFault}
-use Rattle.sci_text.specs.Tap.{has_failed, tapped}
+use Rattle.sci_text.specs.{FirstFault.{IsTold}, LogFault.{IsLogFault}, Tap.{has_failed, tapped}}
 use Rattle.sci_command.specs.declared.outcome.Outcome.TheVariants.{Refused}
 use Rattle.sci_command.proofs.Answers.{answer_made}
 use Rattle.scimem.specs.LogAnswer.{IsAuditOf, outcome_of}
+use Rattle.sci_history.specs.declared.verdict.Verdict.TheVariants as verdicts
 use Rattle.scimem.proofs.audit.audit_text.Goals as goal
 
 judged : (verdict : Verdict) → outcome_of verdict ≡ Refused → ⊥

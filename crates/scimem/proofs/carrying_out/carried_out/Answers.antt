@@ -1,14 +1,9 @@
 -- Each command answers as its contract says.
-use Rattle.sci_text.specs.FirstFault.{IsTold}
-use Rattle.sci_text.specs.LogFault.{IsLogFault}
-use Rattle.sci_text.specs.ScheduleFault.{IsScheduleFault}
+use Rattle.sci_text.specs.{FirstFault.{IsTold}, LogFault.{IsLogFault}, ScheduleFault.{IsScheduleFault}}
 use Rattle.sci_text.specs.ScriptFault.{IsScriptFault}
-use Rattle.sci_command.proofs.Finished.{carried_out}
-use Rattle.sci_command.proofs.Refusals.{told_memory}
-use Rattle.scimem.specs.LogAnswer.{IsAuditAnswer, IsUpgradeAnswer}
-use Rattle.scimem.specs.OracleAnswer.{IsOracleAnswer}
-use Rattle.scimem.specs.ReplayAnswer.{IsReplayAnswer}
-use Rattle.scimem.specs.ThreadsAnswer.{IsThreadsAnswer}
+use Rattle.sci_command.proofs.{Finished.{carried_out}, Refusals.{told_memory}}
+use Rattle.scimem.specs.{LogAnswer.{IsAuditAnswer, IsUpgradeAnswer}, OracleAnswer.{IsOracleAnswer}}
+use Rattle.scimem.specs.{ReplayAnswer.{IsReplayAnswer}, ThreadsAnswer.{IsThreadsAnswer}}
 use Rattle.scimem.proofs.carrying_out.carried_out.Goals as goal
 
 pub returns-in-Oracle : goal.returns-in-Oracle

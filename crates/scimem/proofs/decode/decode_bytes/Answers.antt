@@ -1,7 +1,6 @@
 use Rattle.std.proofs.Common.{inl, ◌∙◌}
 use Rattle.sci_text.specs.Tap.{tapped, has_failed}
-use Rattle.sci_command.specs.declared.outcome.Outcome.TheVariants.{Refused}
-use Rattle.sci_command.specs.Writing.{IsPrinted}
+use Rattle.sci_command.specs.{declared.outcome.Outcome.TheVariants.{Refused}, Writing.{IsPrinted}}
 use Rattle.sci_command.proofs.Finished.{written_text}
 use Rattle.scimem.specs.Decoding.{IsAnswer}
 use Rattle.scimem.proofs.Answered.{refused}

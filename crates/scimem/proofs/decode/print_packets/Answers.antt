@@ -1,7 +1,6 @@
 use Rattle.std.proofs.Common.{◌≡◌, ◌<◌, ◌≤◌, ◌++◌, length, List, ℕ, drop, inr, refl, rules, sym, ap, subst, ◌∙◌, arith, length-drop}
 use Rattle.sci_text.specs.Tap.{has_failed, tapped}
-use Rattle.sci_command.specs.PacketLine.{packet_line}
-use Rattle.sci_command.specs.Writing.{IsPrinted}
+use Rattle.sci_command.specs.{PacketLine.{packet_line}, Writing.{IsPrinted}}
 use Rattle.scimem.specs.Decoding.{ArePacketsThenFault, fault_word, refusal, spellings}
 use Rattle.scimem.proofs.Runs.{Reads, line_parts, place, reads_more, shorter, whole_rest, within}
 use Rattle.scimem.proofs.decode.print_packets.Goals as goal

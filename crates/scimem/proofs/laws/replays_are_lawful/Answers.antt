@@ -1,5 +1,4 @@
-use Rattle.sci_core.specs.Outcome.{logs_of}
-use Rattle.sci_core.specs.Sharing.{last_of}
+use Rattle.sci_core.specs.{Outcome.{logs_of}, Sharing.{last_of}}
 use Rattle.scimem.specs.ReplayAnswer.{replayed}
 use Rattle.scimem.proofs.Audited.{audited_lawful}
 use Rattle.scimem.proofs.laws.replays_are_lawful.Goals as goal

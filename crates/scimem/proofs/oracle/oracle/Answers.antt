@@ -1,11 +1,9 @@
 -- What is written is the oracle's text of the script that was read.
 use Rattle.std.proofs.Common.{List, ℕ, sym, subst, rules}
 use Rattle.std.specs.Prelude.{count_by, ◌≤◌, ◌==◌}
-use Rattle.sci_words.specs.declared.limits.TheConstants.{MAX_OPERATIONS}
-use Rattle.sci_words.specs.declared.operation.Op.{Op}
+use Rattle.sci_words.specs.declared.{limits.TheConstants.{MAX_OPERATIONS}, operation.Op.{Op}}
 use Rattle.sci_text.specs.Script.{script_text}
-use Rattle.scimem.proofs.Counts.{few_of_each}
-use Rattle.scimem.proofs.OracleLogs.{oracle_is}
+use Rattle.scimem.proofs.{Counts.{few_of_each}, OracleLogs.{oracle_is}}
 use Rattle.scimem.proofs.oracle.oracle.Goals as goal
 
 pub run_oracle-requires-clause-room : goal.run_oracle-requires-clause-room

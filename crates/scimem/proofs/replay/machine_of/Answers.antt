@@ -1,10 +1,7 @@
 -- The events so far stand before what is left of the input, and led the machine here.
-use Rattle.std.proofs.Common.{ℕ, List, [], ap, subst, ◌∙◌}
-use Rattle.std.proofs.lemmas.Result.{err_from_is_err_and}
-use Rattle.sci_words.specs.declared.limits.TheConstants.{MAX_OPERATIONS}
-use Rattle.sci_words.specs.declared.extent.Extent.{Extent}
-use Rattle.sci_core.specs.Core.{opening}
-use Rattle.sci_core.specs.Size.{size_of}
+use Rattle.std.proofs.{Common.{ℕ, List, [], ap, subst, ◌∙◌}, lemmas.Result.{err_from_is_err_and}}
+use Rattle.sci_words.specs.declared.{limits.TheConstants.{MAX_OPERATIONS}, extent.Extent.{Extent}}
+use Rattle.sci_core.specs.{Core.{opening}, Size.{size_of}}
 use Rattle.sci_text.specs.ScheduleFault.{IsScheduleFault}
 use Rattle.sci_text.proofs.EventLines.{first_refuses}
 use Rattle.scimem.proofs.ReplayLogs.{led_further}

@@ -1,17 +1,13 @@
 -- What is written is the text of a run of the script that was read.
 use Rattle.std.proofs.Common.{◌≡◌, ℕ, true, sym, subst, ap, ◌∙◌}
-use Rattle.sci_text.specs.Tap.{has_failed, tapped}
-use Rattle.sci_text.specs.FirstFault.{IsTold}
-use Rattle.sci_text.specs.Log.{log_text}
-use Rattle.sci_text.specs.Script.{script_text}
+use Rattle.sci_text.specs.{Tap.{has_failed, tapped}, FirstFault.{IsTold}, Log.{log_text}, Script.{script_text}}
 use Rattle.sci_text.specs.ScriptFault.{IsScriptFault}
 use Rattle.sci_threads.specs.Shares.{HaveLogsOf, HaveWholeLogsOf}
 use Rattle.sci_threads.proofs.Sharing.{led_by}
 use Rattle.sci_command.proofs.Answers.{answer_made}
 use Rattle.scimem.specs.ThreadsAnswer.{IsThreadsOf}
-use Rattle.scimem.proofs.ThreadLogs.{IsRunOf, threads_is}
+use Rattle.scimem.proofs.{ThreadLogs.{IsRunOf, threads_is}, threads.threads.Goals.{then-finished, else-finished}}
 use Rattle.sci_command.specs.declared.outcome.Outcome.TheVariants.{Done, Refused, Unlawful}
-use Rattle.scimem.proofs.threads.threads.Goals.{then-finished, else-finished}
 use Rattle.scimem.proofs.threads.threads.Goals as goal
 
 pub returns : goal.returns

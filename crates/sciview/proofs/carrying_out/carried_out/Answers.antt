@@ -1,25 +1,18 @@
 -- Each command answers as its contract says. The help and the version are written as they stand.
 use Rattle.std.proofs.Common.{◌≡◌, refl}
-use Rattle.sci_text.specs.LogFault.{IsLogFault}
-use Rattle.sci_text.specs.ScheduleFault.{IsScheduleFault}
-use Rattle.sci_text.specs.FirstFault.{IsTold}
+use Rattle.sci_text.specs.{LogFault.{IsLogFault}, ScheduleFault.{IsScheduleFault}, FirstFault.{IsTold}}
 use Rattle.sci_text.specs.Tap.{has_failed, tapped}
-use Rattle.sci_command.specs.declared.outcome.Outcome.TheVariants.{Done}
+use Rattle.sci_command.specs.{declared.outcome.Outcome.TheVariants.{Done}, AskedLine.{IsAskedFault}}
 use Rattle.sci_command.proofs.Finished.{answered_by, carried_out, finished, written_text}
 use Rattle.sci_command.proofs.Refusals.{asked_memory, told_memory}
 use Rattle.sciview.specs.declared.help.TheConstants.{HELP, VERSION}
-use Rattle.sci_command.specs.AskedLine.{IsAskedFault}
 use Rattle.sci_charts.specs.ChartAnswer.{IsChartAnswer}
-use Rattle.sci_reports.specs.CheckAnswer.{IsCheckAnswer, IsCheckFault}
-use Rattle.sci_reports.specs.ExplainAnswer.{IsExplainAnswer}
-use Rattle.sci_traces.specs.ListsAnswer.{IsListsAnswer}
+use Rattle.sci_reports.specs.{CheckAnswer.{IsCheckAnswer, IsCheckFault}, ExplainAnswer.{IsExplainAnswer}}
 use Rattle.sci_reports.specs.OrderAnswer.{IsOrderAnswer}
-use Rattle.sci_run_reports.specs.OutcomesAnswer.{IsOutcomesAnswer}
-use Rattle.sci_traces.specs.PacketsAnswer.{IsPacketsAnswer}
+use Rattle.sci_traces.specs.{ListsAnswer.{IsListsAnswer}, PacketsAnswer.{IsPacketsAnswer}, TraceAnswer.{IsTraceAnswer}}
+use Rattle.sci_run_reports.specs.{OutcomesAnswer.{IsOutcomesAnswer}, RunAnswer.{IsRunAnswer, IsRunRefusal}}
 use Rattle.sci_walks.specs.RandomAnswer.{IsRandomAnswer, IsWalkFault}
-use Rattle.sci_run_reports.specs.RunAnswer.{IsRunAnswer, IsRunRefusal}
 use Rattle.sci_statistics.specs.StatsAnswer.{IsStatsAnswer, IsStatsFault}
-use Rattle.sci_traces.specs.TraceAnswer.{IsTraceAnswer}
 use Rattle.sci_statistics.proofs.Counted.{stats_memory}
 use Rattle.sci_reports.proofs.Checked.{refused_whole}
 use Rattle.sci_run_reports.proofs.Ran.{run_memory}

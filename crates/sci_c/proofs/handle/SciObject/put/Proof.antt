@@ -25,18 +25,14 @@ use denote.Steps.{nothing, owned, opens, closes, peeks}
 use denote.Struct.Struct.{within}
 use denote.Struct.Owning.{shape}
 use denote.Triple.Walked.{says, Stays, stay_dropped, stay_ref, walk_of, Goes-ref, ends_at}
-use Rattle.std.proofs.alloc.Calls.{Goes-blank}
-use Rattle.std.proofs.raw_atomic.Walks.{proved_at}
+use Rattle.std.proofs.{alloc.Calls.{Goes-blank}, raw_atomic.Walks.{proved_at}}
 use Rattle.std.specs.Prelude.{Some, None}
-use Rattle.sci_c.proofs.LooseValues.{pointed, loose_out}
-use Rattle.sci_c.specs.contracts.loose.Loose as loose
-use Rattle.sci_c.specs.declared.handle.SciObject.{SciObject}
-use Rattle.sci_c.specs.contracts.handle.SciObject.{the_row as R, the_type}
-use Rattle.sci_c.specs.contracts.thing.Thing.{the_row as T}
-use Rattle.sci_c.specs.contracts.handle.SciObject.put as f
-use Rattle.sci_c.specs.contracts.handle.SciObject.put.Key.{name as #self}
-use Rattle.sci_c.proofs.handle.SciObject.TheLaws.{lowers}
+use Rattle.sci_c.proofs.{LooseValues.{pointed, loose_out}, handle.SciObject.TheLaws.{lowers}}
 use Rattle.sci_c.proofs.handle.SciObject.put.Statement.{statement}
+use Rattle.sci_c.specs.{declared.handle.SciObject.{SciObject}, contracts.handle.SciObject.{the_row as R, the_type}}
+use Rattle.sci_c.specs.contracts.{thing.Thing.{the_row as T}, handle.SciObject.put.Key.{name as #self}}
+use Rattle.sci_c.specs.contracts.loose.Loose as loose
+use Rattle.sci_c.specs.contracts.handle.SciObject.put as f
 use Rattle.sci_c.proofs.handle.SciObject.put.Code as code
 
 pub put_spec : {M : Type 1} → statement M

@@ -1,5 +1,4 @@
-use Rattle.std.proofs.Common.{arith}
-use Rattle.std.proofs.lemmas.Grind.{common_steps}
+use Rattle.std.proofs.{Common.{arith}, lemmas.Grind.{common_steps}}
 use Rattle.sci_cache.proofs.Index.{with_changed}
 use Rattle.sci_cache.proofs.cache.Cache.accept.Goals as goal
 

@@ -1,17 +1,14 @@
 -- What a state would ask, with a slot if it needs one, is what the cache would ask.
-use Rattle.std.proofs.Common.{◌≡◌, ℕ, ◌<◌, ◌%◌, ◌&&◌, not, Bool, true, false, List, length, get_or, Some, None, Ok, Err, Option, Result}
-use Rattle.std.proofs.Common.{option_map, refl, sym, ap, subst, ◌∙◌}
+use Rattle.std.proofs.Common.{◌≡◌, ℕ, ◌<◌, ◌%◌, ◌&&◌, not, Bool, true, false, List, length, get_or, Some, None, Ok, Err, Option, Result, option_map, refl}
+use Rattle.std.proofs.{Common.{sym, ap, subst, ◌∙◌}, lemmas.List.{get_or_read}}
 use Rattle.std.specs.Prelude.{unwrap_or}
-use Rattle.std.proofs.lemmas.List.{get_or_read}
 use Rattle.sci_words.specs.declared.event.AskKind.{AskKind}
 use Rattle.sci_packets.specs.declared.body.Body.{Body}
-use Rattle.sci_cache.specs.declared.fault.AskFault.{AskFault}
-use Rattle.sci_cache.specs.State.{CacheState, is_out}
-use Rattle.sci_cache.specs.Asking.{Asked, asking}
+use Rattle.sci_cache.specs.{declared.fault.AskFault.{AskFault}, State.{CacheState, is_out}, Asking.{Asked, asking}}
 use Rattle.sci_cache.specs.Line.{LineState, ask_or_fault, line_asking, line_asked, untouched}
 use Rattle.sci_cache.specs.Cache.{CacheOf, Letter, line_of, has_slot, with_line, letter_asking, target_of, cache_asked, cache_asking}
-use Rattle.sci_cache.proofs.cache.Cache.asked.Goals as goal
 use Rattle.sci_cache.proofs.cache.Cache.asked.Goals.{else-is_out-via-then-is_out+else-not-has_slot, else-is_out-via-else-is_out}
+use Rattle.sci_cache.proofs.cache.Cache.asked.Goals as goal
 
 -- ---- what the state asks
 

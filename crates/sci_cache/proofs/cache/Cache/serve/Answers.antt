@@ -1,10 +1,7 @@
 -- The cache after a request, by what its line became.
-use Rattle.std.proofs.Common.{◌≡◌, ℕ, Some, arith, sym, ap, ◌∙◌}
-use Rattle.std.proofs.lemmas.Grind.{common_steps}
+use Rattle.std.proofs.{Common.{◌≡◌, ℕ, Some, arith, sym, ap, ◌∙◌}, lemmas.Grind.{common_steps}}
 use Rattle.sci_packets.specs.declared.body.Body.{Body}
-use Rattle.sci_cache.specs.Line.{LineState}
-use Rattle.sci_cache.specs.Cache.{CacheOf, line_of, with_line, cache_serving}
-use Rattle.sci_cache.specs.Serving.{serving}
+use Rattle.sci_cache.specs.{Line.{LineState}, Cache.{CacheOf, line_of, with_line, cache_serving}, Serving.{serving}}
 use Rattle.sci_cache.proofs.Index.{with_changed}
 use Rattle.sci_cache.proofs.cache.Cache.serve.Goals as goal
 

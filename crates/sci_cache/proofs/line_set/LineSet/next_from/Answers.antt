@@ -1,5 +1,4 @@
-use Rattle.std.specs.Prelude.{◌^◌}
-use Rattle.std.specs.Int.{trailing_zeros}
+use Rattle.std.specs.{Prelude.{◌^◌}, Int.{trailing_zeros}}
 use Rattle.std.proofs.Common.{◌+◌, ◌/◌, w64, sym, ap, ◌∙◌, arith}
 use Rattle.sci_cache.specs.LineSet.{is_in}
 use Rattle.sci_cache.proofs.LineSets.{first_in, none_above, none_between, none_so_far}

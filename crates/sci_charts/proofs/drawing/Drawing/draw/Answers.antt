@@ -1,5 +1,4 @@
-use Rattle.std.proofs.Common.{◌≡◌, ◌++◌, List, ℕ, true, arith, ap, sym, ◌∙◌}
-use Rattle.std.proofs.lemmas.Result.{on_ok_weaker}
+use Rattle.std.proofs.{Common.{◌≡◌, ◌++◌, List, ℕ, true, arith, ap, sym, ◌∙◌}, lemmas.Result.{on_ok_weaker}}
 use Rattle.sci_charts.specs.Drawing.{Drawn}
 use Rattle.sci_charts.proofs.Drawn.{row_added}
 use Rattle.sci_charts.proofs.drawing.Drawing.draw.Goals as goal

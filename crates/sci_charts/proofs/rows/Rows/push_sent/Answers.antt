@@ -1,13 +1,8 @@
-use Rattle.std.proofs.Common.{◌≡◌, List, ℕ, [], ◌∷◌, ◌++◌, ap, refl, ◌∙◌}
-use Rattle.std.proofs.lemmas.Result.{on_ok_weaker}
+use Rattle.std.proofs.{Common.{◌≡◌, List, ℕ, [], ◌∷◌, ◌++◌, ap, refl, ◌∙◌}, lemmas.Result.{on_ok_weaker}}
 use Rattle.sci_packets.specs.declared.packet.Packet.{Packet}
 use Rattle.sci_command.specs.PacketLine.{packet_line}
-use Rattle.sci_charts.specs.declared.arrows.ArrowKind.{ArrowKind}
-use Rattle.sci_charts.specs.declared.deed.Mark.{Mark}
-use Rattle.sci_charts.specs.declared.deed.Mark.TheVariants.{Sent}
-use Rattle.sci_charts.specs.declared.elements.Way.{Way}
-use Rattle.sci_charts.specs.Drawing.{letter_in}
-use Rattle.sci_charts.specs.Elements.{arrow_element}
+use Rattle.sci_charts.specs.declared.{arrows.ArrowKind.{ArrowKind}, deed.Mark.{Mark, TheVariants.{Sent}}}
+use Rattle.sci_charts.specs.{declared.elements.Way.{Way}, Drawing.{letter_in}, Elements.{arrow_element}}
 use Rattle.sci_charts.specs.Rows.{IsSent, kind_class}
 use Rattle.sci_charts.proofs.rows.Rows.push_sent.Goals as goal
 

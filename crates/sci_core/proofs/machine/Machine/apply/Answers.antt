@@ -1,8 +1,7 @@
 -- A reached state is well formed, and one event more leads to a reached state.
 use Rattle.std.proofs.Common.{subst, ap, ◌∙◌}
 use Rattle.std.specs.Prelude.{IfOk}
-use Rattle.sci_core.specs.Core.{Core}
-use Rattle.sci_core.specs.Done.{LastChanges, made_by}
+use Rattle.sci_core.specs.{Core.{Core}, Done.{LastChanges, made_by}}
 use Rattle.sci_core.proofs.ReachedLaws.{reached_coherent, applied_effects}
 use Rattle.sci_core.proofs.WellFormed.WellFormedSteps.{reached_well, reached_either, size_either}
 use Rattle.sci_core.proofs.machine.Machine.apply.Goals as goal

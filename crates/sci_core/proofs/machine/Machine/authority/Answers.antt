@@ -1,6 +1,5 @@
 -- A reached state is well formed and tidy.
-use Rattle.sci_core.proofs.WellFormed.WellFormedSteps.{reached_well}
-use Rattle.sci_core.proofs.Tidy.TidyRuns.{reached_tidy}
+use Rattle.sci_core.proofs.{WellFormed.WellFormedSteps.{reached_well}, Tidy.TidyRuns.{reached_tidy}}
 use Rattle.sci_core.proofs.machine.Machine.authority.Goals as goal
 
 pub first_authority-requires-clause-well : goal.first_authority-requires-clause-well

@@ -1,7 +1,6 @@
 -- The nodes so far are not wanted.
 use Rattle.std.proofs.Common.{◌≡◌, ◌<◌, ℕ, false}
-use Rattle.sci_core.specs.Rounds.{is_wanted}
-use Rattle.sci_core.specs.Shape.{state_at}
+use Rattle.sci_core.specs.{Rounds.{is_wanted}, Shape.{state_at}}
 use Rattle.sci_core.proofs.machine.Machine.find.Given as goal
 
 abbrev pub invariant-loop-n : goal.invariant-loop-n

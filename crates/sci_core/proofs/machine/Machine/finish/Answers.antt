@@ -1,13 +1,9 @@
 -- They are the logs and the last contents of a reached state.
 use Rattle.std.proofs.Common.{List, sym, ap, subst, ◌∙◌}
-use Rattle.sci_history.specs.declared.entry.Entry.{Entry}
-use Rattle.sci_history.specs.Audit.{AreWithin}
-use Rattle.sci_history.specs.Lawful.{Lawful}
+use Rattle.sci_history.specs.{declared.entry.Entry.{Entry}, Audit.{AreWithin}, Lawful.{Lawful}}
 use Rattle.sci_history.specs.Sequential.{IsSequentiallyConsistent}
-use Rattle.sci_core.specs.Core.{Core}
-use Rattle.sci_core.specs.Outcome.{logs_of}
-use Rattle.sci_core.proofs.WellFormed.WellFormedSteps.{reached_well}
-use Rattle.sci_core.proofs.ReachedLaws.{reached_within}
+use Rattle.sci_core.specs.{Core.{Core}, Outcome.{logs_of}}
+use Rattle.sci_core.proofs.{WellFormed.WellFormedSteps.{reached_well}, ReachedLaws.{reached_within}}
 use Rattle.sci_core.proofs.machine.Machine.finish.Goals as goal
 
 pub into_logs-requires : goal.into_logs-requires

@@ -1,16 +1,10 @@
 -- A reached state is well formed and tidy, and all lines are read off it.
 use Rattle.std.proofs.Common.{◌≡◌, List, length, sym, subst, ◌∙◌, refl, arith}
 use Rattle.std.proofs.lemmas.List.FromFn.{fill_by_all, length-map-range_with_len}
-use Rattle.sci_words.specs.declared.stamped.Stamped.{Stamped}
-use Rattle.sci_words.specs.Stamped.{zero_stamped}
-use Rattle.sci_history.specs.Lawful.{Lawful}
-use Rattle.sci_history.specs.Sequential.{IsSequentiallyConsistent}
-use Rattle.sci_core.specs.Core.{Core}
-use Rattle.sci_core.specs.Outcome.{logs_of}
-use Rattle.sci_core.specs.Reached.{IsReached}
-use Rattle.sci_core.specs.Sharing.{last_at, last_of}
-use Rattle.sci_core.proofs.WellFormed.WellFormedSteps.{reached_well}
-use Rattle.sci_core.proofs.Tidy.TidyRuns.{reached_tidy}
+use Rattle.sci_words.specs.{declared.stamped.Stamped.{Stamped}, Stamped.{zero_stamped}}
+use Rattle.sci_history.specs.{Lawful.{Lawful}, Sequential.{IsSequentiallyConsistent}}
+use Rattle.sci_core.specs.{Core.{Core}, Outcome.{logs_of}, Reached.{IsReached}, Sharing.{last_at, last_of}}
+use Rattle.sci_core.proofs.{WellFormed.WellFormedSteps.{reached_well}, Tidy.TidyRuns.{reached_tidy}}
 use Rattle.sci_core.proofs.ReachedLaws.{reached_consistent, reached_lawful}
 use Rattle.sci_core.proofs.machine.Machine.last.Goals as goal
 

@@ -1,15 +1,9 @@
 -- Each node's log has its own entries.
 use Rattle.std.proofs.Common.{◌≡◌, List, ap, sym, subst, ◌∙◌, refl, arith}
 use Rattle.std.specs.List.{All}
-use Rattle.sci_history.specs.declared.entry.Entry.{Entry}
-use Rattle.sci_history.specs.Audit.{AreWithin}
-use Rattle.sci_history.specs.Lawful.{Lawful}
+use Rattle.sci_history.specs.{declared.entry.Entry.{Entry}, Audit.{AreWithin}, Lawful.{Lawful}}
 use Rattle.sci_history.specs.Sequential.{IsSequentiallyConsistent}
-use Rattle.sci_core.specs.Node.{NodeOf}
-use Rattle.sci_core.specs.Core.{Core}
-use Rattle.sci_core.specs.Outcome.{logs_of}
-use Rattle.sci_core.specs.Reached.{IsReached}
-use Rattle.sci_core.specs.Sharing.{last_of}
+use Rattle.sci_core.specs.{Node.{NodeOf}, Core.{Core}, Outcome.{logs_of}, Reached.{IsReached}, Sharing.{last_of}}
 use Rattle.sci_core.proofs.WellFormed.WellFormedSteps.{reached_well}
 use Rattle.sci_core.proofs.ReachedLaws.{reached_consistent, reached_lawful, reached_within}
 use Rattle.sci_core.proofs.Basics.Logs.{all_logs, own_log}

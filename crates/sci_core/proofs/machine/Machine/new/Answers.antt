@@ -1,11 +1,8 @@
 -- The opening is where the schedule without events leads.
 use Rattle.std.proofs.Common.{[], sym, subst}
-use Rattle.sci_core.specs.Coherent.{IsCoherent}
-use Rattle.sci_core.specs.Core.{opening}
-use Rattle.sci_core.proofs.Tidy.TidyRuns.{run_reached}
-use Rattle.sci_core.proofs.ReachedLaws.{reached_coherent}
+use Rattle.sci_core.specs.{Coherent.{IsCoherent}, Core.{opening}, Size.{IsMachineSize, size_of}}
+use Rattle.sci_core.proofs.{Tidy.TidyRuns.{run_reached}, ReachedLaws.{reached_coherent}}
 use Rattle.sci_core.proofs.machine.Machine.new.Goals as goal
-use Rattle.sci_core.specs.Size.{IsMachineSize, size_of}
 
 pub returns-clause-coherent : goal.returns-clause-coherent
 returns-clause-coherent c =

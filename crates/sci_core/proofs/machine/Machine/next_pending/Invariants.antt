@@ -1,7 +1,6 @@
 -- Nothing is pending at the nodes and on the lines so far.
 use Rattle.std.proofs.Common.{◌≡◌, ◌<◌, ℕ, None}
-use Rattle.sci_core.specs.Core.{node_at}
-use Rattle.sci_core.specs.Node.{pending_on}
+use Rattle.sci_core.specs.{Core.{node_at}, Node.{pending_on}}
 use Rattle.sci_core.proofs.machine.Machine.next_pending.Given as goal
 
 abbrev pub invariant-nodes : goal.invariant-nodes

@@ -1,9 +1,7 @@
 -- The parts are those of a reached state.
 use Rattle.std.proofs.Common.{sym, subst}
-use Rattle.sci_core.specs.Coherent.{IsCoherent}
-use Rattle.sci_core.specs.Core.{core_of}
-use Rattle.sci_core.proofs.ReachedLaws.{reached_coherent}
-use Rattle.sci_core.proofs.WellFormed.WellFormedSteps.{reached_well}
+use Rattle.sci_core.specs.{Coherent.{IsCoherent}, Core.{core_of}}
+use Rattle.sci_core.proofs.{ReachedLaws.{reached_coherent}, WellFormed.WellFormedSteps.{reached_well}}
 use Rattle.sci_core.proofs.machine.Machine.of_parts.Goals as goal
 
 pub of_parts-requires : goal.of_parts-requires

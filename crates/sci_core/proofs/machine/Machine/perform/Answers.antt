@@ -2,8 +2,7 @@
 use Rattle.std.proofs.Common.{ap, ◌∙◌}
 use Rattle.sci_core.specs.Core.{Core}
 use Rattle.sci_words.specs.declared.event.Event.TheVariants.{Perform}
-use Rattle.sci_core.proofs.ReachedLaws.{reached_coherent}
-use Rattle.sci_core.proofs.WellFormed.WellFormedSteps.{reached_maybe, size_maybe}
+use Rattle.sci_core.proofs.{ReachedLaws.{reached_coherent}, WellFormed.WellFormedSteps.{reached_maybe, size_maybe}}
 use Rattle.sci_core.proofs.machine.Machine.perform.Goals as goal
 
 pub invariant_of-self : goal.invariant_of-self

@@ -1,8 +1,8 @@
 -- The line can be read, the operation can be performed, and one round is left.
 use Rattle.std.proofs.Common.{refl, arith}
 use Rattle.sci_core.proofs.Settling.EmptyRuns.{refused_after}
-use Rattle.sci_core.proofs.Settling.PendingRuns.{Done, after_perform, can_perform, can_read, done_so, has_read, performs_one_read, stands_after, worked_one}
-use Rattle.sci_core.proofs.machine.Machine.perform_pending.Goals.{In_ok-count}
+use Rattle.sci_core.proofs.Settling.PendingRuns.{Done, after_perform, can_perform, can_read, done_so, has_read, performs_one_read, stands_after}
+use Rattle.sci_core.proofs.{Settling.PendingRuns.{worked_one}, machine.Machine.perform_pending.Goals.{In_ok-count}}
 use Rattle.sci_core.proofs.machine.Machine.perform_pending.Goals as goal
 
 pub round-requires-clause-asks : goal.round-requires-clause-asks

@@ -5,8 +5,7 @@ use Rattle.sci_core.specs.Settling.{settles}
 use Rattle.sci_core.proofs.Settling.Leading.{leads_none}
 use Rattle.sci_core.proofs.Settling.RoundSteps.{accept_enabled_next, after_four, after_one, after_three, after_two, ask_enabled, reply_enabled_next}
 use Rattle.sci_core.proofs.Settling.RoundSteps.{round_drained, round_made, rounds_told, serve_enabled_next, small_told, stands}
-use Rattle.sci_core.proofs.Settling.Rounds.{Rounds}
-use Rattle.sci_core.proofs.machine.Machine.round.Goals.{After-get-target}
+use Rattle.sci_core.proofs.{Settling.Rounds.{Rounds}, machine.Machine.round.Goals.{After-get-target}}
 use Rattle.sci_core.proofs.machine.Machine.round.Goals as goal
 
 pub overflow_cast-target : goal.overflow_cast-target

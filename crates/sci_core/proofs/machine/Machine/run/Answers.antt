@@ -1,9 +1,8 @@
 -- Where memory is refused, the event is an Ask or a Reply that is enabled.
 use Rattle.std.proofs.Common.{ap, subst}
 use Rattle.sci_core.specs.Coherent.{IsCoherent}
-use Rattle.sci_core.proofs.ReachedLaws.{reached_coherent}
+use Rattle.sci_core.proofs.{ReachedLaws.{reached_coherent}, Step.Stops.{stopped}}
 use Rattle.std.specs.Prelude.{is_err}
-use Rattle.sci_core.proofs.Step.Stops.{stopped}
 use Rattle.sci_core.proofs.machine.Machine.run.Goals as goal
 
 pub returns-in-Err-Memory-clause-err : goal.returns-in-Err-Memory-clause-err

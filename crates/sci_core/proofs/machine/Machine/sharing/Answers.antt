@@ -1,8 +1,7 @@
 -- A reached state is well formed and tidy, and each of its lines has its shape.
 use Rattle.std.proofs.Common.{◌<◌, subst, sym}
 use Rattle.sci_core.specs.Core.{Core}
-use Rattle.sci_core.proofs.WellFormed.WellFormedSteps.{reached_well}
-use Rattle.sci_core.proofs.Tidy.TidyRuns.{reached_tidy}
+use Rattle.sci_core.proofs.{WellFormed.WellFormedSteps.{reached_well}, Tidy.TidyRuns.{reached_tidy}}
 use Rattle.sci_core.proofs.ReachedLaws.{reached_shapes}
 use Rattle.sci_core.proofs.machine.Machine.sharing.Goals as goal
 

@@ -2,8 +2,7 @@
 use Rattle.std.proofs.Common.{◌≡◌, Some}
 use Rattle.sci_cache.specs.Cache.{cache_accepting}
 use Rattle.sci_core.specs.contracts.node.Node.{the_view}
-use Rattle.sci_core.proofs.Step.Caches.{same_either, same_accepting}
-use Rattle.sci_core.proofs.Step.Nodes.{fits_kept, node_with_cache}
+use Rattle.sci_core.proofs.Step.{Caches.{same_either, same_accepting}, Nodes.{fits_kept, node_with_cache}}
 use Rattle.sci_core.proofs.node.Node.accept.Goals as goal
 
 pub invariant_of-self : goal.invariant_of-self

@@ -1,11 +1,8 @@
 -- An ask that may be made is about a line of the cache, which makes it and keeps its sizes.
 use Rattle.std.proofs.Common.{subst, sym}
 use Rattle.std.specs.Prelude.{IsSome}
-use Rattle.sci_core.specs.Node.{NodeOf, node_asking}
-use Rattle.sci_core.specs.contracts.node.Node.{the_view}
-use Rattle.sci_core.proofs.Step.Caches.{same_asked}
-use Rattle.sci_core.proofs.Step.Nodes.{fits_kept, node_with_cache}
-use Rattle.sci_core.proofs.Step.Asks.{may_ask}
+use Rattle.sci_core.specs.{Node.{NodeOf, node_asking}, contracts.node.Node.{the_view}}
+use Rattle.sci_core.proofs.Step.{Caches.{same_asked}, Nodes.{fits_kept, node_with_cache}, Asks.{may_ask}}
 use Rattle.sci_core.proofs.node.Node.apply_ask.Goals as goal
 
 pub invariant_of-self : goal.invariant_of-self

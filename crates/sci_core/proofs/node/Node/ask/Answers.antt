@@ -3,8 +3,7 @@ use Rattle.std.proofs.Common.{◌≡◌, Ok}
 use Rattle.sci_cache.specs.Cache.{letter_of, cache_asking}
 use Rattle.sci_packets.specs.declared.packet.Packet.{Packet}
 use Rattle.sci_core.specs.contracts.node.Node.{the_view}
-use Rattle.sci_core.proofs.Step.Caches.{same_either, same_asking}
-use Rattle.sci_core.proofs.Step.Nodes.{fits_kept, node_with_cache}
+use Rattle.sci_core.proofs.Step.{Caches.{same_either, same_asking}, Nodes.{fits_kept, node_with_cache}}
 use Rattle.sci_core.proofs.node.Node.ask.Goals as goal
 
 pub invariant_of-self : goal.invariant_of-self

@@ -1,8 +1,7 @@
 -- What the cache would ask is what the node would ask.
 use Rattle.std.proofs.Common.{◌≡◌, Some, subst, arith, ◌<◌}
 use Rattle.sci_cache.specs.Cache.{letter_of}
-use Rattle.sci_core.specs.Node.{NodeOf, node_asking, lines_of}
-use Rattle.sci_core.specs.contracts.node.Node.{the_view}
+use Rattle.sci_core.specs.{Node.{NodeOf, node_asking, lines_of}, contracts.node.Node.{the_view}}
 use Rattle.sci_core.proofs.Step.Asks.{asked_some}
 use Rattle.sci_core.proofs.node.Node.asked.Goals as goal
 

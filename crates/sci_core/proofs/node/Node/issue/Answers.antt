@@ -1,7 +1,6 @@
 -- An operation in range is pending.
 use Rattle.std.proofs.Common.{◌≡◌, true, ap, sym, ◌∙◌}
-use Rattle.sci_core.specs.Node.{NodeOf, may_issue}
-use Rattle.sci_core.specs.contracts.node.Node.{the_view}
+use Rattle.sci_core.specs.{Node.{NodeOf, may_issue}, contracts.node.Node.{the_view}}
 use Rattle.sci_core.proofs.Step.Nodes.{node_with_issue}
 use Rattle.sci_core.proofs.node.Node.issue.Goals as goal
 

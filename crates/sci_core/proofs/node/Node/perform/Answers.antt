@@ -1,12 +1,9 @@
 -- The entry takes the place of what was pending.
 use Rattle.std.proofs.Common.{◌≡◌, Some, Ok, Result, List, [], ◌∷◌, ◌++◌, if◌then◌else◌, sym, ap, ◌∙◌, arith}
-use Rattle.std.specs.Result.{is_ok}
-use Rattle.std.specs.declared.alloc.AllocFailed.{AllocFailed}
+use Rattle.std.specs.{Result.{is_ok}, declared.alloc.AllocFailed.{AllocFailed}}
 use Rattle.sci_history.specs.declared.entry.Entry.{Entry}
-use Rattle.sci_core.specs.Node.{NodeOf, pending_on}
-use Rattle.sci_core.specs.contracts.node.Node.{the_view}
-use Rattle.sci_core.proofs.Step.Caches.{same_performing}
-use Rattle.sci_core.proofs.Step.Nodes.{fits_kept, node_with_entry}
+use Rattle.sci_core.specs.{Node.{NodeOf, pending_on}, contracts.node.Node.{the_view}}
+use Rattle.sci_core.proofs.Step.{Caches.{same_performing}, Nodes.{fits_kept, node_with_entry}}
 use Rattle.sci_core.proofs.node.Node.perform.Goals as goal
 
 -- the log's room, and the entry at its end

@@ -1,9 +1,7 @@
 use Rattle.std.proofs.Common.{◌≡◌, ℕ, true, subst}
 use Rattle.std.specs.Prelude.{IsSome}
-use Rattle.sci_cache.specs.Cache.{line_of}
-use Rattle.sci_cache.specs.Kinds.{could_give_way}
-use Rattle.sci_core.specs.Node.{NodeOf, node_performing}
-use Rattle.sci_core.specs.contracts.node.Node.{the_view}
+use Rattle.sci_cache.specs.{Cache.{line_of}, Kinds.{could_give_way}}
+use Rattle.sci_core.specs.{Node.{NodeOf, node_performing}, contracts.node.Node.{the_view}}
 use Rattle.sci_core.proofs.History.Performable.{performs_with_contents}
 use Rattle.sci_core.proofs.node.Node.performs_on_lines_with_contents.Goals as goal
 

@@ -3,10 +3,8 @@ use Rattle.std.proofs.Common.{◌≡◌, ◌<◌, ◌/◌, ℕ, Some, length, ge
 use Rattle.std.proofs.lemmas.List.{get_or_read}
 use Rattle.sci_home.specs.Serving.{opening_home}
 use Rattle.sci_cache.specs.Cache.{letter_of}
-use Rattle.sci_core.specs.Node.{NodeOf, serving_at_home, home_of, lines_of}
-use Rattle.sci_core.specs.contracts.node.Node.{the_view}
-use Rattle.sci_core.proofs.Step.Nodes.{home_below}
-use Rattle.sci_core.proofs.Step.Asks.{home_served}
+use Rattle.sci_core.specs.{Node.{NodeOf, serving_at_home, home_of, lines_of}, contracts.node.Node.{the_view}}
+use Rattle.sci_core.proofs.Step.{Nodes.{home_below}, Asks.{home_served}}
 use Rattle.sci_core.proofs.node.Node.serve_at_home.Goals as goal
 
 pub returns-clause-served : goal.returns-clause-served

@@ -1,9 +1,7 @@
 -- What waits is looked at before what is carried.
 use Rattle.std.proofs.Common.{◌≡◌, Some, None, sym, ap, ◌∙◌}
 use Rattle.std.specs.Prelude.{option_to_list}
-use Rattle.sci_core.specs.declared.lane.LaneKind.TheVariants.{Answers}
-use Rattle.sci_core.specs.Core.{lane_of, node_at}
-use Rattle.sci_core.specs.Node.{NodeOf}
+use Rattle.sci_core.specs.{declared.lane.LaneKind.TheVariants.{Answers}, Core.{lane_of, node_at}, Node.{NodeOf}}
 use Rattle.sci_core.proofs.Tidy.Seeking.{seek, seek_first, seek_second}
 use Rattle.sci_core.proofs.state.State.answer_from.Goals as goal
 

@@ -1,6 +1,5 @@
 use Rattle.std.proofs.Common.{◌≡◌, ◌<◌, ℕ, None}
-use Rattle.sci_core.proofs.Tidy.Seeking.{seek}
-use Rattle.sci_core.proofs.Tidy.Answering.{sent_from}
+use Rattle.sci_core.proofs.Tidy.{Seeking.{seek}, Answering.{sent_from}}
 use Rattle.sci_core.proofs.state.State.answer_from_any.Given as goal
 
 -- no node so far has one

@@ -1,15 +1,12 @@
 -- The packet that is sent is the one that the ask makes.
 use Rattle.std.proofs.Common.{◌≡◌, refl, ap, sym, subst, ◌∙◌, arith}
 use Rattle.std.specs.Prelude.{IsSome}
-use Rattle.sci_words.specs.declared.event.Event.TheVariants as event
 use Rattle.sci_cache.specs.Cache.{letter_of}
-use Rattle.sci_core.specs.declared.lane.LaneKind.TheVariants.{Requests}
-use Rattle.sci_core.specs.Node.{NodeOf, node_asking}
-use Rattle.sci_core.specs.Core.{node_at, sends}
-use Rattle.sci_core.specs.contracts.state.State.{the_view}
-use Rattle.sci_core.proofs.Step.Stepping.{stepping_idle}
-use Rattle.sci_core.proofs.Step.Applied.{target_below, sent_done, sent_enabled}
+use Rattle.sci_core.specs.{declared.lane.LaneKind.TheVariants.{Requests}, Node.{NodeOf, node_asking}}
+use Rattle.sci_core.specs.{Core.{node_at, sends}, contracts.state.State.{the_view}}
+use Rattle.sci_core.proofs.Step.{Stepping.{stepping_idle}, Applied.{target_below, sent_done, sent_enabled}}
 use Rattle.sci_core.proofs.Step.States.{read_at}
+use Rattle.sci_words.specs.declared.event.Event.TheVariants as event
 use Rattle.sci_core.proofs.state.State.ask.Goals as goal
 
 pub returns-in_default-clause-refused : goal.returns-in_default-clause-refused

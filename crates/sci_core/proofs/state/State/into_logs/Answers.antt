@@ -1,13 +1,9 @@
 -- Each node's log is put in its place.
 use Rattle.std.proofs.Common.{◌≡◌, ◌++◌, ◌∷◌, [], ℕ, List, ◌+◌, length, nat_lt, if◌then◌else◌, set, sym, ap, subst, ◌∙◌, append_assoc, arith}
-use Rattle.std.specs.List.{All}
 use Rattle.std.proofs.lemmas.List.{length-append, length-set}
-use Rattle.sci_history.specs.declared.entry.Entry.{Entry}
-use Rattle.sci_history.specs.Placed.{log_of}
-use Rattle.sci_core.specs.Node.{NodeOf}
-use Rattle.sci_core.specs.Core.{Core, core_of, node_at}
-use Rattle.sci_core.specs.Outcome.{logs_of}
-use Rattle.sci_core.specs.WellFormed.{IsWellFormed}
+use Rattle.std.specs.List.{All}
+use Rattle.sci_history.specs.{declared.entry.Entry.{Entry}, Placed.{log_of}}
+use Rattle.sci_core.specs.{Node.{NodeOf}, Core.{Core, core_of, node_at}, Outcome.{logs_of}, WellFormed.{IsWellFormed}}
 use Rattle.sci_core.proofs.Basics.Logs.{IsNextNode, all_logs, logged_more, next_node}
 use Rattle.sci_core.proofs.state.State.into_logs.Goals.{In-Some}
 use Rattle.sci_core.proofs.state.State.into_logs.Goals as goal

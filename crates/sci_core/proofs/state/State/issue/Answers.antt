@@ -1,12 +1,9 @@
 -- The node's call is the step.
-use Rattle.std.proofs.Common.{◌≡◌, None, Some, ap, subst, ◌∙◌, arith}
-use Rattle.std.proofs.lemmas.Grind.{common_steps}
+use Rattle.std.proofs.{Common.{◌≡◌, None, Some, ap, subst, ◌∙◌, arith}, lemmas.Grind.{common_steps}}
 use Rattle.std.proofs.lemmas.Option.{IfSome_then}
-use Rattle.sci_words.specs.declared.event.Event.TheVariants as event
-use Rattle.sci_core.specs.Node.{NodeOf, node_issuing}
-use Rattle.sci_core.specs.Core.{changes}
-use Rattle.sci_core.specs.Work.{IsIssued}
+use Rattle.sci_core.specs.{Node.{NodeOf, node_issuing}, Core.{changes}, Work.{IsIssued}}
 use Rattle.sci_core.proofs.Step.States.{at_both, node_call}
+use Rattle.sci_words.specs.declared.event.Event.TheVariants as event
 use Rattle.sci_core.proofs.state.State.issue.Goals as goal
 
 pub returns : goal.returns

@@ -1,7 +1,6 @@
 use Rattle.std.proofs.Common.{◌≡◌, List, ℕ, length, ap, subst, arith, length-append, refl}
 use Rattle.sci_home.specs.Serving.{head_of}
-use Rattle.sci_core.specs.Sharing.{authority_contents, home_at, sharer_of}
-use Rattle.sci_core.specs.SharingList.{link_at}
+use Rattle.sci_core.specs.{Sharing.{authority_contents, home_at, sharer_of}, SharingList.{link_at}}
 use Rattle.sci_core.proofs.Shape.Shared.{sought_first, sought_more}
 use Rattle.sci_core.proofs.Shape.Walking.{IsWalked, walk_begins, walk_ends, walks_more, walk_done, walked_at}
 use Rattle.sci_core.proofs.state.State.members.Goals as goal

@@ -1,9 +1,7 @@
 use Rattle.std.proofs.Common.{◌≡◌, length}
 use Rattle.sci_home.specs.Serving.{head_of}
-use Rattle.sci_core.specs.Sharing.{home_at}
-use Rattle.sci_core.specs.SharingList.{link_at}
-use Rattle.sci_core.proofs.Shape.Shared.{Sought}
-use Rattle.sci_core.proofs.Shape.Walking.{IsWalked}
+use Rattle.sci_core.specs.{Sharing.{home_at}, SharingList.{link_at}}
+use Rattle.sci_core.proofs.Shape.{Shared.{Sought}, Walking.{IsWalked}}
 use Rattle.sci_core.proofs.state.State.members.Given as goal
 
 -- the walk so far, and the authority among its nodes

@@ -1,11 +1,9 @@
 -- One node more, and at the end all nodes and lanes.
 use Rattle.std.proofs.Common.{◌≡◌, ℕ, ◌*◌, List, [], ◌∷◌, ◌++◌, length, map, refl, sym, ap, ◌∙◌, arith}
+use Rattle.std.proofs.lemmas.List.{length-replicate, FromFn.{map-range_with_len_more, length-map-range_with_len}}
 use Rattle.std.specs.List.{range_with_len}
-use Rattle.std.proofs.lemmas.List.{length-replicate}
-use Rattle.std.proofs.lemmas.List.FromFn.{map-range_with_len_more, length-map-range_with_len}
-use Rattle.sci_core.specs.Node.{NodeOf, opening_node}
+use Rattle.sci_core.specs.{Node.{NodeOf, opening_node}, Size.{size_of}}
 use Rattle.sci_core.proofs.state.State.new.Goals as goal
-use Rattle.sci_core.specs.Size.{size_of}
 
 pub loop-me-preserved : goal.loop-me-preserved
 loop-me-preserved c =

@@ -1,12 +1,8 @@
 -- The node's call is the step.
-use Rattle.std.proofs.Common.{◌≡◌, None, Some, ap, subst, arith}
-use Rattle.std.proofs.lemmas.Grind.{common_steps}
-use Rattle.std.proofs.lemmas.Option.{IfSome_then}
-use Rattle.sci_words.specs.declared.event.Event.TheVariants as event
-use Rattle.sci_core.specs.Node.{NodeOf, node_performing}
-use Rattle.sci_core.specs.Core.{performs}
-use Rattle.sci_core.specs.Work.{IsLogged}
+use Rattle.std.proofs.{Common.{◌≡◌, None, Some, ap, subst, arith}, lemmas.{Grind.{common_steps}, Option.{IfSome_then}}}
+use Rattle.sci_core.specs.{Node.{NodeOf, node_performing}, Core.{performs}, Work.{IsLogged}}
 use Rattle.sci_core.proofs.Step.States.{at_both, node_call}
+use Rattle.sci_words.specs.declared.event.Event.TheVariants as event
 use Rattle.sci_core.proofs.state.State.perform.Goals as goal
 
 pub returns : goal.returns

@@ -1,15 +1,12 @@
 -- The packet that is sent is the answer that waits.
 use Rattle.std.proofs.Common.{◌≡◌, None, Some, Option, option_map, refl, ap, sym, subst, ◌∙◌}
 use Rattle.std.specs.Prelude.{IfSome}
-use Rattle.sci_words.specs.declared.event.Event.TheVariants as event
 use Rattle.sci_packets.specs.declared.packet.Packet.{Packet}
 use Rattle.sci_cache.specs.Cache.{Letter, letter_of}
-use Rattle.sci_core.specs.declared.lane.LaneKind.TheVariants.{Answers}
-use Rattle.sci_core.specs.Node.{NodeOf, node_replying, replied_by}
-use Rattle.sci_core.specs.Core.{sends, node_at}
-use Rattle.sci_core.specs.contracts.state.State.{the_view}
-use Rattle.sci_core.proofs.Step.Stepping.{stepping_idle}
-use Rattle.sci_core.proofs.Step.Applied.{sent_done, sent_enabled, waits_replying}
+use Rattle.sci_core.specs.{declared.lane.LaneKind.TheVariants.{Answers}, Node.{NodeOf, node_replying, replied_by}}
+use Rattle.sci_core.specs.{Core.{sends, node_at}, contracts.state.State.{the_view}}
+use Rattle.sci_core.proofs.Step.{Stepping.{stepping_idle}, Applied.{sent_done, sent_enabled, waits_replying}}
+use Rattle.sci_words.specs.declared.event.Event.TheVariants as event
 use Rattle.sci_core.proofs.state.State.reply.Goals as goal
 
 gone : (old new : NodeOf) (result : Option Packet) → IfSome result (λ answer. node_replying old ≡ Some (new, letter_of answer))

@@ -2,10 +2,8 @@
 use Rattle.std.proofs.Common.{◌≡◌, List, set, drop, sym, ap, subst, ◌∙◌, arith}
 use Rattle.std.specs.Prelude.{option_map, slice_get}
 use Rattle.sci_cache.specs.Cache.{Letter, letter_of}
-use Rattle.sci_core.specs.declared.lane.LaneKind.{LaneKind}
-use Rattle.sci_core.specs.Node.{NodeOf}
-use Rattle.sci_core.specs.Core.{Core, lane_place, lane_of, with_lane}
-use Rattle.sci_core.specs.Taking.{IsTakable}
+use Rattle.sci_core.specs.{declared.lane.LaneKind.{LaneKind}, Node.{NodeOf}}
+use Rattle.sci_core.specs.{Core.{Core, lane_place, lane_of, with_lane}, Taking.{IsTakable}}
 use Rattle.sci_core.proofs.Step.States.{read_at}
 use Rattle.sci_core.proofs.Step.Takings.{taking_from_nobody, taking_empty, takable, taking_untaken, taking_done}
 use Rattle.sci_core.proofs.state.State.take.Goals as goal

@@ -1,6 +1,5 @@
 use Rattle.std.proofs.Common.{◌≡◌, ◌≤◌}
-use Rattle.sci_drive.specs.Driving.{IsDriven, IsInOrder}
-use Rattle.sci_drive.specs.Rounds.{GoRounds}
+use Rattle.sci_drive.specs.{Driving.{IsDriven, IsInOrder}, Rounds.{GoRounds}}
 use Rattle.sci_drive.proofs.Resting.{HasGone}
 use Rattle.sci_drive.proofs.driver.Driver.go_on.Given as goal
 

@@ -1,19 +1,12 @@
 use Rattle.std.proofs.Common.{arith, true, false, ◌≡◌, ◌<◌, ℕ, List, [], ◌∷◌, ◌++◌, length, None, refl, sym, ap, subst, ◌∙◌, inl, inr}
-use Rattle.std.specs.List.{remove}
-use Rattle.std.specs.Prelude.{slice_index_or}
-use Rattle.std.proofs.lemmas.Bool.{cases_lt}
-use Rattle.std.proofs.lemmas.List.{get_or_default}
-use Rattle.std.proofs.lemmas.List.Edits.{get_or-remove_below}
+use Rattle.std.proofs.lemmas.{Bool.{cases_lt}, List.{get_or_default, Edits.{get_or-remove_below}}}
+use Rattle.std.specs.{List.{remove}, Prelude.{slice_index_or}}
 use Rattle.sci_history.specs.declared.entry.Entry.{Entry}
-use Rattle.sci_core.specs.Node.{NodeOf, node_performing}
-use Rattle.sci_core.specs.Work.{IsLogged}
-use Rattle.sci_drive.specs.Calls.{Answered, IsHeard}
-use Rattle.sci_drive.specs.Driving.{DriverOf, IsDriven, IsInOrder}
+use Rattle.sci_core.specs.{Node.{NodeOf, node_performing}, Work.{IsLogged}}
+use Rattle.sci_drive.specs.{Calls.{Answered, IsHeard}, Driving.{DriverOf, IsDriven, IsInOrder}}
 use Rattle.sci_drive.specs.Rounds.{ArePerformed, IsTried}
-use Rattle.sci_drive.proofs.Calls.{answer_call, heard_nothing, heard_on}
-use Rattle.sci_drive.proofs.Drives.{grows, left_of, performs}
-use Rattle.sci_drive.proofs.InOrder.{performs_in_order}
-use Rattle.sci_drive.proofs.Rounds.{one_more_performed, tried_on}
+use Rattle.sci_drive.proofs.{Calls.{answer_call, heard_nothing, heard_on}, Drives.{grows, left_of, performs}}
+use Rattle.sci_drive.proofs.{InOrder.{performs_in_order}, Rounds.{one_more_performed, tried_on}}
 use Rattle.sci_drive.proofs.driver.Driver.perform.Goals as goal
 
 -- src/driver.rt:132:9

@@ -1,9 +1,7 @@
 use Rattle.std.proofs.Common.{◌≡◌, ◌<◌, ℕ, List, [], length, ◌-◌, true, false}
 use Rattle.std.specs.Prelude.{slice_index_or}
 use Rattle.sci_history.specs.declared.entry.Entry.{Entry}
-use Rattle.sci_drive.specs.Calls.{IsHeard}
-use Rattle.sci_drive.specs.Driving.{DriverOf, IsDriven, IsInOrder}
-use Rattle.sci_drive.specs.Rounds.{ArePerformed, IsTried}
+use Rattle.sci_drive.specs.{Calls.{IsHeard}, Driving.{DriverOf, IsDriven, IsInOrder}, Rounds.{ArePerformed, IsTried}}
 use Rattle.sci_drive.proofs.driver.Driver.perform.Given as goal
 
 abbrev pub invariant-loop-place : goal.invariant-loop-place

@@ -1,16 +1,11 @@
 -- A round submits, performs and takes a turn, and may tell the gate at its end.
 use Rattle.std.proofs.Common.{rules, subst, sym}
-use Rattle.std.specs.Prelude.{IfOk, Ok, Result}
+use Rattle.std.specs.{Prelude.{IfOk, Ok, Result}, declared.alloc.AllocError.{AllocError}}
 use Rattle.sci_policy.specs.Worker.{IsNodeTurn}
-use Rattle.std.specs.declared.alloc.AllocError.{AllocError}
-use Rattle.sci_drive.specs.declared.driver.Round.{Round}
-use Rattle.sci_drive.specs.Driving.{DriverOf, IsDriven, IsInOrder}
-use Rattle.sci_drive.specs.Rounds.{GoesRound}
-use Rattle.sci_drive.proofs.Drives.{left_of, tells, turns}
-use Rattle.sci_drive.proofs.InOrder.{tells_in_order, turns_in_order}
-use Rattle.sci_drive.proofs.Rounds.{goes, goes_done}
+use Rattle.sci_drive.specs.{declared.driver.Round.{Round}, Driving.{DriverOf, IsDriven, IsInOrder}, Rounds.{GoesRound}}
+use Rattle.sci_drive.proofs.{Drives.{left_of, tells, turns}, InOrder.{tells_in_order, turns_in_order}}
+use Rattle.sci_drive.proofs.{Rounds.{goes, goes_done}, driver.Driver.round.Goals.{After-turn}}
 use Rattle.sci_drive.proofs.driver.Driver.round.Goals as goal
-use Rattle.sci_drive.proofs.driver.Driver.round.Goals.{After-turn}
 
 -- what the turn leaves, and what the round is then
 driven : (g : _) (c : After-turn g) → IsDriven c.perform-answered.new.self (g.W.Worker.node c.turn.new.self)

@@ -1,19 +1,16 @@
 use Rattle.std.proofs.Common.{arith, ◌≡◌, ◌+◌, ◌<◌, ◌≤◌, Option, inl, inr, ℕ, Bool, true, false, List, [], ◌∷◌, length, Some, None, refl, sym, subst, ◌∙◌}
+use Rattle.std.proofs.lemmas.{Bool.{cases_lt, eqb-true, ltb-false, ltb-true}, List.Folds.{Any-from_list_any}}
+use Rattle.std.proofs.lemmas.Option.{slice_get_past, slice_get_read}
 use Rattle.std.specs.Prelude.{nat_eq, nat_lt, slice_get, Result, Ok, Err, IfErr, IsErr, IsSome}
 use Rattle.std.specs.List.{Contains, list_any}
-use Rattle.std.proofs.lemmas.Bool.{cases_lt, eqb-true, ltb-false, ltb-true}
-use Rattle.std.proofs.lemmas.List.Folds.{Any-from_list_any}
-use Rattle.std.proofs.lemmas.Option.{slice_get_past, slice_get_read}
 use Rattle.sci_words.specs.declared.operation.Op.{Op}
 use Rattle.sci_core.specs.Work.{IsIssued}
 use Rattle.sci_policy.specs.Turn.{submit_fault}
-use Rattle.sci_drive.specs.Calls.{MayIssue}
-use Rattle.sci_drive.specs.Driving.{DriverOf, IsDriven}
+use Rattle.sci_drive.specs.{Calls.{MayIssue}, Driving.{DriverOf, IsDriven}}
 use Rattle.sci_drive.specs.Rounds.{AllSubmitted, LineIsTaken, NoRoom, NotAllowed, Refused, most_pending, next_op}
-use Rattle.sci_drive.proofs.Drives.{left_of, submits}
-use Rattle.sci_drive.proofs.Rounds.{asks, holds_back, submits_one}
-use Rattle.sci_drive.proofs.driver.Driver.submit.Goals as goal
+use Rattle.sci_drive.proofs.{Drives.{left_of, submits}, Rounds.{asks, holds_back, submits_one}}
 use Rattle.sci_drive.proofs.driver.Driver.submit.Goals.{In-Some}
+use Rattle.sci_drive.proofs.driver.Driver.submit.Goals as goal
 
 -- the next operation of the script
 next_is : (g : _) (c : In-Some g) → next_op (left_of c.self.view_is) ≡ Some c.in-Some.op.now

@@ -1,6 +1,5 @@
 -- Setting an element of the front sets it in the front.
-use Rattle.std.proofs.Common.{◌≡◌, ◌<◌, ap, arith, length, sym, take}
-use Rattle.std.proofs.lemmas.List.{length-take}
+use Rattle.std.proofs.{Common.{◌≡◌, ◌<◌, ap, arith, length, sym, take}, lemmas.List.{length-take}}
 use Rattle.std.proofs.Math.Seq.{take-set-lt}
 use Rattle.sci_history.proofs.last.Last.set.Goals as goal
 

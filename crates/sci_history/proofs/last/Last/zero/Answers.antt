@@ -1,6 +1,5 @@
 -- The front of sixty-four zero lines is that many zero lines.
-use Rattle.std.proofs.Common.{arith}
-use Rattle.std.proofs.lemmas.List.{take-replicate}
+use Rattle.std.proofs.{Common.{arith}, lemmas.List.{take-replicate}}
 use Rattle.sci_words.specs.Stamped.{zero_stamped}
 use Rattle.sci_history.proofs.last.Last.zero.Goals as goal
 

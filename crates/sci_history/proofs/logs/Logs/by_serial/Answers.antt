@@ -1,12 +1,10 @@
 -- Each log is sorted by itself.
 use Rattle.std.proofs.Common.{◌≡◌, ◌<◌, [], ℕ, List, get_or, length, map, set, sym, ap, ◌∙◌, inl, inr, arith}
-use Rattle.std.specs.Global.{Vec}
 use Rattle.std.proofs.lemmas.Bool.{cases_eq}
 use Rattle.std.proofs.lemmas.List.{map-set, length-map, length-set, get_or-map, get_or-set_same, get_or-set_other}
+use Rattle.std.specs.Global.{Vec}
 use Rattle.sci_words.specs.declared.limits.TheConstants.{MAX_NODES}
-use Rattle.sci_history.specs.declared.entry.Entry.{Entry}
-use Rattle.sci_history.specs.Placed.{in_serial_order, log_of}
-use Rattle.sci_history.specs.Sequential.{by_serial}
+use Rattle.sci_history.specs.{declared.entry.Entry.{Entry}, Placed.{in_serial_order, log_of}, Sequential.{by_serial}}
 use Rattle.sci_history.proofs.SerialOrder.{own_sorted, all_logs_sorted}
 use Rattle.sci_history.proofs.logs.Logs.by_serial.Goals as goal
 

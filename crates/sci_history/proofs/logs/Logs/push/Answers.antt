@@ -1,9 +1,8 @@
 -- One of sixteen logs is longer, and the fifteen others stand.
-use Rattle.std.proofs.lemmas.List.{map-set, length-map, length-set, get_or-map}
+use Rattle.std.proofs.lemmas.List.{map-set, length-map, length-set, get_or-map, Elements.{All-same}}
+use Rattle.std.proofs.lemmas.Result.{on_ok_weaker, on_err_weaker}
 use Rattle.std.proofs.Common.{◌≡◌, ◌<◌, ◌∙◌, [], get_or, length, map, sym, refl, arith}
 use Rattle.std.specs.Prelude.{All}
-use Rattle.std.proofs.lemmas.List.Elements.{All-same}
-use Rattle.std.proofs.lemmas.Result.{on_ok_weaker, on_err_weaker}
 use Rattle.sci_history.proofs.Pushes.{pushed, unpushed, all_pushed, own_set}
 use Rattle.sci_history.specs.Placed.{log_of}
 use Rattle.sci_history.proofs.logs.Logs.push.Goals as goal

@@ -1,7 +1,6 @@
 -- The words of the memory run as the stamped lines do.
 use Rattle.std.proofs.Common.{◌≡◌, sym, ◌∙◌, ap}
-use Rattle.sci_words.specs.Stamped.{reply_of}
-use Rattle.sci_words.specs.declared.stamped.Stamped.{Stamped}
+use Rattle.sci_words.specs.{Stamped.{reply_of}, declared.stamped.Stamped.{Stamped}}
 use Rattle.sci_history.specs.Memory.{words_of_lines, stamped_at, contents_after}
 use Rattle.sci_history.proofs.Runs.{line_at-words_of_lines, words_of_lines-contents_after}
 use Rattle.sci_history.proofs.memory.Memory.do_op.Goals as goal

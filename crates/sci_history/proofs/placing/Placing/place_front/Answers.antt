@@ -1,14 +1,11 @@
 use Rattle.std.proofs.Common.{◌≡◌, ℕ, ◌+◌, List, get_or, set, length, refl, sym, ap, subst, arith}
 use Rattle.sci_words.specs.declared.limits.TheConstants.{MAX_NODES, MAX_LINES}
-use Rattle.sci_history.specs.declared.entry.Entry.{Entry}
-use Rattle.sci_history.specs.declared.placing.LineState.{LineState}
-use Rattle.sci_history.specs.Audit.{entries_of}
+use Rattle.sci_history.specs.{declared.{entry.Entry.{Entry}, placing.LineState.{LineState}}, Audit.{entries_of}}
 use Rattle.sci_history.specs.Placing.{CanFollow, IsPlacing, rests_of, state_of, state_after}
 use Rattle.sci_history.proofs.AuditFinds.{no_entry}
 use Rattle.sci_history.proofs.PlaceSteps.{IsFrontRead, counts_long, counts_read, entries_pushed, front_read, front_placed, load_counted}
-use Rattle.sci_history.proofs.Rests.{none_at}
+use Rattle.sci_history.proofs.{Rests.{none_at}, placing.Placing.place_front.Goals.{Else-place-log}}
 use Rattle.sci_history.proofs.placing.Placing.place_front.Goals as goal
-use Rattle.sci_history.proofs.placing.Placing.place_front.Goals.{Else-place-log}
 
 pub returns-then-place-log-clause-stuck : goal.returns-then-place-log-clause-stuck
 returns-then-place-log-clause-stuck c e = (

@@ -1,6 +1,5 @@
 use Rattle.std.proofs.Common.{◌≡◌, ◌≤◌, ◌<◌, ℕ, length}
-use Rattle.sci_history.specs.Audit.{entries_of}
-use Rattle.sci_history.specs.Placing.{IsPlacing, IsStuckAt, rests_of}
+use Rattle.sci_history.specs.{Audit.{entries_of}, Placing.{IsPlacing, IsStuckAt, rests_of}}
 use Rattle.sci_history.proofs.placing.Placing.place_round.Given as goal
 
 -- if nothing was placed in this round, the nodes so far are stuck

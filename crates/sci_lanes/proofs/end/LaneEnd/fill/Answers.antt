@@ -1,7 +1,6 @@
 use Rattle.std.proofs.Common.{sym, ap, subst}
 use Rattle.sci_lanes.specs.Ends.{EndOf, MayFill}
-use Rattle.sci_lanes.proofs.Seats.{sends_in}
-use Rattle.sci_lanes.proofs.Inside.{filled_inside}
+use Rattle.sci_lanes.proofs.{Seats.{sends_in}, Inside.{filled_inside}}
 use Rattle.sci_lanes.proofs.end.LaneEnd.fill.Goals as goal
 
 pub invariant_of-self : goal.invariant_of-self

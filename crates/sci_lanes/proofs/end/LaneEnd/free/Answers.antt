@@ -1,18 +1,12 @@
 use Rattle.std.proofs.Common.{◌≡◌, Some, refl, sym, ap, subst, ◌∙◌}
 use Rattle.std.specs.Prelude.{IsSome}
-use Rattle.sci_packets.specs.declared.packet.Packet.{Packet}
-use Rattle.sci_packets.specs.Spelling.{SpellsInWords}
+use Rattle.sci_packets.specs.{declared.packet.Packet.{Packet}, Spelling.{SpellsInWords}}
 use Rattle.sci_cache.specs.Cache.{letter_of}
-use Rattle.sci_core.specs.Node.{NodeOf}
-use Rattle.sci_core.specs.Core.{side}
-use Rattle.sci_lanes.specs.Ends.{EndOf, MayFree, MayBeGiven, taken_by, lane_at_cell}
-use Rattle.sci_lanes.specs.Shown.{inbound_at}
-use Rattle.sci_lanes.proofs.Seats.{takes_in}
-use Rattle.sci_lanes.proofs.Inside.{freed_inside}
-use Rattle.sci_lanes.proofs.Places.{places_freed}
-use Rattle.sci_lanes.proofs.Calls.{takes_some, given, freeing, one_spelled}
+use Rattle.sci_core.specs.{Node.{NodeOf}, Core.{side}}
+use Rattle.sci_lanes.specs.{Ends.{EndOf, MayFree, MayBeGiven, taken_by, lane_at_cell}, Shown.{inbound_at}}
+use Rattle.sci_lanes.proofs.{Seats.{takes_in}, Inside.{freed_inside}, Places.{places_freed}}
+use Rattle.sci_lanes.proofs.{Calls.{takes_some, given, freeing, one_spelled}, end.LaneEnd.free.Goals.{After-self}}
 use Rattle.sci_lanes.proofs.end.LaneEnd.free.Goals as goal
-use Rattle.sci_lanes.proofs.end.LaneEnd.free.Goals.{After-self}
 
 -- the packet may be taken, as the seat knows the end
 may : (c : After-self) → MayFree c.self.inside.seat.part c.args.cell c.args.event.now

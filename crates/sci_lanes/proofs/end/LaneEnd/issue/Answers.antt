@@ -1,10 +1,7 @@
 use Rattle.std.proofs.Common.{◌≡◌, Some, ap, subst, sym, ◌∙◌}
-use Rattle.sci_core.specs.Core.{changes}
-use Rattle.sci_core.specs.Node.{NodeOf, node_issuing}
-use Rattle.sci_core.specs.Work.{IsIssued}
+use Rattle.sci_core.specs.{Core.{changes}, Node.{NodeOf, node_issuing}, Work.{IsIssued}}
 use Rattle.sci_words.specs.declared.event.Event.TheVariants.{Issue}
-use Rattle.sci_lanes.specs.Ends.{EndOf, beaten, informed_at, HasIssued}
-use Rattle.sci_lanes.specs.Telling.{IsMade}
+use Rattle.sci_lanes.specs.{Ends.{EndOf, beaten, informed_at, HasIssued}, Telling.{IsMade}}
 use Rattle.sci_lanes.proofs.end.LaneEnd.issue.Goals as goal
 
 pub beat-requires-clause-beating : goal.beat-requires-clause-beating

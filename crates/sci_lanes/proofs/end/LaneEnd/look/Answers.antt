@@ -1,13 +1,9 @@
 use Rattle.std.proofs.Common.{◌≡◌, ◌≤◌, ◌⊎◌, ℕ, length, sym, ap, subst, ◌∙◌, arith}
-use Rattle.sci_core.specs.Core.{Core, lane_at, lane_of, lane_place}
-use Rattle.sci_core.specs.Node.{NodeOf}
-use Rattle.sci_lanes.specs.declared.cell.CellId.{CellId}
-use Rattle.sci_lanes.specs.Shown.{informed, me_of}
+use Rattle.sci_core.specs.{Core.{Core, lane_at, lane_of, lane_place}, Node.{NodeOf}}
+use Rattle.sci_lanes.specs.{declared.cell.CellId.{CellId}, Shown.{informed, me_of}}
 use Rattle.sci_lanes.specs.Ends.{EndOf, IsNextToSend, IsNextToTake, informed_at, lane_at_cell, looked_at, nodes_in}
 use Rattle.sci_lanes.specs.Telling.{IsFull, IsShown, SomeLineWaits, state_of}
-use Rattle.sci_lanes.proofs.Seats.{either_in, shown_nodes}
-use Rattle.sci_lanes.proofs.Inside.{looked_inside}
-use Rattle.sci_lanes.proofs.Calls.{full_waits}
+use Rattle.sci_lanes.proofs.{Seats.{either_in, shown_nodes}, Inside.{looked_inside}, Calls.{full_waits}}
 use Rattle.sci_lanes.proofs.end.LaneEnd.look.Goals as goal
 
 pub invariant_of-self : goal.invariant_of-self

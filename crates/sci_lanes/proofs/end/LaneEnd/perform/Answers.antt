@@ -1,10 +1,7 @@
 use Rattle.std.proofs.Common.{◌≡◌, Some, ap, subst, sym, ◌∙◌}
-use Rattle.sci_core.specs.Core.{performs}
-use Rattle.sci_core.specs.Node.{NodeOf, node_performing}
-use Rattle.sci_core.specs.Work.{IsLogged}
+use Rattle.sci_core.specs.{Core.{performs}, Node.{NodeOf, node_performing}, Work.{IsLogged}}
 use Rattle.sci_words.specs.declared.event.Event.TheVariants.{Perform}
-use Rattle.sci_lanes.specs.Ends.{EndOf, beaten, informed_at, HasPerformed}
-use Rattle.sci_lanes.specs.Telling.{IsMade}
+use Rattle.sci_lanes.specs.{Ends.{EndOf, beaten, informed_at, HasPerformed}, Telling.{IsMade}}
 use Rattle.sci_lanes.proofs.end.LaneEnd.perform.Goals as goal
 
 pub beat-requires-clause-beating : goal.beat-requires-clause-beating

@@ -1,11 +1,7 @@
 use Rattle.std.proofs.Common.{refl, sym, ap, subst, ◌∙◌}
-use Rattle.sci_core.specs.Node.{NodeOf}
-use Rattle.sci_core.specs.Core.{side}
-use Rattle.sci_lanes.specs.Ends.{EndOf, MayPublish, SendsPacket, node_after, lane_at_cell}
-use Rattle.sci_lanes.specs.Telling.{IsSending}
-use Rattle.sci_lanes.proofs.Seats.{sends_in}
-use Rattle.sci_lanes.proofs.Inside.{published_inside}
-use Rattle.sci_lanes.proofs.Calls.{publishing}
+use Rattle.sci_core.specs.{Node.{NodeOf}, Core.{side}}
+use Rattle.sci_lanes.specs.{Ends.{EndOf, MayPublish, SendsPacket, node_after, lane_at_cell}, Telling.{IsSending}}
+use Rattle.sci_lanes.proofs.{Seats.{sends_in}, Inside.{published_inside}, Calls.{publishing}}
 use Rattle.sci_lanes.proofs.end.LaneEnd.publish.Goals as goal
 
 pub make_sending-requires : goal.make_sending-requires

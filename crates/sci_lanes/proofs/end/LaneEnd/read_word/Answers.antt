@@ -1,7 +1,6 @@
 use Rattle.std.proofs.Common.{sym, ap, subst}
 use Rattle.sci_lanes.specs.Ends.{EndOf, MayRead}
-use Rattle.sci_lanes.proofs.Seats.{takes_in}
-use Rattle.sci_lanes.proofs.Inside.{read_inside}
+use Rattle.sci_lanes.proofs.{Seats.{takes_in}, Inside.{read_inside}}
 use Rattle.sci_lanes.proofs.end.LaneEnd.read_word.Goals as goal
 
 pub invariant_of-self : goal.invariant_of-self

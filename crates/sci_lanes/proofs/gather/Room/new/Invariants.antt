@@ -1,8 +1,6 @@
 -- There is room for the packets of the lanes so far.
 use Rattle.std.proofs.Common.{◌≡◌, ◌≤◌, length}
-use Rattle.std.specs.Prelude.{vec_capacity}
-use Rattle.std.specs.List.{AllByRecursion}
-use Rattle.std.specs.VecDeque.{deque_len, deque_capacity}
+use Rattle.std.specs.{Prelude.{vec_capacity}, List.{AllByRecursion}, VecDeque.{deque_len, deque_capacity}}
 use Rattle.sci_lanes.specs.Gathering.{HasFour}
 use Rattle.sci_lanes.proofs.gather.Room.new.Given as goal
 

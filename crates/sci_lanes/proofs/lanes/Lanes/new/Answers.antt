@@ -1,5 +1,4 @@
-use Rattle.std.proofs.Common.{ℕ, List, length, get_or, ap, sym, ◌∙◌}
-use Rattle.std.proofs.lemmas.List.{length-replicate}
+use Rattle.std.proofs.{Common.{ℕ, List, length, get_or, ap, sym, ◌∙◌}, lemmas.List.{length-replicate}}
 use Rattle.sci_core.specs.Size.{size_of}
 use Rattle.sci_lanes.proofs.Opening.{machine_size, opened, replicated, ends_more, none_left}
 use Rattle.sci_lanes.proofs.lanes.Lanes.new.Goals as goal

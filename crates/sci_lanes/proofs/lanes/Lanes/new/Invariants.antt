@@ -2,8 +2,7 @@
 use Rattle.std.proofs.Common.{◌≡◌, []}
 use Rattle.std.specs.Arc.{arc_value}
 use Rattle.sci_core.specs.Size.{size_of}
-use Rattle.sci_lanes.specs.Cells.{word_count}
-use Rattle.sci_lanes.specs.Ends.{rest_view, opening_ends}
+use Rattle.sci_lanes.specs.{Cells.{word_count}, Ends.{rest_view, opening_ends}}
 use Rattle.sci_lanes.proofs.lanes.Lanes.new.Given as goal
 
 abbrev pub invariant-loop-node : goal.invariant-loop-node

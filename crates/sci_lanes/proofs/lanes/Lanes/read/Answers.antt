@@ -1,12 +1,8 @@
 use Rattle.std.proofs.Common.{ℕ, sym, ap, subst, ◌∙◌, map}
-use Rattle.sci_core.specs.Core.{core_of}
-use Rattle.sci_core.specs.Size.{Size, size_of}
-use Rattle.sci_lanes.specs.Cells.{lane_count}
-use Rattle.sci_lanes.specs.Ends.{LanesOf}
-use Rattle.sci_lanes.specs.Gathering.{AreAll, AreLanes, HaveInboxTurns, IsStateOf}
-use Rattle.sci_lanes.proofs.Gathered.{every_node, every_turn, state_of}
+use Rattle.sci_core.specs.{Core.{core_of}, Size.{Size, size_of}}
+use Rattle.sci_lanes.specs.{Cells.{lane_count}, Ends.{LanesOf}, Gathering.{AreAll, AreLanes, HaveInboxTurns, IsStateOf}}
+use Rattle.sci_lanes.proofs.{Gathered.{every_node, every_turn, state_of}, lanes.Lanes.read.Goals.{After-read_lanes}}
 use Rattle.sci_lanes.proofs.lanes.Lanes.read.Goals as goal
-use Rattle.sci_lanes.proofs.lanes.Lanes.read.Goals.{After-read_lanes}
 
 pub join_all-requires-clause-own : goal.join_all-requires-clause-own
 join_all-requires-clause-own g c = λ place end is.

@@ -1,8 +1,7 @@
 use Rattle.std.proofs.Common.{◌+◌, ◌%◌, ◌^◌, sym, subst}
 use mathlib.Core.Option.{none}
 use Rattle.atomic_table.specs.Table.{step}
-use Rattle.sci_lanes.specs.Plays.{Beats}
-use Rattle.sci_lanes.specs.Telling.{IsMade}
+use Rattle.sci_lanes.specs.{Plays.{Beats}, Telling.{IsMade}}
 use Rattle.sci_lanes.proofs.Seats.{Asks, beat_asks, went_now}
 use Rattle.sci_lanes.proofs.seat.NodeSeat.beat.Goals as goal
 

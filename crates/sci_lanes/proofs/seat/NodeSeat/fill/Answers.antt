@@ -1,9 +1,7 @@
 use Rattle.std.proofs.Common.{sym, subst}
 use mathlib.Core.Option.{none}
 use Rattle.atomic_table.specs.Table.{step}
-use Rattle.sci_lanes.specs.Knowing.{filled}
-use Rattle.sci_lanes.specs.Plays.{Fills}
-use Rattle.sci_lanes.specs.Shown.{IsSeen}
+use Rattle.sci_lanes.specs.{Knowing.{filled}, Plays.{Fills}, Shown.{IsSeen}}
 use Rattle.sci_lanes.proofs.Seats.{Asks, fill_asks, told_after, went_now}
 use Rattle.sci_lanes.proofs.seat.NodeSeat.fill.Goals as goal
 

@@ -1,10 +1,7 @@
 use Rattle.std.proofs.Common.{ℕ, sym, subst, arith}
 use mathlib.Core.Option.{none}
 use Rattle.atomic_table.specs.Table.{step}
-use Rattle.sci_lanes.specs.Knowing.{freed}
-use Rattle.sci_lanes.specs.Plays.{Frees}
-use Rattle.sci_lanes.specs.Plays.{lane_in}
-use Rattle.sci_lanes.specs.Telling.{part_of, IsTaken}
+use Rattle.sci_lanes.specs.{Knowing.{freed}, Plays.{Frees, lane_in}, Telling.{part_of, IsTaken}}
 use Rattle.sci_lanes.proofs.Seats.{Asks, free_asks, lane_told, told_after, went_now}
 use Rattle.sci_lanes.proofs.seat.NodeSeat.free.Goals as goal
 

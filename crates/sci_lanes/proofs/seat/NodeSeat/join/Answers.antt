@@ -1,9 +1,7 @@
 use Rattle.std.proofs.Common.{◌≡◌, ◌<◌, [], sym, ap, subst, ◌∙◌, arith}
 use Rattle.atomic_table.specs.Table.{Joins}
 use Rattle.sci_core.specs.Size.{size_of}
-use Rattle.sci_lanes.specs.Shown.{IsKept}
-use Rattle.sci_lanes.specs.Ends.{no_view}
-use Rattle.sci_lanes.specs.Gathering.{both_views}
+use Rattle.sci_lanes.specs.{Shown.{IsKept}, Ends.{no_view}, Gathering.{both_views}}
 use Rattle.sci_lanes.proofs.Gathering.{joining}
 use Rattle.sci_lanes.proofs.seat.NodeSeat.join.Goals as goal
 

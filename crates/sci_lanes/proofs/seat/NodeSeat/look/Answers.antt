@@ -1,13 +1,11 @@
 use Rattle.std.proofs.Common.{◌≡◌, ◌⊎◌, List, [], sym, ap, subst, ◌∙◌}
 use mathlib.Core.Option.{none}
 use Rattle.atomic_table.specs.Table.{step}
-use Rattle.sci_lanes.specs.declared.view.Part.{Part}
-use Rattle.sci_lanes.specs.Ends.{EndOf, IsNextToSend, IsNextToTake, nodes_in, lane_at_cell}
-use Rattle.sci_lanes.specs.Plays.{Looks, LooksAt}
-use Rattle.sci_lanes.specs.Telling.{part_of, IsFull, IsShown, state_of}
+use Rattle.sci_lanes.specs.{declared.view.Part.{Part}, Ends.{EndOf, IsNextToSend, IsNextToTake, nodes_in, lane_at_cell}}
+use Rattle.sci_lanes.specs.{Plays.{Looks, LooksAt}, Telling.{part_of, IsFull, IsShown, state_of}}
+use Rattle.sci_lanes.specs.Shown.{IsSeen, informed}
 use Rattle.sci_core.specs.Core.{lane_at}
 use Rattle.sci_words.specs.declared.event.Event.{Event}
-use Rattle.sci_lanes.specs.Shown.{IsSeen, informed}
 use Rattle.sci_lanes.proofs.Seats.{Asks, look_asks, look_told, part_after, view_after, went_after, is_receiving_here, is_sending_here}
 use Rattle.sci_lanes.proofs.seat.NodeSeat.look.Goals as goal
 

@@ -1,9 +1,7 @@
 use Rattle.std.proofs.Common.{sym, subst, arith}
 use mathlib.Core.Option.{none}
 use Rattle.atomic_table.specs.Table.{step}
-use Rattle.sci_lanes.specs.Knowing.{published}
-use Rattle.sci_lanes.specs.Plays.{Publishes}
-use Rattle.sci_lanes.specs.Telling.{IsMade}
+use Rattle.sci_lanes.specs.{Knowing.{published}, Plays.{Publishes}, Telling.{IsMade}}
 use Rattle.sci_lanes.proofs.Seats.{Asks, publish_asks, told_after, went_now}
 use Rattle.sci_lanes.proofs.seat.NodeSeat.publish.Goals as goal
 

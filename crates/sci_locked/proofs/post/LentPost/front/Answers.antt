@@ -2,8 +2,8 @@ use Rattle.std.proofs.Common.{sym}
 use Rattle.sci_cache.specs.Cache.{letter_of}
 use Rattle.sci_core.specs.Core.{lane_of}
 use Rattle.sci_locked.proofs.Lanes.{front_of}
-use Rattle.sci_locked.proofs.post.LentPost.front.Goals as goal
 use Rattle.sci_turn.proofs.Idling.{no_front}
+use Rattle.sci_locked.proofs.post.LentPost.front.Goals as goal
 
 pub unreachable-requires : goal.unreachable-requires
 unreachable-requires c = c.requires.sees

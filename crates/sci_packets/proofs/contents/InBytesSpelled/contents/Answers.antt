@@ -1,5 +1,4 @@
-use Rattle.std.proofs.Common.{ℕ, List, length, ap, ◌∙◌, arith}
-use Rattle.std.proofs.lemmas.Slice.{between_to_end}
+use Rattle.std.proofs.{Common.{ℕ, List, length, ap, ◌∙◌, arith}, lemmas.Slice.{between_to_end}}
 use Rattle.byteorder.specs.Endian.{big_number}
 use Rattle.sci_packets.specs.Fields.{field_at}
 use Rattle.sci_packets.proofs.Fields.{contents_read}

@@ -1,6 +1,5 @@
 use Rattle.std.proofs.Common.{◌≡◌, ℕ, Bool, ◌&&◌, sym, ap, ◌∙◌}
-use Rattle.sci_policy.specs.Lines.{can_drain, state_on}
-use Rattle.sci_policy.specs.Policy.{PolicyOf, has, still_draining}
+use Rattle.sci_policy.specs.{Lines.{can_drain, state_on}, Policy.{PolicyOf, has, still_draining}}
 use Rattle.sci_policy.proofs.Marks.{mark, marked, none_marked}
 use Rattle.sci_policy.proofs.policy.Policy.still_draining.Goals as goal
 

@@ -1,6 +1,5 @@
-use Rattle.std.proofs.Common.{◌≡◌, ◌+◌, ◌≤◌, nat_lt, Bool, false, List, sym, ap, ◌∙◌}
+use Rattle.std.proofs.{Common.{◌≡◌, ◌+◌, ◌≤◌, nat_lt, Bool, false, List, sym, ap, ◌∙◌}, lemmas.Bool.{le-ltb}}
 use Rattle.std.specs.Prelude.{if◌then◌else◌}
-use Rattle.std.proofs.lemmas.Bool.{le-ltb}
 use Rattle.sci_core.specs.Node.{NodeOf}
 use Rattle.sci_policy.specs.declared.policy.TheConstants.{PATIENCE}
 use Rattle.sci_policy.specs.Policy.{PolicyOf, draining_at_last, due_at_last, set_of, still_draining, ticked}

@@ -1,6 +1,5 @@
 use Rattle.std.proofs.Common.{map, sym, subst}
-use Rattle.sci_lanes.specs.Ends.{LanesOf}
-use Rattle.sci_lanes.specs.Gathering.{AreOf}
+use Rattle.sci_lanes.specs.{Ends.{LanesOf}, Gathering.{AreOf}}
 use Rattle.sci_station.specs.Station.{end_in}
 use Rattle.sci_running_tests.proofs.running.Running.finished.Goals as goal
 

@@ -1,8 +1,7 @@
 use Rattle.std.proofs.Common.{map, sym, subst}
 use Rattle.std.specs.List.{range_with_len}
 use Rattle.sci_core.specs.Size.{Size, size_of}
-use Rattle.sci_lanes.specs.Ends.{opening_ends}
-use Rattle.sci_lanes.specs.Gathering.{AreOf}
+use Rattle.sci_lanes.specs.{Ends.{opening_ends}, Gathering.{AreOf}}
 use Rattle.sci_station.specs.Station.{end_in, opening_station}
 use Rattle.sci_station.proofs.Belonging.{opened_of}
 use Rattle.sci_running_tests.proofs.running.Running.new.Goals as goal

@@ -1,10 +1,8 @@
 use Rattle.std.proofs.Common.{◌≡◌, ℕ, List, sym, subst, rules}
 use Rattle.std.specs.Prelude.{IfOk, slice_index_or}
-use Rattle.sci_core.specs.Core.{Core, node_at}
-use Rattle.sci_core.specs.Node.{NodeOf, no_node}
+use Rattle.sci_core.specs.{Core.{Core, node_at}, Node.{NodeOf, no_node}}
 use Rattle.sci_turn.proofs.Moments.{if_ok_map}
-use Rattle.sci_runs.specs.Deeds.{Takes}
-use Rattle.sci_runs.specs.Played.{GoesOpenly}
+use Rattle.sci_runs.specs.{Deeds.{Takes}, Played.{GoesOpenly}}
 use Rattle.sci_runs.proofs.Playing.{goes_open}
 use Rattle.sci_runs.proofs.player.Player.round.Goals as goal
 

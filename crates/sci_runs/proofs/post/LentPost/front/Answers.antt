@@ -3,8 +3,8 @@ use Rattle.std.specs.Prelude.{slice_get}
 use Rattle.sci_cache.specs.Cache.{letter_of}
 use Rattle.sci_core.specs.Core.{Core, lane_of}
 use Rattle.sci_locked.proofs.Lanes.{front_of}
-use Rattle.sci_runs.proofs.post.LentPost.front.Goals as goal
 use Rattle.sci_turn.proofs.Idling.{no_front}
+use Rattle.sci_runs.proofs.post.LentPost.front.Goals as goal
 
 pub unreachable-requires : goal.unreachable-requires
 unreachable-requires c =

@@ -1,6 +1,5 @@
 use Rattle.std.proofs.Common.{◌≡◌, None}
-use Rattle.sci_runs.specs.Played.{Played}
-use Rattle.sci_runs.specs.Players.{moment_of}
+use Rattle.sci_runs.specs.{Played.{Played}, Players.{moment_of}}
 use Rattle.sci_runs.proofs.table.Table.go_on.Given as goal
 
 abbrev pub invariant-loop-turn : goal.invariant-loop-turn

@@ -1,7 +1,5 @@
-use Rattle.std.proofs.Common.{All, subst}
-use Rattle.std.proofs.lemmas.List.Elements.{All-map}
-use Rattle.sci_runs.specs.declared.player.Player.{Player}
-use Rattle.sci_runs.specs.Players.{IsAnswered, TableOf}
+use Rattle.std.proofs.{Common.{All, subst}, lemmas.List.Elements.{All-map}}
+use Rattle.sci_runs.specs.{declared.player.Player.{Player}, Players.{IsAnswered, TableOf}}
 use Rattle.sci_runs.proofs.table.Table.is_done.Goals as goal
 
 pub returns : goal.returns

@@ -1,11 +1,9 @@
-use Rattle.std.proofs.Common.{◌≡◌, ℕ, [], ◌∷◌, ◌++◌, All, refl, sym, subst, ◌∙◌}
-use Rattle.std.specs.List.{range_with_len}
-use Rattle.std.proofs.lemmas.List.{map-append}
+use Rattle.std.proofs.{Common.{◌≡◌, ℕ, [], ◌∷◌, ◌++◌, All, refl, sym, subst, ◌∙◌}, lemmas.List.{map-append}}
 use Rattle.std.proofs.lemmas.List.Elements.{All-head, All-map, All-tail}
+use Rattle.std.specs.List.{range_with_len}
 use Rattle.atomic_table.specs.Seated.{TableId}
 use Rattle.sci_core.specs.Size.{Size}
-use Rattle.sci_lanes.specs.Ends.{EndOf, opening_ends}
-use Rattle.sci_lanes.specs.Shown.{opening_part}
+use Rattle.sci_lanes.specs.{Ends.{EndOf, opening_ends}, Shown.{opening_part}}
 use Rattle.sci_station.specs.Station.{opening_station}
 use Rattle.sci_station.proofs.fabric.Fabric.new.Goals as goal
 

@@ -1,11 +1,8 @@
-use Rattle.std.proofs.Common.{◌≡◌, ℕ, true, false, Some, refl, sym, ap, subst, ◌∙◌, arith}
+use Rattle.std.proofs.{Common.{◌≡◌, ℕ, true, false, Some, refl, sym, ap, subst, ◌∙◌, arith}, lemmas.Bool.{eq-eqb}}
 use Rattle.std.specs.Prelude.{◌==◌, not}
-use Rattle.std.proofs.lemmas.Bool.{eq-eqb}
-use Rattle.sci_core.specs.declared.lane.LaneKind.{LaneKind}
-use Rattle.sci_core.specs.declared.lane.LaneKind.TheVariants.{Requests}
+use Rattle.sci_core.specs.declared.lane.LaneKind.{LaneKind, TheVariants.{Requests}}
 use Rattle.sci_lanes.specs.Shown.{me_of}
-use Rattle.sci_station.specs.Ends.{HasSeen}
-use Rattle.sci_station.specs.Posts.{KeptOf, Remembers, StationPostOf, is_kept, packet_in}
+use Rattle.sci_station.specs.{Ends.{HasSeen}, Posts.{KeptOf, Remembers, StationPostOf, is_kept, packet_in}}
 use Rattle.sci_station.proofs.Remembering.{few_nodes, remembers_answer, remembers_read, remembers_request}
 use Rattle.sci_station.proofs.post.StationPost.read.Goals as goal
 

@@ -1,16 +1,13 @@
 use Rattle.std.proofs.Common.{◌≡◌, ◌<◌, ℕ, refl, sym, ap, subst, ◌∙◌}
 use Rattle.sci_core.specs.declared.lane.LaneKind.{LaneKind}
-use Rattle.sci_lanes.specs.Ends.{EndOf, nodes_in}
-use Rattle.sci_lanes.specs.Telling.{IsShown, state_of}
+use Rattle.sci_lanes.specs.{Ends.{EndOf, nodes_in}, Telling.{IsShown, state_of}}
 use Rattle.sci_turn.specs.Posts.{IsStill as IsStillPost}
 use Rattle.sci_core.proofs.Basics.Options.{of_some}
-use Rattle.sci_station.specs.declared.receiving.Seen.{Seen}
-use Rattle.sci_station.proofs.Stills.{still_then as stills}
-use Rattle.sci_station.specs.Posts.{IsRead, Remembers, StationPostOf, post_of}
-use Rattle.sci_station.proofs.Posts.{post_nodes, still_post}
+use Rattle.sci_station.specs.{declared.receiving.Seen.{Seen}, Posts.{IsRead, Remembers, StationPostOf, post_of}}
+use Rattle.sci_station.proofs.{Stills.{still_then as stills}, Posts.{post_nodes, still_post}}
 use Rattle.sci_station.proofs.Remembering.{apart_looked, remembers_still}
-use Rattle.sci_station.proofs.post.StationPostPost.look.Goals as goal
 use Rattle.sci_station.proofs.post.StationPostPost.look.Goals.{After-node-node, After-read}
+use Rattle.sci_station.proofs.post.StationPostPost.look.Goals as goal
 
 -- the sender is there
 there : (x : StationPostOf) (end : EndOf) (from : ℕ) → IsShown end.part → end ≡ x.end → from < (state_of x.end.part).size.nodes → from < nodes_in end.part

@@ -1,14 +1,10 @@
 use Rattle.std.proofs.Common.{◌≡◌, ◌<◌, ℕ, [], Option, Some, None, sym, subst, ◌∙◌, arith, inl, inr}
-use Rattle.std.specs.Prelude.{IfSome, slice_index}
 use Rattle.std.proofs.lemmas.Bool.{cases_lt}
-use Rattle.sci_core.specs.declared.lane.LaneKind.TheVariants.{Answers}
-use Rattle.sci_core.specs.Core.{lane_of}
-use Rattle.sci_lanes.specs.Ends.{nodes_in}
-use Rattle.sci_lanes.specs.Shown.{me_of}
-use Rattle.sci_lanes.specs.Telling.{state_of}
+use Rattle.std.specs.Prelude.{IfSome, slice_index}
+use Rattle.sci_core.specs.{declared.lane.LaneKind.TheVariants.{Answers}, Core.{lane_of}}
+use Rattle.sci_lanes.specs.{Ends.{nodes_in}, Shown.{me_of}, Telling.{state_of}}
 use Rattle.sci_station.specs.Posts.{StationPostOf}
-use Rattle.sci_station.proofs.Posts.{post_nodes}
-use Rattle.sci_station.proofs.Remembering.{owes_some}
+use Rattle.sci_station.proofs.{Posts.{post_nodes}, Remembering.{owes_some}}
 use Rattle.sci_station.proofs.post.StationPostPost.next_answering.Goals as goal
 
 pub returns-clause-here : goal.returns-clause-here

@@ -1,25 +1,18 @@
 use Rattle.std.proofs.Common.{◌≡◌, ◌≢◌, ◌<◌, ◌≤◌, ◌+◌, ℕ, List, refl, sym, ap, subst, ◌∙◌, arith, inl, inr}
-use Rattle.std.specs.Prelude.{◌==◌, slice_index}
 use Rattle.std.proofs.lemmas.Bool.{cases_eq, eq-eqb, ne_eqb}
+use Rattle.std.specs.Prelude.{◌==◌, slice_index}
 use Rattle.sci_words.specs.declared.event.Event.{Event}
 use Rattle.sci_cache.specs.Cache.{Letter, letter_of}
-use Rattle.sci_core.specs.declared.lane.LaneKind.{LaneKind}
-use Rattle.sci_core.specs.declared.lane.LaneKind.TheVariants.{Requests}
-use Rattle.sci_core.specs.Core.{Sends, lane_place, node_of, side}
-use Rattle.sci_core.specs.Draining.{one_if}
-use Rattle.sci_core.specs.Node.{NodeOf}
-use Rattle.sci_lanes.specs.Ends.{EndOf, nodes_in}
-use Rattle.sci_lanes.specs.Shown.{me_of}
+use Rattle.sci_core.specs.declared.lane.LaneKind.{LaneKind, TheVariants.{Requests}}
+use Rattle.sci_core.specs.{Core.{Sends, lane_place, node_of, side}, Draining.{one_if}, Node.{NodeOf}, Size.{Size}}
+use Rattle.sci_lanes.specs.{Ends.{EndOf, nodes_in}, Shown.{me_of}}
 use Rattle.sci_lanes.specs.Telling.{IsMade as WasMade, IsSameNode, IsShown, state_of}
 use Rattle.sci_turn.specs.Posts.{IsMade, IsStill as IsStillPost, MaySend}
-use Rattle.sci_station.specs.Ends.{IsStill, LeavesOthers}
-use Rattle.sci_station.specs.Posts.{KeptOf, Remembers, StationPostOf, owed, post_of}
-use Rattle.sci_core.specs.Size.{Size}
-use Rattle.sci_station.proofs.Owing.{adds_one}
-use Rattle.sci_station.proofs.Posts.{made_post, node_there, post_nodes, still_post}
+use Rattle.sci_station.specs.{Ends.{IsStill, LeavesOthers}, Posts.{KeptOf, Remembers, StationPostOf, owed, post_of}}
+use Rattle.sci_station.proofs.{Owing.{adds_one}, Posts.{made_post, node_there, post_nodes, still_post}}
 use Rattle.sci_station.proofs.Remembering.{apart_sent, few_owed, owing_sent, remembers_sent, remembers_still}
-use Rattle.sci_station.proofs.post.StationPostPost.send.Goals as goal
 use Rattle.sci_station.proofs.post.StationPostPost.send.Goals.{After-node-node, After-target_of-to}
+use Rattle.sci_station.proofs.post.StationPostPost.send.Goals as goal
 
 -- what the turn tells of the packet, as the end sees it
 record May (end : EndOf) (kind : LaneKind) (letter : Letter) (e : Event) : Type 0 where

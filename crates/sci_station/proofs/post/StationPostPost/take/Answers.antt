@@ -1,24 +1,18 @@
 use Rattle.std.proofs.Common.{◌≡◌, ◌≢◌, ◌+◌, ℕ, false, List, set, sym, ap, subst, ◌∙◌, arith, inl, inr}
-use Rattle.std.specs.Prelude.{◌==◌, slice_index}
 use Rattle.std.proofs.lemmas.Bool.{cases_eq, eq-eqb, ne_eqb}
+use Rattle.std.specs.Prelude.{◌==◌, slice_index}
 use Rattle.sci_cache.specs.Cache.{Letter}
-use Rattle.sci_core.specs.Node.{NodeOf}
-use Rattle.sci_core.specs.declared.lane.LaneKind.{LaneKind}
-use Rattle.sci_core.specs.Core.{lane_place, side}
-use Rattle.sci_core.specs.Draining.{one_if}
-use Rattle.sci_lanes.specs.declared.cell.CellId.{CellId}
-use Rattle.sci_lanes.specs.Ends.{EndOf, IsNextToTake, MayFree, lane_at_cell, nodes_in}
+use Rattle.sci_core.specs.{Node.{NodeOf}, declared.lane.LaneKind.{LaneKind}, Core.{lane_place, side}, Draining.{one_if}}
+use Rattle.sci_lanes.specs.{declared.cell.CellId.{CellId}, Ends.{EndOf, IsNextToTake, MayFree, lane_at_cell, nodes_in}}
 use Rattle.sci_lanes.specs.Telling.{IsTaken as WasTaken}
 use Rattle.sci_turn.specs.Posts.{IsFront, IsStill, IsTaken, MayTakeFront}
 use Rattle.sci_turn.proofs.Stills.{still_itself}
-use Rattle.sci_station.specs.Ends.{LeavesOthers}
-use Rattle.sci_station.specs.Posts.{IsRead, KeptOf, Remembers, StationPostOf, is_kept, post_of}
+use Rattle.sci_station.specs.{Ends.{LeavesOthers}, Posts.{IsRead, KeptOf, Remembers, StationPostOf, is_kept, post_of}}
 use Rattle.sci_station.proofs.Posts.{made_post, may_free, node_there, taken_post}
 use Rattle.sci_station.proofs.Remembering.{none_kept, remembers_no_more, remembers_taken, sender_there}
-use Rattle.sci_station.proofs.Owing.{takes_one}
-use Rattle.sci_station.proofs.Stills.{known_others, next_same}
-use Rattle.sci_station.proofs.post.StationPostPost.take.Goals as goal
+use Rattle.sci_station.proofs.{Owing.{takes_one}, Stills.{known_others, next_same}}
 use Rattle.sci_station.proofs.post.StationPostPost.take.Goals.{After-free}
+use Rattle.sci_station.proofs.post.StationPostPost.take.Goals as goal
 
 pub returns-in_err-spend-clause-cut : goal.returns-in_err-spend-clause-cut
 returns-in_err-spend-clause-cut c =

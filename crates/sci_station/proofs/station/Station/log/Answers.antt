@@ -1,7 +1,6 @@
 use Rattle.std.proofs.Common.{◌∙◌, ap}
 use Rattle.sci_core.specs.Node.{NodeOf}
-use Rattle.sci_station.proofs.Beats.{node_of_end, shown_of_end}
-use Rattle.sci_station.proofs.OneLogs.{one_log}
+use Rattle.sci_station.proofs.{Beats.{node_of_end, shown_of_end}, OneLogs.{one_log}}
 use Rattle.sci_station.proofs.station.Station.log.Goals as goal
 
 pub returns-clause-one : goal.returns-clause-one

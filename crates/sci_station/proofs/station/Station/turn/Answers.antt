@@ -1,13 +1,9 @@
 use Rattle.std.proofs.Common.{refl, ap, subst}
 use Rattle.sci_core.specs.Node.{NodeOf}
-use Rattle.sci_policy.specs.Policy.{turned}
-use Rattle.sci_policy.specs.Rest.{MayIdle}
-use Rattle.sci_policy.specs.Turn.{MayPerform}
-use Rattle.sci_policy.specs.Worker.{HasSameWork, IsNodeTurn}
+use Rattle.sci_policy.specs.{Policy.{turned}, Rest.{MayIdle}, Turn.{MayPerform}, Worker.{HasSameWork, IsNodeTurn}}
 use Rattle.sci_lanes.specs.Ends.{EndOf}
 use Rattle.sci_turn.specs.Far.{HasAskedAll}
-use Rattle.sci_station.specs.Posts.{StationPostOf, post_of}
-use Rattle.sci_station.specs.Station.{StationOf}
+use Rattle.sci_station.specs.{Posts.{StationPostOf, post_of}, Station.{StationOf}}
 use Rattle.sci_station.proofs.Posts.{node_there, turned_so}
 use Rattle.sci_station.proofs.station.Station.turn.Goals as goal
 

@@ -1,7 +1,6 @@
 use Rattle.std.proofs.Common.{ap, subst}
 use Rattle.sci_core.specs.Node.{NodeOf}
-use Rattle.sci_policy.specs.Turn.{MayPerform}
-use Rattle.sci_policy.specs.Worker.{HasSameWork, IsNodeTurn}
+use Rattle.sci_policy.specs.{Turn.{MayPerform}, Worker.{HasSameWork, IsNodeTurn}}
 use Rattle.sci_station.specs.Posts.{StationPostOf}
 use Rattle.sci_station.proofs.Posts.{node_there, turned_so}
 use Rattle.sci_station.proofs.station.Station.turn_within.Goals as goal

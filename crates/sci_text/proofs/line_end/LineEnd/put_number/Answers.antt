@@ -1,6 +1,6 @@
 use Rattle.std.proofs.Common.{rules, ◌≤◌, length, drop, ap, arith, length-append, length-drop}
-use Rattle.std.specs.Fmt.{decimal}
 use Rattle.std.proofs.lemmas.Fmt.{length-decimal-le}
+use Rattle.std.specs.Fmt.{decimal}
 use Rattle.sci_text.proofs.line_end.LineEnd.put_number.Goals as goal
 
 pub write_digits-self-inside-requires : goal.write_digits-self-inside-requires

@@ -1,19 +1,13 @@
 -- The line that was read is that of an event, which stands behind those before it.
 use Rattle.std.proofs.Common.{◌+◌, ◌<◌, List, [], ◌∷◌, ◌++◌, length, subst, arith, rules}
-use Rattle.std.proofs.lemmas.Bool.Decides.{nat_tests}
-use Rattle.std.proofs.lemmas.Result.{err_from_is_err_and}
+use Rattle.std.proofs.lemmas.{Bool.Decides.{nat_tests}, Result.{err_from_is_err_and}}
 use Rattle.sci_words.specs.declared.event.Event.{Event}
 use Rattle.sci_text.specs.declared.fault.TextFaultKind.TheVariants.{Range, TooMany}
-use Rattle.sci_text.specs.ScheduleEvents.{EventsOf, AreBefore, schedule_with}
-use Rattle.sci_text.specs.FirstFault.{Says}
-use Rattle.sci_text.specs.Schedule.{event_line}
-use Rattle.sci_text.specs.ScheduleFault.{EventFault}
-use Rattle.sci_text.proofs.Lines.{said_is, says}
-use Rattle.sci_text.proofs.Listings.{line_shrinks, line_unsaid}
-use Rattle.sci_text.proofs.Schedules.{schedules}
-use Rattle.sci_text.proofs.EventLines.{before_more}
+use Rattle.sci_text.specs.{ScheduleEvents.{EventsOf, AreBefore, schedule_with}, FirstFault.{Says}}
+use Rattle.sci_text.specs.{Schedule.{event_line}, ScheduleFault.{EventFault}}
+use Rattle.sci_text.proofs.{Lines.{said_is, says}, Listings.{line_shrinks, line_unsaid}, Schedules.{schedules}}
+use Rattle.sci_text.proofs.{EventLines.{before_more}, schedule_events.ScheduleEvents.line.Goals.{In_ok-event}}
 use Rattle.sci_text.proofs.schedule_events.ScheduleEvents.line.Goals as goal
-use Rattle.sci_text.proofs.schedule_events.ScheduleEvents.line.Goals.{In_ok-event}
 
 pub returns-in_err-event-clause-fault : goal.returns-in_err-event-clause-fault
 returns-in_err-event-clause-fault c =

@@ -1,11 +1,9 @@
 -- A fault of the next line is the first of the text, since the lines before it are right.
 use Rattle.std.proofs.Common.{◌≡◌, ◌+◌, ◌<◌, ◌∙◌, ℕ, length, ap, subst, sym, arith, rules}
 use Rattle.std.proofs.lemmas.Bool.Decides.{nat_tests}
-use Rattle.sci_text.specs.ScheduleEvents.{EventsOf, AreBefore}
-use Rattle.sci_text.specs.ScheduleFault.{IsScheduleFault}
-use Rattle.sci_text.proofs.EventLines.{next_is_first}
+use Rattle.sci_text.specs.{ScheduleEvents.{EventsOf, AreBefore}, ScheduleFault.{IsScheduleFault}}
+use Rattle.sci_text.proofs.{EventLines.{next_is_first}, schedule_events.ScheduleEvents.next_event.Goals.{in-Ok, in-Err}}
 use Rattle.sci_text.proofs.schedule_events.ScheduleEvents.next_event.Goals as goal
-use Rattle.sci_text.proofs.schedule_events.ScheduleEvents.next_event.Goals.{in-Ok, in-Err}
 
 pub returns-clause-fault : goal.returns-clause-fault
 returns-clause-fault c = elim c.match-line.branch [
