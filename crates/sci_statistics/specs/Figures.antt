@@ -1,8 +1,9 @@
 -- The figures of a schedule: each is a count of passages that meet a test, or a sum over passages.
 use Rattle.std.specs.Prelude.{ℕ, ◌-◌, true, false, not, List, filter, count_by, length}
 use Rattle.sci_packets.specs.declared.command.Command.TheVariants.{Cread, Claim, Clear, Purge, Roll, Wback, Cdata, Purged, Rolled, Wbok}
-use Rattle.sci_statistics.specs.declared.kind.{Access.TheVariants.{Load, Maker}, EventKind.{EventKind}}
-use Rattle.sci_statistics.specs.declared.kind.EventKind.TheVariants.{Issue, Perform, Ask, Serve, Refuse, Reply, Accept}
+use Rattle.sci_statistics.specs.declared.kind.Access.TheVariants.{Load, Maker}
+use Rattle.sci_words.specs.declared.event.EventKind.{EventKind}
+use Rattle.sci_words.specs.declared.event.EventKind.TheVariants.{Issue, Perform, Ask, Serve, Refuse, Reply, Accept}
 use Rattle.sci_statistics.specs.declared.{levels.Level.TheVariants.{Members}, passage.Passage.{Passage}}
 use Rattle.sci_statistics.specs.declared.event_figures.{Tally.{Tally}, EventFigures.{EventFigures}}
 use Rattle.sci_statistics.specs.declared.line_figures.LineFigures.{LineFigures}

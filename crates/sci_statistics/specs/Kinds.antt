@@ -1,18 +1,8 @@
 -- The kinds of events and of operations.
 use Rattle.std.specs.Prelude.{ℕ, Bool, ◌==◌, if◌then◌else◌}
-use Rattle.sci_words.specs.{declared.{event.Event.{Event}, operation.Op.{Op}}, Operation.{is_maker}}
-use Rattle.sci_statistics.specs.declared.kind.{Access.{Access, TheVariants.{Load, Maker}}, EventKind.{EventKind}}
-use Rattle.sci_statistics.specs.declared.kind.EventKind.TheVariants.{Issue, Perform, Ask, Serve, Refuse, Reply, Accept}
-use Rattle.sci_words.specs.declared.event.Event.TheVariants as event
-
-abbrev pub kind_of : Event → EventKind
-kind_of (event.Issue n op) = Issue
-kind_of (event.Perform n line) = Perform
-kind_of (event.Ask n line kind) = Ask
-kind_of (event.Serve from n) = Serve
-kind_of (event.Refuse from n) = Refuse
-kind_of (event.Reply n) = Reply
-kind_of (event.Accept from n) = Accept
+use Rattle.sci_words.specs.{declared.{event.EventKind.{EventKind}, operation.Op.{Op}}, Operation.{is_maker}}
+use Rattle.sci_words.specs.declared.event.EventKind.TheVariants.{Issue, Perform, Ask, Serve, Refuse, Reply, Accept}
+use Rattle.sci_statistics.specs.declared.kind.Access.{Access, TheVariants.{Load, Maker}}
 
 -- where a kind stands among all
 abbrev pub kind_place : EventKind → ℕ

@@ -2,7 +2,8 @@
 use Rattle.std.specs.Prelude.{ℕ, ◌==◌, Bool, false, ◌&&◌, ◌||◌, not, Option, Some, None, is_some, if◌then◌else◌}
 use Rattle.sci_packets.specs.declared.command.Command.{Command, TheVariants.{Mread, Fread}}
 use Rattle.sci_packets.specs.Table.{command_number, packet_bytes}
-use Rattle.sci_statistics.specs.declared.kind.{Access.{Access}, EventKind.{EventKind, TheVariants.{Serve}}}
+use Rattle.sci_statistics.specs.declared.kind.Access.{Access}
+use Rattle.sci_words.specs.declared.event.EventKind.{EventKind, TheVariants.{Serve}}
 use Rattle.sci_statistics.specs.{declared.passage.Passage.{Passage}, Kinds.{is_access, is_kind}}
 
 -- ---- the event

@@ -6,7 +6,8 @@ use Rattle.sci_history.specs.declared.entry.Entry.{Entry}
 use Rattle.sci_cache.specs.Cache.{Letter}
 use Rattle.sci_core.specs.{Core.{Core, node_at, node_of, opening, step, stepping}, Done.{made_by}, Size.{size_of}}
 use Rattle.sci_statistics.specs.declared.{kind.Access.{Access}, passage.Passage.{Passage}}
-use Rattle.sci_statistics.specs.{About.{letter_sent, letter_taken, line_about}, Kinds.{access_of, kind_of}}
+use Rattle.sci_statistics.specs.{About.{letter_sent, letter_taken, line_about}, Kinds.{access_of}}
+use Rattle.sci_words.specs.Event.{kind_of}
 
 -- what an operation does that was performed, if one was
 abbrev pub access_in : Option Entry → Option Access

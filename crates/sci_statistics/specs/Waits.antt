@@ -2,7 +2,8 @@
 use Rattle.std.specs.Prelude.{ℕ, true, ◌&&◌, not, Option, Some, None, if◌then◌else◌, List, filter, length, map, max, min, option_map, reverse, slice_get}
 use Rattle.std.specs.{Prelude.{sum, take}, List.{filter_map, prefix_len, range_with_len, reduce}, Option.{unwrap_or}}
 use Rattle.sci_statistics.specs.declared.kind.Access.{Access, TheVariants.{Load, Maker}}
-use Rattle.sci_statistics.specs.declared.{kind.EventKind.TheVariants.{Issue}, passage.Passage.{Passage}}
+use Rattle.sci_statistics.specs.declared.passage.Passage.{Passage}
+use Rattle.sci_words.specs.declared.event.EventKind.TheVariants.{Issue}
 use Rattle.sci_statistics.specs.declared.waits.{Wait.{Wait}, WaitFigures.{WaitFigures}, NodeWaits.{NodeWaits}}
 use Rattle.sci_statistics.specs.{Kinds.{is_access}, Measures.{comes, is_at, is_line}}
 

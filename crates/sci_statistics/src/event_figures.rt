@@ -3,8 +3,8 @@
 ghost use Rattle.std.specs.Prelude.{◌≡◌, count_by, not};
 ghost use Rattle.sci_statistics.specs.{Measures.{comes, is_flag}, Figures.{event_figures, tally_of}};
 
-use crate::kind::EventKind;
 use crate::passage::Passage;
+use sci_words::EventKind;
 
 /// How many of some events were enabled when they came, and how many were not.
 #[derive(Clone, Copy)]

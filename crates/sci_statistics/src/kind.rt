@@ -1,38 +1,9 @@
-//! The kinds of events and of operations.
+//! The kinds of operations.
 
 ghost use Rattle.std.specs.Prelude.{◌≡◌};
-ghost use Rattle.sci_statistics.specs.Kinds.{access_of, kind_of};
+ghost use Rattle.sci_statistics.specs.Kinds.{access_of};
 
-use sci_words::{Event, Op};
-
-/// What sort of event it is, without its nodes, its line and its operation.
-#[derive(Clone, Copy, PartialEq, Eq)]
-pub enum EventKind {
-    Issue,
-    Perform,
-    Ask,
-    Serve,
-    Refuse,
-    Reply,
-    Accept,
-}
-
-impl EventKind {
-    /// The kind of an event.
-    pub fn of(event: &Event) -> EventKind
-        ensures { result ≡ kind_of event.now }
-    {
-        match event {
-            Event::Issue { .. } => EventKind::Issue,
-            Event::Perform { .. } => EventKind::Perform,
-            Event::Ask { .. } => EventKind::Ask,
-            Event::Serve { .. } => EventKind::Serve,
-            Event::Refuse { .. } => EventKind::Refuse,
-            Event::Reply { .. } => EventKind::Reply,
-            Event::Accept { .. } => EventKind::Accept,
-        }
-    }
-}
+use sci_words::Op;
 
 /// What an operation does with its line.
 #[derive(Clone, Copy, PartialEq, Eq)]

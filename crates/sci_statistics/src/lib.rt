@@ -17,7 +17,7 @@ mod walk;
 pub use about::{line_about, line_changed, sent, taken};
 pub use counting::{StatsRequest, stats};
 pub use event_figures::{EventFigures, Tally};
-pub use kind::{Access, EventKind};
+pub use kind::Access;
 pub use levels::{Level, LevelFigures};
 pub use line_figures::LineFigures;
 pub use node_figures::NodeFigures;

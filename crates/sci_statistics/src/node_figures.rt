@@ -4,9 +4,9 @@ ghost use Rattle.std.specs.Prelude.{◌≡◌, IfOk};
 ghost use Rattle.sci_statistics.specs.Figures.{at_node as at_node_of, node_figures};
 
 use crate::event_figures::count_of;
-use crate::kind::EventKind;
 use crate::packet_figures::packets_sent;
 use crate::passage::Passage;
+use sci_words::EventKind;
 use std::alloc::{AllocError, Global};
 
 /// What one node did.

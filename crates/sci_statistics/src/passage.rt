@@ -5,8 +5,9 @@ ghost use Rattle.sci_statistics.specs.Measures.{comes as comes_of, enters as ent
 ghost use Rattle.sci_statistics.specs.Measures.{is_at as is_at_of, is_on as is_on_of, is_serve as is_serve_of, leaves as leaves_of, sends as sends_of};
 ghost use Rattle.sci_statistics.specs.Measures.{sent_bytes as sent_bytes_of, serves as serves_of, takes as takes_of};
 
-use crate::kind::{Access, EventKind};
+use crate::kind::Access;
 use sci_packets::Command;
+use sci_words::EventKind;
 
 /// An event of a schedule, and what came of it.
 #[derive(Clone, Copy)]

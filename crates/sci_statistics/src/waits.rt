@@ -6,8 +6,9 @@ ghost use Rattle.sci_words.specs.declared.limits.TheConstants.{MAX_EVENTS};
 ghost use Rattle.sci_statistics.specs.Waits.{issued_line as issued_line_of, node_waits, performed_at as performed_at_of, wait_figures, waits as waits_of};
 ghost use Rattle.sci_statistics.specs.Waits.{waits_by as waits_by_of};
 
-use crate::kind::{Access, EventKind};
+use crate::kind::Access;
 use crate::passage::Passage;
+use sci_words::EventKind;
 use std::alloc::{AllocError, Global};
 
 /// How long an operation waited that was performed.

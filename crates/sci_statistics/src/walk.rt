@@ -7,12 +7,12 @@ ghost use Rattle.sci_core.specs.{Core.{step, stepping}, Done.{made_by}};
 ghost use Rattle.sci_statistics.specs.Passages.{access_in as access_in_of, command_in as command_in_of, passage_of, passages_from, waiting_at};
 
 use crate::about::{line_about, sent, taken};
-use crate::kind::{Access, EventKind};
+use crate::kind::Access;
 use crate::passage::Passage;
 use sci_core::{ApplyFault, Machine, node_of};
 use sci_history::Entry;
 use sci_packets::{Command, Packet};
-use sci_words::{Event, Extent, MAX_OPERATIONS};
+use sci_words::{Event, EventKind, Extent, MAX_OPERATIONS};
 use std::alloc::{AllocError, Global};
 
 /// Whether an event happened, and the entry that it made.

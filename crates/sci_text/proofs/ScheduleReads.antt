@@ -4,17 +4,18 @@ use Rattle.std.proofs.lemmas.{Option.{some_pair_parts}, List.{length-append}}
 use Rattle.std.specs.{Prelude.{codes, option_map}, Option.{SomeIff}}
 use Rattle.sci_words.specs.declared.event.{AskKind.{AskKind, TheVariants.{Mread}}, TheConstants.AskKind.{ALL}}
 use Rattle.sci_words.specs.declared.event.Event.{Event, TheVariants.{Issue, Perform, Ask, Serve, Refuse, Reply, Accept}}
-use Rattle.sci_words.specs.{declared.operation.Op.{Op}, Event.{kind_word}}
-use Rattle.sci_text.specs.{declared.schedule_event.Verb.{Verb}, FirstFault.{IsShort}, Number.{field}}
+use Rattle.sci_words.specs.{declared.{operation.Op.{Op}, event.EventKind.{EventKind}}, Event.{kind_word}}
+use Rattle.sci_words.specs.Event.{kind_of, word_of_kind}
+use Rattle.sci_text.specs.{FirstFault.{IsShort}, Number.{field}}
 use Rattle.sci_text.specs.Operation.{operation}
 use Rattle.sci_text.specs.Reading.{◌>>=◌, fitting, field_read, after, byte, both, spelled, operation_read}
 use Rattle.sci_text.specs.Schedule.{event_word, first_node, event_details, event_line}
-use Rattle.sci_text.specs.ScheduleReading.{all_verbs, verb_word, kind_read, verb_read, numbered_read, details_read, event_line_read}
+use Rattle.sci_text.specs.ScheduleReading.{all_kinds, kind_read, verb_read, numbered_read, details_read, event_line_read}
 use Rattle.sci_text.proofs.Lines.{Line}
 use Rattle.sci_text.proofs.Operations.{operation_short, mapped, byte_is, both_is, bind_some, OpFits, operation_again, operation_found}
 use Rattle.sci_text.proofs.Numbers.{field_short, Ends, field_again, ends_field, field_found}
 use Rattle.sci_text.proofs.Words.{after_again, after_found, spelled_found}
-use Rattle.sci_text.specs.declared.schedule_event.Verb.TheVariants as verbs
+use Rattle.sci_words.specs.declared.event.EventKind.TheVariants as kinds
 
 -- ---- words
 
@@ -23,20 +24,7 @@ unfolding after kind_read
 kind_again Mread rest = refl
 kind_again _ rest = refl
 
-abbrev verb_of : Event → Verb
-verb_of (Issue node op) = verbs.Issue
-verb_of (Perform node line) = verbs.Perform
-verb_of (Ask node line kind) = verbs.Ask
-verb_of (Serve from node) = verbs.Serve
-verb_of (Refuse from node) = verbs.Refuse
-verb_of (Reply node) = verbs.Reply
-verb_of (Accept from node) = verbs.Accept
-
-event_verb : (event : Event) → verb_word (verb_of event) ≡ event_word event
-event_verb (Issue node op) = refl
-event_verb _ = refl
-
-verb_again : (event : Event) (rest : List ℕ) → verb_read (event_word event ++ rest) ≡ Some (verb_of event, rest)
+verb_again : (event : Event) (rest : List ℕ) → verb_read (event_word event ++ rest) ≡ Some (kind_of event, rest)
 unfolding after verb_read
 verb_again (Issue node op) rest = refl
 verb_again _ rest = refl
@@ -68,7 +56,7 @@ unfolding numbered_read
 numbered_again f a b rest ends = (option_map (λ p. f p.0 p.1) (both (byte (fitting a)) (byte (fitting b))), rw (field_again b rest ends) refl, pair_is f a b)
 
 ask_again : (node line : ℕ) (kind : AskKind) (rest : List ℕ) → Ends rest
-    → ReadAs (Ask node line kind) (details_read verbs.Ask (fitting node) ((field line ++ (codes " " ++ kind_word kind)) ++ rest)) rest
+    → ReadAs (Ask node line kind) (details_read kinds.Ask (fitting node) ((field line ++ (codes " " ++ kind_word kind)) ++ rest)) rest
 unfolding details_read
 ask_again node line kind rest ends =
     let gap = codes " " ++ (kind_word kind ++ rest) in
@@ -79,7 +67,7 @@ ask_again node line kind rest ends =
     )
 
 issue_again : (node : ℕ) (op : Op) (rest : List ℕ) → Ends rest
-    → ReadAs (Issue node op) (details_read verbs.Issue (fitting node) ((codes " " ++ operation op) ++ rest)) rest
+    → ReadAs (Issue node op) (details_read kinds.Issue (fitting node) ((codes " " ++ operation op) ++ rest)) rest
 unfolding details_read
 issue_again node op rest ends =
     let regrouped : (codes " " ++ operation op) ++ rest ≡ codes " " ++ (operation op ++ rest) = simp append_assoc in
@@ -91,7 +79,7 @@ issue_again node op rest ends =
     )
 
 details_again : (event : Event) (rest : List ℕ) → Ends rest
-    → ReadAs event (details_read (verb_of event) (fitting (first_node event)) (event_details event ++ rest)) rest
+    → ReadAs event (details_read (kind_of event) (fitting (first_node event)) (event_details event ++ rest)) rest
 unfolding details_read
 details_again (Issue node op) rest ends = issue_again node op rest ends
 details_again (Perform node line) rest ends = numbered_again Perform node line rest ends
@@ -112,9 +100,9 @@ ends_details (Reply node) rest ends = ends
 ends_details (Accept from node) rest ends = ends_field node rest
 
 -- what bytes begin with as the details of an event of this word and first node
-abbrev FoundAs : Verb → ℕ → List ℕ → Option Event → List ℕ → Type 0
+abbrev FoundAs : EventKind → ℕ → List ℕ → Option Event → List ℕ → Type 0
 FoundAs verb first bytes o rest =
-    (event : Event) × (verb_of event ≡ verb) × (first_node event ≡ first) × (bytes ≡ event_details event ++ rest) × SomeIff o (EventFits event) event
+    (event : Event) × (kind_of event ≡ verb) × (first_node event ≡ first) × (bytes ≡ event_details event ++ rest) × SomeIff o (EventFits event) event
 
 numbered_found : (f : ℕ → ℕ → Event) (a : ℕ) (bytes : List ℕ) (o : Option Event) (rest : List ℕ) → numbered_read f (fitting a) bytes ≡ Some (o, rest)
     → (b : ℕ) × (bytes ≡ field b ++ rest) × SomeIff o ((a < 256) × (b < 256)) (f a b)
@@ -129,8 +117,8 @@ numbered_found f a bytes o rest e =
       subst (λ (v : Option Event). SomeIff v ((a < 256) × (b.0 < 256)) (f a b.0)) (ap event (sym b.2) ∙ parts.0) (pair_is f a b.0),
     )
 
-ask_found : (a : ℕ) (bytes : List ℕ) (o : Option Event) (rest : List ℕ) → details_read verbs.Ask (fitting a) bytes ≡ Some (o, rest)
-    → FoundAs verbs.Ask a bytes o rest
+ask_found : (a : ℕ) (bytes : List ℕ) (o : Option Event) (rest : List ℕ) → details_read kinds.Ask (fitting a) bytes ≡ Some (o, rest)
+    → FoundAs kinds.Ask a bytes o rest
 unfolding details_read kind_read
 ask_found a bytes o rest e =
     let event : Option ℕ → AskKind → Option Event = λ x kind. option_map (λ p. Ask p.0 p.1 kind) (both (byte (fitting a)) (byte x)) in
@@ -151,8 +139,8 @@ ask_found a bytes o rest e =
           (pair_is (λ n l. Ask n l kind) a line.0),
     )
 
-issue_found : (a : ℕ) (bytes : List ℕ) (o : Option Event) (rest : List ℕ) → details_read verbs.Issue (fitting a) bytes ≡ Some (o, rest)
-    → FoundAs verbs.Issue a bytes o rest
+issue_found : (a : ℕ) (bytes : List ℕ) (o : Option Event) (rest : List ℕ) → details_read kinds.Issue (fitting a) bytes ≡ Some (o, rest)
+    → FoundAs kinds.Issue a bytes o rest
 unfolding details_read
 issue_found a bytes o rest e =
     let event : Option Op → Option Event = λ x. option_map (λ p. Issue p.0 p.1) (both (byte (fitting a)) x) in
@@ -171,8 +159,8 @@ issue_found a bytes o rest e =
           (both_is (a < 256) (OpFits op.0) (byte (fitting a)) y.0.0 a op.0 (byte_is a) op.2)),
     )
 
-reply_found : (a : ℕ) (bytes : List ℕ) (o : Option Event) (rest : List ℕ) → details_read verbs.Reply (fitting a) bytes ≡ Some (o, rest)
-    → FoundAs verbs.Reply a bytes o rest
+reply_found : (a : ℕ) (bytes : List ℕ) (o : Option Event) (rest : List ℕ) → details_read kinds.Reply (fitting a) bytes ≡ Some (o, rest)
+    → FoundAs kinds.Reply a bytes o rest
 unfolding details_read
 reply_found a bytes o rest e =
     let event : Option Event = option_map (λ n. Reply n) (byte (fitting a)) in
@@ -184,16 +172,16 @@ reply_found a bytes o rest e =
       subst (λ (v : Option Event). SomeIff v (a < 256) (Reply a)) parts.0 (mapped (a < 256) (λ n. Reply n) (byte (fitting a)) a (byte_is a)),
     )
 
-details_found : (verb : Verb) (a : ℕ) (bytes : List ℕ) (o : Option Event) (rest : List ℕ) → details_read verb (fitting a) bytes ≡ Some (o, rest)
+details_found : (verb : EventKind) (a : ℕ) (bytes : List ℕ) (o : Option Event) (rest : List ℕ) → details_read verb (fitting a) bytes ≡ Some (o, rest)
     → FoundAs verb a bytes o rest
 unfolding details_read
-details_found verbs.Issue a bytes o rest e = issue_found a bytes o rest e
-details_found verbs.Perform a bytes o rest e = let s = numbered_found Perform a bytes o rest e in (Perform a s.0, refl, refl, s.1, s.2)
-details_found verbs.Ask a bytes o rest e = ask_found a bytes o rest e
-details_found verbs.Serve a bytes o rest e = let s = numbered_found Serve a bytes o rest e in (Serve a s.0, refl, refl, s.1, s.2)
-details_found verbs.Refuse a bytes o rest e = let s = numbered_found Refuse a bytes o rest e in (Refuse a s.0, refl, refl, s.1, s.2)
-details_found verbs.Reply a bytes o rest e = reply_found a bytes o rest e
-details_found verbs.Accept a bytes o rest e = let s = numbered_found Accept a bytes o rest e in (Accept a s.0, refl, refl, s.1, s.2)
+details_found kinds.Issue a bytes o rest e = issue_found a bytes o rest e
+details_found kinds.Perform a bytes o rest e = let s = numbered_found Perform a bytes o rest e in (Perform a s.0, refl, refl, s.1, s.2)
+details_found kinds.Ask a bytes o rest e = ask_found a bytes o rest e
+details_found kinds.Serve a bytes o rest e = let s = numbered_found Serve a bytes o rest e in (Serve a s.0, refl, refl, s.1, s.2)
+details_found kinds.Refuse a bytes o rest e = let s = numbered_found Refuse a bytes o rest e in (Refuse a s.0, refl, refl, s.1, s.2)
+details_found kinds.Reply a bytes o rest e = reply_found a bytes o rest e
+details_found kinds.Accept a bytes o rest e = let s = numbered_found Accept a bytes o rest e in (Accept a s.0, refl, refl, s.1, s.2)
 
 -- ---- the line
 
@@ -221,7 +209,7 @@ pub event_line_found : (bytes : List ℕ) (o : Option Event) (rest : List ℕ) �
 unfolding event_line event_line_read verb_read
 event_line_found bytes o rest e =
     let end : Option Event → List ℕ → Option (Option Event × List ℕ) = λ y l. after (10 ∷ []) l >>= λ r. Some (y, r) in
-    let v = bind_some (spelled verb_word all_verbs bytes) (λ v. field_read v.1 >>= λ x. details_read v.0 x.0 x.1 >>= λ y. end y.0 y.1) (o, rest) e in
+    let v = bind_some (spelled word_of_kind all_kinds bytes) (λ v. field_read v.1 >>= λ x. details_read v.0 x.0 x.1 >>= λ y. end y.0 y.1) (o, rest) e in
     let x = bind_some (field_read v.0.1) (λ x. details_read v.0.0 x.0 x.1 >>= λ y. end y.0 y.1) (o, rest) v.2 in
     let y = bind_some (details_read v.0.0 x.0.0 x.0.1) (λ y. end y.0 y.1) (o, rest) x.2 in
     let r = bind_some (after (10 ∷ []) y.0.1) (λ r. Some (y.0.0, r)) (o, rest) y.2 in
@@ -233,11 +221,11 @@ event_line_found bytes o rest e =
     let details : x.0.1 ≡ event_details event ++ 10 ∷ rest = found.3 ∙ ap (λ (l : List ℕ). event_details event ++ l) last in
     let node : v.0.1 ≡ field (first_node event) ++ (event_details event ++ 10 ∷ rest) =
     n.1 ∙ ap (λ (l : List ℕ). field n.0 ++ l) details ∙ ap (λ (k : ℕ). field k ++ (event_details event ++ 10 ∷ rest)) (sym found.2) in
-    let word : verb_word v.0.0 ≡ event_word event = ap verb_word (sym found.1) ∙ event_verb event in
+    let word : word_of_kind v.0.0 ≡ event_word event = ap word_of_kind (sym found.1) in
     let regrouped : (event_word event ++ (field (first_node event) ++ (event_details event ++ 10 ∷ []))) ++ rest ≡ event_word event
     ++ (field (first_node event) ++ (event_details event ++ 10 ∷ rest)) = simp append_assoc in (
       event,
-      spelled_found verb_word all_verbs bytes v.0.0 v.0.1 v.1 ∙ ap (λ (w : List ℕ). w ++ v.0.1) word
+      spelled_found word_of_kind all_kinds bytes v.0.0 v.0.1 v.1 ∙ ap (λ (w : List ℕ). w ++ v.0.1) word
           ∙ ap (λ (l : List ℕ). event_word event ++ l) node ∙ sym regrouped,
       subst (λ (z : Option Event). SomeIff z (EventFits event) event) parts.0 found.4,
     )

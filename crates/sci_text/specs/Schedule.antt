@@ -2,7 +2,7 @@
 use Rattle.std.specs.{Prelude.{ℕ, ◌<◌, ◌≤◌, List, [], ◌∷◌, ◌++◌, length, codes, All}, List.{flat_map}}
 use Rattle.sci_words.specs.declared.{limits.TheConstants.{MAX_EVENTS}, event.Event.{Event}}
 use Rattle.sci_words.specs.declared.event.Event.TheVariants.{Issue, Perform, Ask, Serve, Refuse, Reply, Accept}
-use Rattle.sci_words.specs.{Event.{kind_word}, Extent.{AreWithinLimits}}
+use Rattle.sci_words.specs.{Event.{kind_of, kind_word, word_of_kind}, Extent.{AreWithinLimits}}
 use Rattle.sci_text.specs.{declared.script.PushFault.{PushFault}, Number.{field}, Operation.{operation}}
 use Rattle.sci_text.specs.Script.{IsWithin, Refusal, machine_line}
 
@@ -45,13 +45,7 @@ EventRefusal s event fault =
 
 -- the word for what happens
 abbrev pub event_word : Event → List ℕ
-event_word (Issue node op) = codes "issue"
-event_word (Perform node line) = codes "perform"
-event_word (Ask node line kind) = codes "ask"
-event_word (Serve from node) = codes "serve"
-event_word (Refuse from node) = codes "refuse"
-event_word (Reply node) = codes "reply"
-event_word (Accept from node) = codes "accept"
+event_word event = word_of_kind (kind_of event)
 
 -- the node that stands behind the word: the sender of a packet that is taken, else the node whose event it is
 abbrev pub first_node : Event → ℕ

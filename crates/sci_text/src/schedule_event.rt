@@ -6,19 +6,7 @@ ghost use Rattle.sci_text.specs.ScheduleReading.{kind_read, verb_read, ended_rea
 
 use crate::number::{Number, field};
 use crate::operation::{after, byte, operation};
-use sci_words::{AskKind, Event};
-
-/// What an event's word names.
-#[derive(Clone, Copy, Debug, PartialEq, Eq)]
-pub enum Verb {
-    Issue,
-    Perform,
-    Ask,
-    Serve,
-    Refuse,
-    Reply,
-    Accept,
-}
+use sci_words::{AskKind, Event, EventKind};
 
 /// The kind of ask that the word at the front of `bytes` names, and the bytes after it.
 #[tactic(auto, unfolding(crate::specs::ScheduleReading::kind_read, crate::specs::Reading::after))]
@@ -43,17 +31,17 @@ fn kind_of(bytes: &[u8]) -> Option<(AskKind, &[u8])>
 
 /// The word at the front of `bytes`, and the bytes after it.
 #[tactic(auto, unfolding(crate::specs::ScheduleReading::verb_read, crate::specs::Reading::after))]
-fn verb_of(bytes: &[u8]) -> Option<(Verb, &[u8])>
+fn verb_of(bytes: &[u8]) -> Option<(EventKind, &[u8])>
     ensures { Gives (λ x. (x.0, x.1.now)) result (verb_read bytes.now) }
 {
-    let (verb, word): (Verb, &[u8]) = match bytes {
-        [b'i', ..] => (Verb::Issue, b"issue"),
-        [b'p', ..] => (Verb::Perform, b"perform"),
-        [b'a', b's', ..] => (Verb::Ask, b"ask"),
-        [b'a', b'c', ..] => (Verb::Accept, b"accept"),
-        [b's', ..] => (Verb::Serve, b"serve"),
-        [b'r', b'e', b'f', ..] => (Verb::Refuse, b"refuse"),
-        [b'r', b'e', b'p', ..] => (Verb::Reply, b"reply"),
+    let (verb, word): (EventKind, &[u8]) = match bytes {
+        [b'i', ..] => (EventKind::Issue, b"issue"),
+        [b'p', ..] => (EventKind::Perform, b"perform"),
+        [b'a', b's', ..] => (EventKind::Ask, b"ask"),
+        [b'a', b'c', ..] => (EventKind::Accept, b"accept"),
+        [b's', ..] => (EventKind::Serve, b"serve"),
+        [b'r', b'e', b'f', ..] => (EventKind::Refuse, b"refuse"),
+        [b'r', b'e', b'p', ..] => (EventKind::Reply, b"reply"),
         _ => return None,
     };
     let rest = after(bytes, word)?;
@@ -81,43 +69,43 @@ fn ended(event: Option<Event>, bytes: &[u8]) -> Option<(Option<Event>, &[u8])>
 /// The event of this word and first node whose details stand at the front of `bytes` and end its line, or None if
 /// one of its numbers doesn't fit an `Event`, and the bytes after the line.
 #[tactic(auto, unfolding(crate::specs::ScheduleReading::details_read, crate::specs::ScheduleReading::numbered_read))]
-fn details(verb: Verb, first: Number, bytes: &[u8]) -> Option<(Option<Event>, &[u8])>
+fn details(verb: EventKind, first: Number, bytes: &[u8]) -> Option<(Option<Event>, &[u8])>
     ensures { Gives (λ x. (x.0, x.1.now)) result (line_after_read verb first bytes.now) }
 {
     match verb {
-        Verb::Issue => {
+        EventKind::Issue => {
             let (op, rest) = operation(after(bytes, b" ")?)?;
             let event = byte(first)
                 .zip(op)
                 .map(|(node, op)| Event::Issue { node, op });
             ended(event, rest)
         }
-        Verb::Perform => {
+        EventKind::Perform => {
             let (line, rest) = field(bytes)?;
             let event = bytes_of(first, line).map(|(node, line)| Event::Perform { node, line });
             ended(event, rest)
         }
-        Verb::Ask => {
+        EventKind::Ask => {
             let (line, rest) = field(bytes)?;
             let (kind, rest) = kind_of(after(rest, b" ")?)?;
             let event = bytes_of(first, line).map(|(node, line)| Event::Ask { node, line, kind });
             ended(event, rest)
         }
-        Verb::Serve => {
+        EventKind::Serve => {
             let (node, rest) = field(bytes)?;
             let event = bytes_of(first, node).map(|(from, node)| Event::Serve { from, node });
             ended(event, rest)
         }
-        Verb::Refuse => {
+        EventKind::Refuse => {
             let (node, rest) = field(bytes)?;
             let event = bytes_of(first, node).map(|(from, node)| Event::Refuse { from, node });
             ended(event, rest)
         }
-        Verb::Reply => {
+        EventKind::Reply => {
             let event = byte(first).map(|node| Event::Reply { node });
             ended(event, bytes)
         }
-        Verb::Accept => {
+        EventKind::Accept => {
             let (node, rest) = field(bytes)?;
             let event = bytes_of(first, node).map(|(from, node)| Event::Accept { from, node });
             ended(event, rest)

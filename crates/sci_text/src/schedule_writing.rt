@@ -14,25 +14,9 @@ use crate::schedule::Schedule;
 use crate::schedule_laws::schedules_are_short;
 use crate::tap::Tap;
 use crate::writing::write_text;
-use sci_words::{Event, Extent};
+use sci_words::{Event, EventKind, Extent};
 use std::alloc::{AllocError, Global};
 use std::io::Write;
-
-/// The word of an event, as it stands in a schedule: `issue`, `perform` and so on.
-pub fn event_word(event: Event) -> &'static str
-    ensures word { result.now ≡ word_of_event event }
-    ensures short { length result.now ≤ 7 }
-{
-    match event {
-        Event::Issue { .. } => "issue",
-        Event::Perform { .. } => "perform",
-        Event::Ask { .. } => "ask",
-        Event::Serve { .. } => "serve",
-        Event::Refuse { .. } => "refuse",
-        Event::Reply { .. } => "reply",
-        Event::Accept { .. } => "accept",
-    }
-}
 
 /// The node behind an event's word.
 fn first_node(event: Event) -> u8
@@ -84,7 +68,7 @@ pub fn push_event_line(out: &mut Vec<u8>, event: Event) -> Result<(), AllocError
     line.put_text("\n");
     put_details(&mut line, event);
     line.put_field(u64::from(first_node(event)));
-    line.put_text(event_word(event));
+    line.put_text(EventKind::of(&event).word());
     out.extend_from_slice(line.as_slice())
 }
 

@@ -17,8 +17,7 @@ use sci_core::{Machine, Obstacle, node_of};
 use sci_history::Entry;
 use sci_packets::Packet;
 use sci_statistics::{line_changed, sent, taken};
-use sci_text::event_word;
-use sci_words::Event;
+use sci_words::{Event, EventKind};
 use std::alloc::{AllocError, Global};
 
 /// Writes the sender and the node of an event that takes a packet.
@@ -247,7 +246,7 @@ pub fn push_json(
     let mut writer = Writer::new(Vec::new(*out.allocator()));
     writer.begin_object()?;
     write_number(&mut writer, "number", number)?;
-    write_text(&mut writer, "event", event_word(*event))?;
+    write_text(&mut writer, "event", EventKind::of(event).word())?;
     write_parts(&mut writer, event)?;
     let enabled = write_outcome(&mut writer, machine, event)?;
     writer.end_object()?;

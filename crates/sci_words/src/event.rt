@@ -1,7 +1,7 @@
 //! What can happen next in a machine.
 
 ghost use Rattle.std.specs.Prelude.{◌≡◌, ◌≤◌, length, slice_get};
-ghost use Rattle.sci_words.specs.Event.{kind_word};
+ghost use Rattle.sci_words.specs.Event.{kind_of, kind_word, word_of_kind};
 
 use crate::operation::Op;
 
@@ -85,4 +85,49 @@ pub enum Event {
     Reply { node: u8 },
     /// `node` accepts the oldest answer from `from`.
     Accept { from: u8, node: u8 },
+}
+
+/// What sort of event it is, without its nodes, its line and its operation.
+#[derive(Clone, Copy, Debug, PartialEq, Eq)]
+pub enum EventKind {
+    Issue,
+    Perform,
+    Ask,
+    Serve,
+    Refuse,
+    Reply,
+    Accept,
+}
+
+impl EventKind {
+    /// The kind of an event.
+    pub fn of(event: &Event) -> EventKind
+        ensures { result ≡ kind_of event.now }
+    {
+        match event {
+            Event::Issue { .. } => EventKind::Issue,
+            Event::Perform { .. } => EventKind::Perform,
+            Event::Ask { .. } => EventKind::Ask,
+            Event::Serve { .. } => EventKind::Serve,
+            Event::Refuse { .. } => EventKind::Refuse,
+            Event::Reply { .. } => EventKind::Reply,
+            Event::Accept { .. } => EventKind::Accept,
+        }
+    }
+
+    /// The kind's word in texts, such as `issue`.
+    pub fn word(self) -> &'static str
+        ensures word { result.now ≡ word_of_kind self }
+        ensures short { length result.now ≤ 7 }
+    {
+        match self {
+            EventKind::Issue => "issue",
+            EventKind::Perform => "perform",
+            EventKind::Ask => "ask",
+            EventKind::Serve => "serve",
+            EventKind::Refuse => "refuse",
+            EventKind::Reply => "reply",
+            EventKind::Accept => "accept",
+        }
+    }
 }

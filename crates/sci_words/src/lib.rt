@@ -9,7 +9,7 @@ mod line;
 mod operation;
 mod stamped;
 
-pub use event::{AskKind, Event};
+pub use event::{AskKind, Event, EventKind};
 pub use extent::Extent;
 pub use limits::{
     CONTROLS, FORMAT_1_ENTRIES, FORMAT_1_NODES, FORMAT_1_SERIALS, LANE_CELLS, LINE_BYTES,

@@ -1,6 +1,7 @@
 use Rattle.std.proofs.Common.{arith, rules, ◌<◌, ◌≡◌, ◌-◌, get_or, length, None, false, ap, ◌∙◌, sym, length-append}
 use Rattle.std.proofs.lemmas.Grind.{get_or_default_zero}
-use Rattle.sci_statistics.specs.declared.{passage.Passage.{Passage}, kind.EventKind.TheVariants.{Issue}}
+use Rattle.sci_statistics.specs.declared.passage.Passage.{Passage}
+use Rattle.sci_words.specs.declared.event.EventKind.TheVariants.{Issue}
 use Rattle.sci_statistics.proofs.Waiting.{behind_kept, behind_set, waits_kept, waits_longer}
 use Rattle.sci_statistics.proofs.waits.waits_at.Goals.{in-Some+in_ok-push, in_default, in-Some-issued_line, in_default-issued_line}
 use Rattle.sci_statistics.proofs.waits.waits_at.Goals as goal

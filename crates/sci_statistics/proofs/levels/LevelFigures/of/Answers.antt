@@ -1,5 +1,6 @@
 use Rattle.std.proofs.Common.{arith, ◌<◌, length, None, false}
-use Rattle.sci_statistics.specs.declared.{passage.Passage.{Passage}, kind.EventKind.TheVariants.{Issue}}
+use Rattle.sci_statistics.specs.declared.passage.Passage.{Passage}
+use Rattle.sci_words.specs.declared.event.EventKind.TheVariants.{Issue}
 use Rattle.sci_statistics.proofs.Rising.{flagged, rises_more}
 use Rattle.sci_statistics.proofs.levels.LevelFigures.of.Goals as goal
 
