@@ -12,7 +12,7 @@ use Rattle.sci_packets.proofs.Whole.{one_by_words}
 use Rattle.sci_cache.specs.Cache.{Letter, letter_of}
 use Rattle.sci_core.specs.{Size.{Size}, declared.lane.LaneKind.{LaneKind, TheVariants.{Requests, Answers}}}
 use Rattle.sci_core.specs.Node.{NodeOf, no_node, node_accepting, node_refusing, node_serving}
-use Rattle.sci_core.specs.Core.{Core, node_at, with_node, with_lane, lane_at, lane_of, lane_place, side, node_of, sent_by, taken_as, taken_from, IsEnabled}
+use Rattle.sci_core.specs.Core.{Core, node_at, with_node, with_lane, lane_at, lane_of, lane_place, side, node_of, sent_by, taken_from, IsEnabled}
 use Rattle.sci_core.specs.Core.{stepping, step as machine_step, opening, run, Side, Takes, changes, performs, sends}
 use Rattle.sci_core.specs.Reached.{IsReached}
 use Rattle.sci_core.proofs.Step.Places.{place_below, place_from, place_to}

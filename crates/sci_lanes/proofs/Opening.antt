@@ -11,7 +11,7 @@ use Rattle.sci_cache.specs.{Cache.{Letter}, Line.{untouched}}
 use Rattle.sci_words.specs.declared.{extent.Extent.{Extent}, limits.TheConstants.{MAX_OPERATIONS}}
 use Rattle.sci_core.specs.{Size.{Size, size_of, IsMachineSize}, Node.{NodeOf, opening_node, no_node}}
 use Rattle.sci_core.specs.{Core.{node_at, lane_at, opening}, Reached.{IsReached}}
-use Rattle.sci_lanes.specs.{declared.view.{Part.{Part}, View.{View}}, Cells.{cell_place, lane_count, word_count}}
+use Rattle.sci_lanes.specs.{declared.view.{Part.{Part}, View.{View}}, Cells.{lane_count, word_count}}
 use Rattle.sci_lanes.specs.Shown.{Fits, Whole, me_of, no_outbound, no_inbound, single, opening_part, first_view, IsKnown, HasRead, IsKept}
 use Rattle.sci_lanes.specs.Telling.{IsShown, part_of, size_in}
 use Rattle.sci_lanes.specs.Ends.{FitsInside, rest_view, no_view, first_off, first_only, EndOf, IsSeated, opening_ends}

@@ -1,6 +1,6 @@
 -- Reading the packets of a lane off the words of the table.
 use Rattle.std.proofs.Common.{◌≡◌, ◌≢◌, ℕ, ◌+◌, ◌-◌, ◌*◌, ◌/◌, ◌%◌, ◌<◌, ◌≤◌, inl, inr, Bool, true, false, List, [], ◌∷◌, ◌++◌, length, map, take, drop}
-use Rattle.std.proofs.{Common.{get_or, Some, refl, sym, ap, subst, ◌∙◌, arith}, Math.Nat.{mod-lt}}
+use Rattle.std.proofs.{Common.{get_or, Some, sym, ap, subst, ◌∙◌, arith}, Math.Nat.{mod-lt}}
 use Rattle.std.proofs.lemmas.Bool.{cases_lt}
 use Rattle.std.proofs.lemmas.List.{ext_get_or, get_or-take, get_or-drop, length-take-le, length-drop, length_push, get_or_append_left, get_or_push}
 use Rattle.std.proofs.lemmas.{List.{get_or_read, take_more, take_all}, Option.{slice_get_cases, get_or_from_slice_get}}
@@ -10,7 +10,7 @@ use Rattle.sci_packets.proofs.WordLaws.{few_words, first_word-above}
 use Rattle.sci_cache.specs.Cache.{Letter, letter_of}
 use Rattle.sci_lanes.specs.declared.view.{Outbound.{Outbound}, Inbound.{Inbound}}
 use Rattle.sci_lanes.specs.{Cells.{cell_place, lane_count, word_at}, Shown.{Fits}}
-use Rattle.sci_lanes.specs.Gathering.{AreLanes, HaveInboxTurns, IsPacketAt, TakesFrom}
+use Rattle.sci_lanes.specs.Gathering.{AreLanes, HaveInboxTurns, IsPacketAt}
 use Rattle.sci_lanes.proofs.{LaneSteps.{words_some}, Inside.{inbox_within}}
 
 -- the packet at a place is spelled by the words from there on

@@ -7,8 +7,8 @@ use Rattle.sci_words.specs.declared.{extent.Extent.{Extent}, event.Event.{Event}
 use Rattle.sci_core.specs.{Size.{size_of}, Node.{NodeOf}}
 use Rattle.sci_core.proofs.WellFormed.WellFormedSteps.{reached_well}
 use Rattle.sci_lanes.specs.declared.{cell.CellId.{CellId}, view.{Part.{Part}, View.{View}}}
-use Rattle.sci_lanes.specs.Cells.{cell_place, own_place, lane_count, sender_of, receiver_of, lane_number, word_count}
-use Rattle.sci_lanes.specs.Shown.{me_of, single, informed, inbound_at, outbound_at, IsKept}
+use Rattle.sci_lanes.specs.Cells.{cell_place, own_place, lane_count, sender_of, receiver_of, lane_number}
+use Rattle.sci_lanes.specs.Shown.{me_of, single, informed, IsKept}
 use Rattle.sci_lanes.specs.Knowing.{is_receiving, is_sending}
 use Rattle.sci_lanes.specs.Telling.{part_of, IsShown, IsSending, IsTaking, IsBeating, Tells}
 use Rattle.sci_lanes.specs.Plays.{lane_in, number_in, index_in, LooksAt, Looks, Fills, Reads, Publishes, Frees, Beats}

@@ -1,6 +1,6 @@
 -- An end of the lanes, as its owner sees it, and what each of its calls needs.
 use Rattle.std.specs.List.{range_with_len}
-use Rattle.std.specs.Prelude.{◌≡◌, ℕ, ◌+◌, ◌-◌, ◌*◌, ◌/◌, ◌%◌, ◌<◌, ◌≤◌, true, List, [], length, slice_index, map, take, drop, Option, None, Some, ◌∷◌}
+use Rattle.std.specs.Prelude.{◌≡◌, ℕ, ◌+◌, ◌-◌, ◌*◌, ◌/◌, ◌%◌, ◌^◌, ◌<◌, ◌≤◌, true, List, [], length, slice_index, map, take, drop, Option, None, Some, ◌∷◌}
 use Rattle.atomic_table.specs.{Table.{Me}, Seated.{TableId}}
 use Rattle.sci_words.specs.declared.{extent.Extent.{Extent}, event.Event.{Event}}
 use Rattle.sci_words.specs.declared.{event.Event.TheVariants.{Issue, Perform, Serve, Refuse, Accept}, operation.Op.{Op}}
@@ -76,6 +76,11 @@ pub record IsNextToTake (part : Part) (cell : CellId) : Type 0 where
   pub mine : cell.receiver ≡ me_of part
   pub other : cell.sender < nodes_in part
   pub next : cell.number ≡ (inbound_at part (lane_at_cell part cell)).taken % LANE_CELLS
+
+-- where a cell begins in the table; the number is small, so that those of its words can be added
+pub record IsPlaceOf (part : Part) (cell : CellId) (place : ℕ) : Type 0 where
+  pub begins : place ≡ cell_place (lane_number (nodes_in part) cell) cell.number
+  pub few : place < 2 ^ 32
 
 -- the next cell of a lane to the node was looked at, and this word found
 pub record LooksFor (kind : LaneKind) (from word : ℕ) (old new : EndOf) : Type 0 where

@@ -1,6 +1,6 @@
 //! The cells of the table.
 
-ghost use Rattle.std.specs.Prelude.{◌≡◌, ◌+◌, ◌*◌, ◌/◌, ◌<◌, ◌≤◌, IfOk, replicate};
+ghost use Rattle.std.specs.Prelude.{◌≡◌, ◌+◌, ◌*◌, ◌/◌, ◌^◌, ◌<◌, ◌≤◌, IfOk, replicate};
 ghost use Rattle.sci_lanes.specs.{Cells.{cell_place, lane_number, own_place}, declared.cell.TheConstants.{CELL_WORDS}};
 ghost use Rattle.sci_lanes.specs.Ends.{ArePlaces};
 
@@ -48,7 +48,8 @@ impl CellId {
     #[tactic(auto, unfolding(crate::specs::Cells::cell_place))]
     pub(crate) fn place(&self, nodes: u8, index: usize) -> usize
         requires { index < CELL_WORDS }
-        ensures { result ≡ cell_place (lane_number nodes self.now) self.now.number + index }
+        ensures place { result ≡ cell_place (lane_number nodes self.now) self.now.number + index }
+        ensures few { result < 2 ^ 32 }
     {
         let cells = usize::from(LANE_CELLS);
         (self.lane(nodes) * cells + usize::from(self.number) % cells) * CELL_WORDS + index

@@ -71,7 +71,7 @@ impl LaneEnd {
     ghost use Rattle.sci_words.specs.declared.limits.TheConstants.{LANE_CELLS};
     ghost use Rattle.sci_lanes.specs.{Cells.{lane_count}, Shown.{inbound_at, IsSeen, me_of}, Gathering.{HasTurns}};
     ghost use Rattle.sci_lanes.specs.Telling.{IsMade, IsSameNode, IsShown, IsTaken, SomeLineWaits, state_of};
-    ghost use Rattle.sci_lanes.specs.Ends.{FitsInside, HasIssued, HasPerformed, IsNextToSend, IsNextToTake, LooksFor, MayBeat, MayFill, MayFree};
+    ghost use Rattle.sci_lanes.specs.Ends.{FitsInside, HasIssued, HasPerformed, IsNextToSend, IsNextToTake, IsPlaceOf, LooksFor, MayBeat, MayFill, MayFree};
     ghost use Rattle.sci_lanes.specs.Ends.{MayPublish, MayRead, after_event, beaten, filled_at, freed_at, informed_at, lane_at_cell, looked_at, nodes_in};
     ghost use Rattle.sci_lanes.specs.Ends.{published_at, read_at, taken_by};
     ghost use Rattle.sci_packets.specs.Spelling.{SpellsInWords};
@@ -216,7 +216,28 @@ impl LaneEnd {
         ensures seen { IsSeen self.old.part self.new.part.schedule }
         ensures shown { IsShown self.new.part }
     {
-        self.seat.fill(&cell, self.nodes, index, word);
+        let place = self.place_of(cell);
+        self.fill_at(cell, index, place, word);
+    }
+
+    /// Where the first word of a cell stands in the table: a sender or receiver of several words asks for it once, and
+    /// says it with each word.
+    pub fn place_of(&self, cell: CellId) -> usize
+        ensures { IsPlaceOf self.now.part cell result }
+    {
+        cell.place(self.nodes, 0)
+    }
+
+    /// The same as `fill`, for a caller that knows the place of the cell. Requires besides that this is it.
+    #[inline(always)]
+    pub fn fill_at(&mut self, cell: CellId, index: usize, place: usize, word: u64)
+        requires may { MayFill self.old.part cell index }
+        requires place { IsPlaceOf self.old.part cell place }
+        ensures part { self.new ≡ informed_at self.new.part.schedule (filled_at cell index word self.old) }
+        ensures seen { IsSeen self.old.part self.new.part.schedule }
+        ensures shown { IsShown self.new.part }
+    {
+        self.seat.fill(&cell, index, place + index, word);
     }
 
     /// Loads the word with this number of the next cell to take from. Requires that the words before it were
@@ -227,7 +248,20 @@ impl LaneEnd {
         ensures seen { IsSeen self.old.part self.new.part.schedule }
         ensures shown { IsShown self.new.part }
     {
-        self.seat.read(&cell, self.nodes, index)
+        let place = self.place_of(cell);
+        self.read_at(cell, index, place)
+    }
+
+    /// The same as `read_word`, for a caller that knows the place of the cell. Requires besides that this is it.
+    #[inline(always)]
+    pub fn read_at(&mut self, cell: CellId, index: usize, place: usize) -> u64
+        requires may { MayRead self.old.part cell index }
+        requires place { IsPlaceOf self.old.part cell place }
+        ensures part { self.new ≡ informed_at self.new.part.schedule (read_at cell index result self.old) }
+        ensures seen { IsSeen self.old.part self.new.part.schedule }
+        ensures shown { IsShown self.new.part }
+    {
+        self.seat.read(&cell, index, place + index)
     }
 
     /// Stores the first word of a packet whose other words are filled, into the next cell to send into: from this moment

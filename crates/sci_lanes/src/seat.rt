@@ -64,28 +64,26 @@ impl NodeSeat {
         shared.load::<Look>(&mut self.seat, place)
     }
 
-    /// Stores a further word of the next cell to send into.
-    pub(crate) fn fill(&mut self, cell: &CellId, nodes: u8, index: usize, word: u64)
-        requires nodes { nodes ≡ nodes_in self.old.part }
+    /// Stores a further word of the next cell to send into, which stands at this place.
+    pub(crate) fn fill(&mut self, cell: &CellId, index: usize, place: usize, word: u64)
         requires may { MayFill self.old.part cell.now index }
+        requires place { place ≡ cell_place (lane_number (nodes_in self.old.part) cell.now) cell.now.number + index }
         ensures part { self.new ≡ informed_at self.new.part.schedule (filled_at cell.now index word self.old) }
         ensures seen { IsSeen self.old.part self.new.part.schedule }
         ensures shown { IsShown self.new.part }
     {
-        let place = cell.place(nodes, index);
         let shared = &self.table.shared;
         shared.store::<Fill>(&mut self.seat, place, word);
     }
 
-    /// Loads a further word of the next cell to take from.
-    pub(crate) fn read(&mut self, cell: &CellId, nodes: u8, index: usize) -> u64
-        requires nodes { nodes ≡ nodes_in self.old.part }
+    /// Loads a further word of the next cell to take from, which stands at this place.
+    pub(crate) fn read(&mut self, cell: &CellId, index: usize, place: usize) -> u64
         requires may { MayRead self.old.part cell.now index }
+        requires place { place ≡ cell_place (lane_number (nodes_in self.old.part) cell.now) cell.now.number + index }
         ensures part { self.new ≡ informed_at self.new.part.schedule (read_at cell.now index result self.old) }
         ensures seen { IsSeen self.old.part self.new.part.schedule }
         ensures shown { IsShown self.new.part }
     {
-        let place = cell.place(nodes, index);
         let shared = &self.table.shared;
         shared.load::<Read>(&mut self.seat, place)
     }

@@ -6,8 +6,8 @@ use Rattle.sci_core.proofs.Basics.Lists.{at_place_set}
 use Rattle.sci_lanes.specs.declared.{cell.CellId.{CellId}, view.{Inbound.{Inbound}, Outbound.{Outbound}, Part.{Part}}}
 use Rattle.sci_lanes.specs.Shown.{inbound_at, me_of, no_inbound, no_outbound, outbound_at, IsSeen}
 use Rattle.sci_lanes.specs.Knowing.{has_sent_more, filled_out, is_receiving, is_sending, looked_in, looked_out, read_in, with_lane_known}
-use Rattle.sci_lanes.specs.Ends.{EndOf, IsNextToSend, IsNextToTake, filled_at, informed_at, lane_at_cell, looked_at, read_at, with_part}
-use Rattle.sci_lanes.specs.Cells.{lane_number}
+use Rattle.sci_lanes.specs.Ends.{EndOf, IsNextToSend, IsNextToTake, IsPlaceOf, filled_at, informed_at, lane_at_cell, looked_at, read_at, with_part}
+use Rattle.sci_lanes.specs.Cells.{cell_place, lane_number}
 use Rattle.sci_words.specs.declared.event.Event.{Event}
 use Rattle.sci_core.specs.Node.{NodeOf}
 use Rattle.sci_station.specs.Ends.{IsSameEnd, IsStill, LeavesOthers}
@@ -40,6 +40,12 @@ still_sends old new cell still next = grind (arith, lane_still)
 
 pub still_takes : (old new : EndOf) (cell : CellId) → IsStill old new → IsNextToTake old.part cell → IsNextToTake new.part cell
 still_takes old new cell still next = grind (arith, lane_still)
+
+pub still_place : (old new : EndOf) (cell : CellId) (place : ℕ) → IsStill old new → IsPlaceOf old.part cell place → IsPlaceOf new.part cell place
+still_place old new cell place still is = record {
+  begins = is.begins ∙ ap (λ (n : NodeOf). cell_place (lane_number n.cache.nodes cell) cell.number) (sym still.node);
+  few = is.few;
+}
 
 -- ---- steps that are no event
 

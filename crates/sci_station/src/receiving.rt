@@ -93,9 +93,10 @@ fn read(
     ensures budget { HasNoMore budget.old.left budget.new.left }
     ensures spent { IsErr result → budget.old.left ≢ None }
 {
+    let place = end.place_of(cell);
     for index in 1..count {
         budget.spend()?;
-        words[index] = end.read_word(cell, index);
+        words[index] = end.read_at(cell, index, place);
     }
     Ok(())
 }

@@ -85,9 +85,11 @@ fn fill(end: &mut LaneEnd, budget: &mut Budget, cell: CellId, words: &[u64]) -> 
     ensures budget { HasNoMore budget.old.left budget.new.left }
     ensures spent { IsErr result → budget.old.left ≢ None }
 {
-    for place in 0..words.len() {
+    // Once, since each store makes the processor read the end's fields again.
+    let place = end.place_of(cell);
+    for index in 0..words.len() {
         budget.spend()?;
-        end.fill(cell, place + 1, words[place]);
+        end.fill_at(cell, index + 1, place, words[index]);
     }
     Ok(())
 }

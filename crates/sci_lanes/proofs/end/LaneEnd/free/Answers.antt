@@ -54,7 +54,7 @@ invariant_of-self c =
       freed_inside s.seat.part _ _ _ _ _ f c.args.cell (takes_in s.seat.part c.args.cell f.shown may.next) c.free.new.self.part c.make_taking.new.node
           c.make_taking.new.node _ may.next.mine may.next.next refl (ap (λ (end : EndOf). end.part) c.free.ensures.part) c.free.ensures.shown refl
           c.free.ensures.same,
-      places_freed s.seat.part _ _ _ _ _ _ f c.self.invariant.1 c.args.cell may.next _ _ c.place.ensures,
+      places_freed s.seat.part _ _ _ _ _ _ f c.self.invariant.1 c.args.cell may.next _ _ c.place.ensures.place,
     )
 
 pub returns-clause-taken : goal.returns-clause-taken

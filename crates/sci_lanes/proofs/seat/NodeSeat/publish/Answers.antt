@@ -12,14 +12,14 @@ store-requires g c =
     (λ n. Publishes g.B.Becomes.event g.B.Becomes.next (step t.shared.table_id.slots c.place-place.result c.args.first 0 none) s.me c.args.first))
     (sym c.deref.ensures)
     (publish_asks _ _ _ s.id s.me c.args.cell.now c.args.nodes c.place-place.result c.self.invariant c.args.self.now c.self.view_is c.requires.nodes
-    c.args.first g.B.Becomes.event g.B.Becomes.next c.requires.next c.requires.sending c.place-place.ensures)
+    c.args.first g.B.Becomes.event g.B.Becomes.next c.requires.next c.requires.sending c.place-place.ensures.place)
 
 pub returns-clause-part : goal.returns-clause-part
 returns-clause-part g c =
     let s = c.self.inside.seat in
     told_after _ _ _ s.id s.me c.args.cell.now c.args.nodes c.place-place.result c.self.invariant c.args.self.now c.self.view_is c.requires.nodes
     c.store.new.seat.table_id c.store.new.seat.me 0 (λ p. IsMade p g.B.Becomes.event) (λ l i p. published l g.B.Becomes.next p) (omega arith)
-    c.place-place.ensures c.store.ensures.0 c.store.ensures.2
+    c.place-place.ensures.place c.store.ensures.0 c.store.ensures.2
 
 pub returns-clause-made : goal.returns-clause-made
 returns-clause-made g c =
