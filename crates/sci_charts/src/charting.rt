@@ -8,9 +8,9 @@ ghost use Rattle.sci_charts.specs.{ChartAnswer.{IsChart, IsChartAnswer}, Rows.{i
 
 use crate::drawing::Drawing;
 use crate::layout::FIRST_LINE;
-use sci_command::{Answer, Outcome, is_asked, read_asked};
+use sci_command::{Answer, Answered, Outcome, is_asked, read_asked};
 use sci_core::Machine;
-use sci_text::{Schedule, Tap, TextFault};
+use sci_text::{Schedule, Tap};
 use sci_words::MAX_OPERATIONS;
 use std::alloc::{AllocError, Global};
 use std::io::Read;
@@ -90,11 +90,7 @@ fn chart_of(
 /// events on these alone: a packet that was sent before them comes in from above, and one that is taken after them goes on
 /// to the end. A schedule with a fault is refused, as are a reader that fails, too long an input and running out of memory,
 /// at line 0, and a line that the machine doesn't have, as `range` at line 0. After a failed read nothing more is read.
-pub fn chart<R: Read>(
-    alloc: Global,
-    request: ChartRequest,
-    reader: &mut Tap<R>,
-) -> Result<Answer, TextFault>
+pub fn chart<R: Read>(alloc: Global, request: ChartRequest, reader: &mut Tap<R>) -> Answered
     requires { has_failed reader.old ≡ false }
     ensures { HasAnswered R.remaining reader.old reader.new
         (IsChartAnswer request) (IsAskedFault request.line) result }

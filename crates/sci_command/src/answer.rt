@@ -20,13 +20,12 @@ pub struct Answer {
     pub outcome: Outcome,
 }
 
+/// What comes of a command: its answer, or why its input is refused.
+pub type Answered = Result<Answer, TextFault>;
+
 /// Writes the answer of a command, or the refusal of its fault, and says how the command ends: it is Refused if a write
 /// failed.
-pub fn finish<W: Write>(
-    alloc: Global,
-    writer: &mut Tap<W>,
-    answered: Result<Answer, TextFault>,
-) -> Outcome
+pub fn finish<W: Write>(alloc: Global, writer: &mut Tap<W>, answered: Answered) -> Outcome
     ensures written { HasWritten (W.contents (tapped writer.old)) (W.contents (tapped writer.new))
         (has_failed writer.new) result (IsWrittenOf answered) }
     ensures again { is_called_again writer.new ≡ is_called_again writer.old }

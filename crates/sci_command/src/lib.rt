@@ -13,7 +13,7 @@ mod verdict;
 mod words;
 mod writing;
 
-pub use answer::{Answer, finish};
+pub use answer::{Answer, Answered, finish};
 pub use asked_line::{is_asked, read_asked};
 pub use outcome::Outcome;
 pub use packet_line::{packet_head, packet_tail, push_contents, push_packet, put_contents};

@@ -11,7 +11,7 @@ ghost use Rattle.sci_reports.specs.TextReadings.{AreFaults, AreReadings, IsCheck
 use crate::diagnosis::diagnosis;
 use crate::numbered::entries_before;
 use crate::text_lines::{TextKind, line_of};
-use sci_command::{Answer, Outcome, refusal_text};
+use sci_command::{Answer, Answered, Outcome, refusal_text};
 use sci_text::{
     Tap, TextFault, TextFaultKind, logs_of, no_fault, no_log_fault, no_schedule_fault, push_number,
     push_text, read_input, schedule_of, script_of,
@@ -269,7 +269,7 @@ fn faults_of(readings: Readings) -> Option<(TextFault, TextFault, TextFault)>
 }
 
 /// What is written of a text, and how the command ends.
-fn checked(alloc: Global, text: &[u8]) -> Result<Answer, TextFault>
+fn checked(alloc: Global, text: &[u8]) -> Answered
     ensures checked { IfOk result (λ x. IsChecked text.now x.text.items x.outcome) }
     ensures memory { IfErr result (λ fault. (fault.line ≡ 0) × (fault.kind ≡ Memory)) }
 {
@@ -300,7 +300,7 @@ fn checked(alloc: Global, text: &[u8]) -> Result<Answer, TextFault>
 /// kinds, and a line that says in words where and why: the column, what was expected there, and what stands there. A reader
 /// that fails, too long an input and running out of memory are refused at line 0, without more. After a failed read nothing
 /// more is read.
-pub fn check<R: Read>(alloc: Global, reader: &mut Tap<R>) -> Result<Answer, TextFault>
+pub fn check<R: Read>(alloc: Global, reader: &mut Tap<R>) -> Answered
     requires { has_failed reader.old ≡ false }
     ensures { HasAnswered R.remaining reader.old reader.new IsCheckAnswer IsCheckFault result }
 {

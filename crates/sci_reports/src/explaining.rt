@@ -11,9 +11,9 @@ ghost use Rattle.sci_reports.specs.Subject.{IsSubject};
 
 use crate::note::{Subject, note_of};
 use crate::numbered::{entries_on, lines_before};
-use sci_command::{Answer, Outcome, verdict_line};
+use sci_command::{Answer, Answered, Outcome, verdict_line};
 use sci_history::{Last, LineFault, Logs, Verdict, audit, line_faults};
-use sci_text::{Tap, TextFault, logs_of, read_input};
+use sci_text::{Tap, logs_of, read_input};
 use std::alloc::{AllocError, Global};
 use std::io::Read;
 
@@ -107,7 +107,7 @@ fn explained(alloc: Global, before: usize, logs: &Logs, last: &Last) -> Result<A
 ///
 /// A text with a fault is refused, as are a reader that fails, too long an input and running out of memory, at line 0.
 /// After a failed read nothing more is read.
-pub fn explain<R: Read>(alloc: Global, reader: &mut Tap<R>) -> Result<Answer, TextFault>
+pub fn explain<R: Read>(alloc: Global, reader: &mut Tap<R>) -> Answered
     requires { has_failed reader.old ≡ false }
     ensures { HasAnswered R.remaining reader.old reader.new IsExplainAnswer (IsTold IsLogFault) result }
 {

@@ -10,12 +10,12 @@ ghost use Rattle.sci_reports.specs.OrderAnswer.{found_text as found_text_of, ord
 ghost use Rattle.sci_reports.specs.OrderAnswer.{step_text, why_text};
 
 use crate::numbered::{line_of_entry, lines_before};
-use sci_command::{Answer, Outcome, verdict_line};
+use sci_command::{Answer, Answered, Outcome, verdict_line};
 use sci_history::{
     Entry, Last, Logs, OrderVerdict, Reason, Step, Verdict, audit, sequential_order,
     serial_order_is_lawful,
 };
-use sci_text::{Tap, TextFault, logs_of, push_entry, push_field, push_text, read_input};
+use sci_text::{Tap, logs_of, push_entry, push_field, push_text, read_input};
 use std::alloc::{AllocError, Global};
 use std::io::Read;
 
@@ -321,11 +321,7 @@ fn found(alloc: Global, search: Search, logs: &Logs, last: &Last) -> Result<Answ
 /// log's line: each comes after the one on the next line in every such order, and the last after the first, for the reason
 /// beside it. A text with a fault is refused, as are a reader that fails, too long an input and running out of memory, at
 /// line 0. After a failed read nothing more is read.
-pub fn order<R: Read>(
-    alloc: Global,
-    request: OrderRequest,
-    reader: &mut Tap<R>,
-) -> Result<Answer, TextFault>
+pub fn order<R: Read>(alloc: Global, request: OrderRequest, reader: &mut Tap<R>) -> Answered
     requires { has_failed reader.old ≡ false }
     ensures { HasAnswered R.remaining reader.old reader.new (IsOrderAnswer request) (IsTold IsLogFault) result }
 {

@@ -8,10 +8,10 @@ ghost use Rattle.sci_run_reports.specs.OutcomesAnswer.{IsOutcomesAnswer, count_t
 ghost use Rattle.sci_run_reports.specs.OutcomesAnswer.{replied_text, row_text, seed_text, sense_text, total_text};
 
 use crate::running::fault_of;
-use sci_command::{Answer, Outcome, push_labelled};
+use sci_command::{Answer, Answered, Outcome, push_labelled};
 use sci_drive::Issuing;
 use sci_outcomes::{Held, Replied, Row, Trials, Turns, outcomes};
-use sci_text::{Tap, TextFault, push_number, push_text, read_script};
+use sci_text::{Tap, push_number, push_text, read_script};
 use std::alloc::{AllocError, Global};
 use std::io::Read;
 use std::thread::Threads;
@@ -170,7 +170,7 @@ pub fn outcomes_of<T: Threads + Sync, R: Read>(
     alloc: Global,
     request: OutcomesRequest,
     reader: &mut Tap<R>,
-) -> Result<Answer, TextFault>
+) -> Answered
     requires { has_failed reader.old ≡ false }
     ensures { HasAnswered R.remaining reader.old reader.new (IsOutcomesAnswer request) IsRunRefusal result }
 {

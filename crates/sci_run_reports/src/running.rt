@@ -5,7 +5,7 @@ ghost use Rattle.sci_text.specs.{declared.fault.TextFaultKind.TheVariants.{Memor
 ghost use Rattle.sci_command.specs.{Answer.{HasAnswered}, declared.outcome.Outcome.{Outcome}};
 ghost use Rattle.sci_run_reports.specs.RunAnswer.{IsRunAnswer, IsRunRefusal};
 
-use sci_command::{Answer, Outcome};
+use sci_command::{Answer, Answered, Outcome};
 use sci_drive::Issuing;
 use sci_runs::{Plan, RunFault, run_script};
 use sci_text::{Tap, TextFault, TextFaultKind, read_script, schedule_text};
@@ -53,11 +53,7 @@ pub fn fault_of(fault: RunFault) -> TextFault
 /// the turns were used up first. A script with a fault is refused, as are a reader that fails, too long an input and running
 /// out of memory, at line 0, and a run of more than 500,000 events, as `too-many` at line 0. After a failed read nothing more
 /// is read.
-pub fn run<R: Read>(
-    alloc: Global,
-    request: RunRequest,
-    reader: &mut Tap<R>,
-) -> Result<Answer, TextFault>
+pub fn run<R: Read>(alloc: Global, request: RunRequest, reader: &mut Tap<R>) -> Answered
     requires { has_failed reader.old ≡ false }
     ensures { HasAnswered R.remaining reader.old reader.new (IsRunAnswer request) IsRunRefusal result }
 {

@@ -13,7 +13,7 @@ use crate::node_figures::NodeFigures;
 use crate::passage::Passage;
 use crate::waits::NodeWaits;
 use crate::walk::passages_of;
-use sci_command::{Answer, Outcome, read_asked};
+use sci_command::{Answer, Answered, Outcome, read_asked};
 use sci_text::{Schedule, Tap, TextFault, TextFaultKind};
 use std::alloc::{AllocError, Global};
 use std::io::Read;
@@ -150,11 +150,7 @@ fn stats_of(
 /// the other lines or nodes are left out. A schedule with a fault is refused, as are a reader that fails, too long an input
 /// and running out of memory, at line 0, and a line or a node that the machine doesn't have, as `range` at line 0. After a
 /// failed read nothing more is read.
-pub fn stats<R: Read>(
-    alloc: Global,
-    request: StatsRequest,
-    reader: &mut Tap<R>,
-) -> Result<Answer, TextFault>
+pub fn stats<R: Read>(alloc: Global, request: StatsRequest, reader: &mut Tap<R>) -> Answered
     requires { has_failed reader.old ≡ false }
     ensures { HasAnswered R.remaining reader.old reader.new (IsStatsAnswer request) (IsStatsFault request) result }
 {

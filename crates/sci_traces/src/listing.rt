@@ -11,10 +11,10 @@ ghost use Rattle.sci_traces.specs.ListsAnswer.{AreListed, IsListLine, IsListed, 
 ghost use Rattle.sci_traces.specs.ListsAnswer.{line_within, listed_line as listed_line_of, member_text, name_text, place_text};
 
 use crate::node_states::{held_at, home_at};
-use sci_command::{Answer, Outcome, is_asked, put_contents, read_asked};
+use sci_command::{Answer, Answered, Outcome, is_asked, put_contents, read_asked};
 use sci_core::{ApplyFault, Machine};
 use sci_statistics::line_changed;
-use sci_text::{LineEnd, Schedule, Tap, TextFault, push_number, push_text};
+use sci_text::{LineEnd, Schedule, Tap, push_number, push_text};
 use sci_words::{Event, MAX_OPERATIONS, Stamped};
 use std::alloc::{AllocError, Global};
 use std::io::Read;
@@ -261,11 +261,7 @@ fn lists_of(alloc: Global, asked: Option<u8>, schedule: &Schedule) -> Result<Vec
 /// of the line's list from the head on, the node that may change the line or is about to, and the line's last contents. It
 /// is Done. A schedule with a fault is refused, as are a reader that fails, too long an input and running out of memory, at
 /// line 0, and a line that the machine doesn't have, as `range` at line 0. After a failed read nothing more is read.
-pub fn lists<R: Read>(
-    alloc: Global,
-    asked: Option<u8>,
-    reader: &mut Tap<R>,
-) -> Result<Answer, TextFault>
+pub fn lists<R: Read>(alloc: Global, asked: Option<u8>, reader: &mut Tap<R>) -> Answered
     requires { has_failed reader.old ≡ false }
     ensures { HasAnswered R.remaining reader.old reader.new (IsListsAnswer asked) (IsAskedFault asked) result }
 {

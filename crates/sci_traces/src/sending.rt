@@ -9,11 +9,11 @@ ghost use Rattle.sci_text.specs.{FirstFault.{IsTold}, ScheduleFault.{IsScheduleF
 ghost use Rattle.sci_command.specs.{Answer.{HasAnswered}, declared.outcome.Outcome.{Outcome}};
 ghost use Rattle.sci_traces.specs.PacketsAnswer.{AreSpelled, IsPacketsAnswer, letters_sent};
 
-use sci_command::{Answer, Outcome};
+use sci_command::{Answer, Answered, Outcome};
 use sci_core::{ApplyFault, Machine};
 use sci_packets::{Packet, encode};
 use sci_statistics::sent;
-use sci_text::{Schedule, Tap, TextFault, read_schedule};
+use sci_text::{Schedule, Tap, read_schedule};
 use sci_words::{Event, MAX_OPERATIONS};
 use std::alloc::{AllocError, Global};
 use std::io::Read;
@@ -65,7 +65,7 @@ fn packets_of(alloc: Global, schedule: &Schedule) -> Result<Vec<u8>, AllocError>
 /// operations (events that are not enabled change nothing), and gives the bytes of each packet that an Ask or a Reply
 /// sends, one after another: Done. `scimem decode` reads them. A schedule with a fault is refused, as are a reader that
 /// fails, too long an input and running out of memory, at line 0. After a failed read nothing more is read.
-pub fn packets<R: Read>(alloc: Global, reader: &mut Tap<R>) -> Result<Answer, TextFault>
+pub fn packets<R: Read>(alloc: Global, reader: &mut Tap<R>) -> Answered
     requires { has_failed reader.old ≡ false }
     ensures { HasAnswered R.remaining reader.old reader.new IsPacketsAnswer (IsTold IsScheduleFault) result }
 {

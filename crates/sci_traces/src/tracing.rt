@@ -8,10 +8,10 @@ ghost use Rattle.sci_traces.specs.TraceAnswer.{is_traced as is_traced_of, IsTrac
 
 use crate::event_words::push_event;
 use crate::json_event::push_json;
-use sci_command::{Answer, Outcome, is_asked, read_asked};
+use sci_command::{Answer, Answered, Outcome, is_asked, read_asked};
 use sci_core::Machine;
 use sci_statistics::{applied, line_about};
-use sci_text::{Schedule, Tap, TextFault};
+use sci_text::{Schedule, Tap};
 use sci_words::{Event, MAX_OPERATIONS};
 use std::alloc::{AllocError, Global};
 use std::io::Read;
@@ -107,11 +107,7 @@ fn traced(alloc: Global, request: TraceRequest, schedule: &Schedule) -> Result<A
 /// and is Unlawful then. A schedule with a fault is refused, as are a reader that fails, too long an input and running out
 /// of memory, at line 0, and a line that the machine doesn't have, as `range` at line 0. After a failed read nothing more
 /// is read.
-pub fn trace<R: Read>(
-    alloc: Global,
-    request: TraceRequest,
-    reader: &mut Tap<R>,
-) -> Result<Answer, TextFault>
+pub fn trace<R: Read>(alloc: Global, request: TraceRequest, reader: &mut Tap<R>) -> Answered
     requires { has_failed reader.old ≡ false }
     ensures { HasAnswered R.remaining reader.old reader.new
         (IsTraceAnswer request) (IsAskedFault request.line) result }

@@ -6,7 +6,7 @@ ghost use Rattle.sci_words.specs.Extent.{AreWithinLimits};
 ghost use Rattle.sci_walks.specs.RandomAnswer.{IsRandomAnswer, IsWalkFault};
 
 use crate::walking::schedule_of;
-use sci_command::{Answer, Outcome};
+use sci_command::{Answer, Answered, Outcome};
 use sci_text::{TextFault, TextFaultKind, schedule_text};
 use sci_words::{Extent, MAX_EVENTS, MAX_LINES, MAX_NODES, MAX_SLOTS};
 use std::alloc::Global;
@@ -50,7 +50,7 @@ fn extent_of(walk: &Walk) -> Option<Extent>
 /// hundred of them, or none without it, are any events; the others are enabled when they come. The same numbers give the
 /// same schedule. A number out of its range (`dead` is 0 to 100) is refused, as `range` at line 0, as is running out of
 /// memory.
-pub fn random_schedule(alloc: Global, walk: &Walk, dead: Option<u64>) -> Result<Answer, TextFault>
+pub fn random_schedule(alloc: Global, walk: &Walk, dead: Option<u64>) -> Answered
     ensures answer { IfOk result (λ answer.
         IsRandomAnswer walk.now dead answer.text.items answer.outcome) }
     ensures fault { IfErr result (λ fault. IsWalkFault walk.now dead fault.kind fault.line) }

@@ -5,9 +5,9 @@ ghost use Rattle.sci_text.specs.{FirstFault.{IsTold}, LogFault.{IsLogFault}, Tap
 ghost use Rattle.sci_command.specs.{Answer.{HasAnswered}, declared.outcome.Outcome.{Outcome}};
 ghost use Rattle.scimem.specs.LogAnswer.{IsAuditAnswer, outcome_of};
 
-use sci_command::{Answer, Outcome, verdict_line};
+use sci_command::{Answer, Answered, Outcome, verdict_line};
 use sci_history::{Verdict, audit};
-use sci_text::{Tap, TextFault, read_logs};
+use sci_text::{Tap, read_logs};
 use std::alloc::Global;
 use std::io::Read;
 
@@ -25,7 +25,7 @@ fn end_of(verdict: Verdict) -> Outcome
 /// first fault of the lowest line that has one (without node and serial if the last contents differ). A text with
 /// a fault is refused at its line, as are a reader that fails, too long an input and running out of memory, at line 0.
 /// After a failed read nothing more is read.
-pub fn audit_text<R: Read>(alloc: Global, reader: &mut Tap<R>) -> Result<Answer, TextFault>
+pub fn audit_text<R: Read>(alloc: Global, reader: &mut Tap<R>) -> Answered
     requires { has_failed reader.old ≡ false }
     ensures { HasAnswered R.remaining reader.old reader.new IsAuditAnswer (IsTold IsLogFault) result }
 {

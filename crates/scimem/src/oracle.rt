@@ -5,9 +5,9 @@ ghost use Rattle.sci_text.specs.{FirstFault.{IsTold}, ScriptFault.{IsScriptFault
 ghost use Rattle.sci_command.specs.Answer.{HasAnswered};
 ghost use Rattle.scimem.specs.OracleAnswer.{IsOracleAnswer};
 
-use sci_command::{Answer, Outcome};
+use sci_command::{Answer, Answered, Outcome};
 use sci_history::run_oracle;
-use sci_text::{Tap, TextFault, logs_text, read_script};
+use sci_text::{Tap, logs_text, read_script};
 use std::alloc::Global;
 use std::io::Read;
 
@@ -15,7 +15,7 @@ use std::io::Read;
 /// format 2: Done. A script with a fault is refused at its line, as `syntax`, `range` or `too-many`; at line 0 are refused a
 /// reader that fails (`read`), an input of more than 134,217,728 bytes (`too-many`), and an allocation that fails
 /// (`memory`). After a failed read nothing more is read.
-pub fn oracle<R: Read>(alloc: Global, reader: &mut Tap<R>) -> Result<Answer, TextFault>
+pub fn oracle<R: Read>(alloc: Global, reader: &mut Tap<R>) -> Answered
     requires { has_failed reader.old ≡ false }
     ensures { HasAnswered R.remaining reader.old reader.new IsOracleAnswer (IsTold IsScriptFault) result }
 {

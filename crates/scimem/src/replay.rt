@@ -5,7 +5,7 @@ ghost use Rattle.sci_text.specs.{FirstFault.{IsRefusal, IsTold}, ScheduleFault.{
 ghost use Rattle.sci_command.specs.Answer.{HasAnswered};
 ghost use Rattle.scimem.specs.ReplayAnswer.{IsReplayAnswer, IsWhereLed};
 
-use sci_command::{Answer, Outcome};
+use sci_command::{Answer, Answered, Outcome};
 use sci_core::Machine;
 use sci_text::{ScheduleEvents, Tap, TextFault, logs_text, read_input};
 use sci_words::MAX_OPERATIONS;
@@ -29,7 +29,7 @@ fn machine_of(alloc: Global, input: &[u8]) -> Result<Machine, TextFault>
 /// Reads a schedule to its end, applies its events in text order to a new machine whose nodes may each issue 65,536
 /// operations (events that are not enabled change nothing), and gives the machine's logs and last contents in format
 /// 2: Done. A schedule with a fault is refused, as a script by `oracle`. After a failed read nothing more is read.
-pub fn replay<R: Read>(alloc: Global, reader: &mut Tap<R>) -> Result<Answer, TextFault>
+pub fn replay<R: Read>(alloc: Global, reader: &mut Tap<R>) -> Answered
     requires { has_failed reader.old ≡ false }
     ensures { HasAnswered R.remaining reader.old reader.new IsReplayAnswer (IsTold IsScheduleFault) result }
 {

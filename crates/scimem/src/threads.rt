@@ -5,9 +5,9 @@ ghost use Rattle.sci_text.specs.{FirstFault.{IsTold}, ScriptFault.{IsScriptFault
 ghost use Rattle.sci_command.specs.Answer.{HasAnswered};
 ghost use Rattle.scimem.specs.ThreadsAnswer.{IsThreadsAnswer};
 
-use sci_command::{Answer, Outcome};
+use sci_command::{Answer, Answered, Outcome};
 use sci_drive::Issuing;
-use sci_text::{Tap, TextFault, logs_text, read_script};
+use sci_text::{Tap, logs_text, read_script};
 use sci_threads::{YieldingGate, run_to_machine};
 use std::alloc::Global;
 use std::io::Read;
@@ -25,7 +25,7 @@ pub fn threads<T: Threads + Sync, R: Read>(
     alloc: Global,
     reader: &mut Tap<R>,
     turns: u32,
-) -> Result<Answer, TextFault>
+) -> Answered
     requires { has_failed reader.old ≡ false }
     ensures { HasAnswered R.remaining reader.old reader.new IsThreadsAnswer (IsTold IsScriptFault) result }
 {

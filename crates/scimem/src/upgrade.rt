@@ -5,14 +5,14 @@ ghost use Rattle.sci_text.specs.{FirstFault.{IsTold}, LogFault.{IsLogFault}, Tap
 ghost use Rattle.sci_command.specs.Answer.{HasAnswered};
 ghost use Rattle.scimem.specs.LogAnswer.{IsUpgradeAnswer};
 
-use sci_command::{Answer, Outcome};
-use sci_text::{Tap, TextFault, logs_text, read_logs};
+use sci_command::{Answer, Answered, Outcome};
+use sci_text::{Tap, logs_text, read_logs};
 use std::alloc::Global;
 use std::io::Read;
 
 /// Reads a log to its end, and gives it in format 2: Done. It isn't judged, and its entries stay in their order. A
 /// text with a fault is refused, as by `audit`. After a failed read nothing more is read.
-pub fn upgrade<R: Read>(alloc: Global, reader: &mut Tap<R>) -> Result<Answer, TextFault>
+pub fn upgrade<R: Read>(alloc: Global, reader: &mut Tap<R>) -> Answered
     requires { has_failed reader.old ≡ false }
     ensures { HasAnswered R.remaining reader.old reader.new IsUpgradeAnswer (IsTold IsLogFault) result }
 {
