@@ -7,6 +7,7 @@ ghost use Rattle.sci_cache.specs.Held.{state_of};
 use crate::held::Held;
 use crate::states::*;
 use sci_packets::{Body, NodeId};
+use sci_words::Stamped;
 
 impl Held {
     /// Serves a request of `sender`, a Cread, Purge, Roll or Setback, and gives the answer.
@@ -28,8 +29,8 @@ impl Held {
         ensures { (state_of self.new, result) ≡ serving_cread (state_of self.old) joiner }
     {
         let below = match self {
-            Held::Head(state) => state.join(joiner),
-            Held::FreshHead(state) => state.join(joiner),
+            Held::Head(state) => below(state.forward, joiner, state.contents),
+            Held::FreshHead(state) => below(state.forward, joiner, state.contents),
             _ => return Body::Busy,
         };
         let answer = Body::Cdata(below.contents);
@@ -78,31 +79,14 @@ impl Held {
     }
 }
 
-impl HeadState {
-    /// Lets `joiner` join before this head.
-    fn join(self, joiner: NodeId) -> Below
-        ensures { result
-            ≡ record { forward = self.forward; backward = joiner; contents = self.contents } }
-    {
-        Below {
-            forward: self.forward,
-            backward: joiner,
-            contents: self.contents,
-        }
-    }
-}
-
-impl FreshHead {
-    /// Lets `joiner` join before this head.
-    fn join(self, joiner: NodeId) -> Below
-        ensures { result
-            ≡ record { forward = self.forward; backward = joiner; contents = self.contents } }
-    {
-        Below {
-            forward: self.forward,
-            backward: joiner,
-            contents: self.contents,
-        }
+/// A head with this next entry and these contents, once `joiner` has joined before it.
+fn below(forward: Option<NodeId>, joiner: NodeId, contents: Stamped) -> Below
+    ensures { result ≡ record { forward = forward; backward = joiner; contents = contents } }
+{
+    Below {
+        forward,
+        backward: joiner,
+        contents,
     }
 }
 
