@@ -1,10 +1,10 @@
 -- The transactions of a node about a line, as a schedule makes them: an ask, a Serve or Refuse that takes the request,
 -- and an Accept that takes the answer.
-use Rattle.std.specs.Prelude.{◌≡◌, ℕ, if◌then◌else◌, List, [], ◌∷◌, ◌++◌, slice_get, Option, Some, None, option_map}
+use Rattle.std.specs.Prelude.{◌≡◌, ℕ, if◌then◌else◌, List, [], ◌∷◌, slice_get, Option, Some, None, option_map}
 use Rattle.sci_words.specs.declared.event.Event.{Event}
 use Rattle.sci_cache.specs.Cache.{Letter}
 use Rattle.sci_core.specs.{declared.lane.LaneKind.TheVariants.{Requests, Answers}, Size.{Size}, Node.{node_asking}}
-use Rattle.sci_core.specs.{Core.{Core, node_at, lane_of, stepping, step, opening}, Sharing.{is_about}}
+use Rattle.sci_core.specs.{Core.{Core, along, node_at, lane_of, stepping, opening}, Sharing.{is_about}}
 use Rattle.sci_words.specs.declared.event.Event.TheVariants as event
 
 -- what an event does for a transaction, with its control number
@@ -31,8 +31,7 @@ marks_of core e n line = elim (stepping core e) [ None ↦ [] | Some next ↦ ma
 
 -- those of a list of events, from a state on
 abbrev pub trace : Core → List Event → ℕ → ℕ → List Mark
-trace core [] n line = []
-trace core (e ∷ events) n line = marks_of core e n line ++ trace (step core e) events n line
+trace core events n line = along (λ at e. marks_of at e n line) core events
 
 -- how far a transaction is
 pub data Phase : Type 0 where

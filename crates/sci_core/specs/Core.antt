@@ -145,6 +145,11 @@ run_from core events = fold step core events
 abbrev pub run : Size → List Event → Core
 run size events = run_from (opening size) events
 
+-- what the events of a list give from a state on, each in the state to which those before it lead
+abbrev pub along : {X : Type 0} → (Core → Event → List X) → Core → List Event → List X
+along f core [] = []
+along f core (e ∷ events) = f core e ++ along f (step core e) events
+
 -- ---- sizes
 
 -- how many nodes and lanes a state has

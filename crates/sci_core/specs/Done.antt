@@ -1,8 +1,8 @@
 -- The entries that a schedule makes, in its order, and what each does to the last contents of its line.
-use Rattle.std.specs.Prelude.{◌≡◌, ◌<◌, ℕ, List, [], ◌∷◌, ◌++◌, Option, Some, None, option_map, option_to_list}
+use Rattle.std.specs.Prelude.{◌≡◌, ◌<◌, ℕ, List, Option, Some, None, option_map, option_to_list}
 use Rattle.sci_words.specs.{declared.{stamped.Stamped.{Stamped}, event.Event.{Event}}, Stamped.{after, reply_of}}
 use Rattle.sci_history.specs.declared.entry.Entry.{Entry}
-use Rattle.sci_core.specs.{Size.{Size}, Node.{node_performing}, Core.{Core, node_at, stepping, step, opening}}
+use Rattle.sci_core.specs.{Size.{Size}, Node.{node_performing}, Core.{Core, along, node_at, stepping, opening}}
 use Rattle.sci_core.specs.Sharing.{last_at}
 use Rattle.sci_words.specs.declared.event.Event.TheVariants as event
 
@@ -19,8 +19,7 @@ made_by core e = elim (stepping core e) [ None ↦ None | Some next ↦ performe
 
 -- the entries that events make from a state on, in their order
 abbrev pub done_from : Core → List Event → List Entry
-done_from core [] = []
-done_from core (e ∷ events) = option_to_list (made_by core e) ++ done_from (step core e) events
+done_from core events = along (λ at e. option_to_list (made_by at e)) core events
 
 abbrev pub done : Size → List Event → List Entry
 done size schedule = done_from (opening size) schedule

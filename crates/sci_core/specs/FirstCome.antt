@@ -6,7 +6,7 @@ use Rattle.sci_words.specs.declared.event.Event.{Event}
 use Rattle.sci_packets.specs.declared.body.Body.{Body, TheVariants.{Mread, Fread}}
 use Rattle.sci_cache.specs.Cache.{Letter}
 use Rattle.sci_core.specs.{declared.lane.LaneKind.TheVariants.{Requests}, Size.{Size}}
-use Rattle.sci_core.specs.{Core.{Core, lane_of, opening, step, stepping}, Shape.{IsAuthority}}
+use Rattle.sci_core.specs.{Core.{Core, along, lane_of, opening, step, stepping}, Shape.{IsAuthority}}
 use Rattle.sci_core.specs.{Sharing.{authority_contents, sharer_of}, SharingList.{IsSharingList}}
 use Rattle.sci_words.specs.declared.event.Event.TheVariants as event
 
@@ -38,8 +38,7 @@ entrants core _ line = []
 
 -- the nodes that the home serves so, in its order
 abbrev pub entered : Core → List Event → ℕ → List ℕ
-entered core [] line = []
-entered core (e ∷ events) line = entrants core e line ++ entered (step core e) events line
+entered core events line = along (λ at e. entrants at e line) core events
 
 -- ---- who is served
 
@@ -52,8 +51,7 @@ successors core new line = filter (λ n. not (is_authority core line n) && is_au
 
 -- the nodes that become the authority, in that order
 abbrev pub succeeded : Core → List Event → ℕ → List ℕ
-succeeded core [] line = []
-succeeded core (e ∷ events) line = successors core (step core e) line ++ succeeded (step core e) events line
+succeeded core events line = along (λ at e. successors at (step at e) line) core events
 
 -- ---- first come, first served
 

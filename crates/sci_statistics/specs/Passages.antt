@@ -4,7 +4,7 @@ use Rattle.sci_words.specs.declared.{event.Event.{Event}, extent.Extent.{Extent}
 use Rattle.sci_packets.specs.{declared.command.Command.{Command}, Table.{command_of}}
 use Rattle.sci_history.specs.declared.entry.Entry.{Entry}
 use Rattle.sci_cache.specs.Cache.{Letter}
-use Rattle.sci_core.specs.{Core.{Core, node_at, node_of, opening, step, stepping}, Done.{made_by}, Size.{size_of}}
+use Rattle.sci_core.specs.{Core.{Core, along, node_at, node_of, opening, step, stepping}, Done.{made_by}, Size.{size_of}}
 use Rattle.sci_statistics.specs.declared.{kind.Access.{Access}, passage.Passage.{Passage}}
 use Rattle.sci_statistics.specs.{About.{letter_sent, letter_taken, line_about}, Kinds.{access_of}}
 use Rattle.sci_words.specs.Event.{kind_of}
@@ -43,8 +43,7 @@ passage_of core e = record {
 
 -- the events from a state on, each in the state to which those before it lead
 abbrev pub passages : Core → List Event → List Passage
-passages core [] = []
-passages core (e ∷ events) = passage_of core e ∷ passages (step core e) events
+passages core events = along (λ at e. passage_of at e ∷ []) core events
 
 -- the same from the beginning of a machine of this size, whose nodes may each issue 65,536 operations
 abbrev pub passages_from : Extent → List Event → List Passage

@@ -4,7 +4,7 @@ use Rattle.std.specs.Option.{option_to_list}
 use Rattle.sci_words.specs.declared.event.Event.{Event}
 use Rattle.sci_packets.specs.{declared.packet.Packet.{Packet}, Spelling.{spelling}}
 use Rattle.sci_cache.specs.Cache.{Letter, letter_of}
-use Rattle.sci_core.specs.Core.{Core, step}
+use Rattle.sci_core.specs.Core.{Core, along}
 use Rattle.sci_statistics.specs.{About.{letter_sent}, Beginning.{before}}
 use Rattle.sci_text.specs.{Schedule.{ScheduleValue, IsSchedule, schedule_text}, FirstFault.{IsTold}}
 use Rattle.sci_text.specs.ScheduleFault.{IsScheduleFault}
@@ -12,8 +12,7 @@ use Rattle.sci_command.specs.{declared.outcome.Outcome.{Outcome}, Answer.{IsDone
 
 -- the packets that events send from a state on, one event after another
 abbrev pub letters_sent : Core → List Event → List Letter
-letters_sent core [] = []
-letters_sent core (e ∷ events) = option_to_list (letter_sent core e) ++ letters_sent (step core e) events
+letters_sent core events = along (λ at e. option_to_list (letter_sent at e)) core events
 
 -- bytes are those of packets, one after another, which are these letters
 pub record AreSpelled (letters : List Letter) (bytes : List ℕ) : Type 0 where
