@@ -1,28 +1,34 @@
-use Rattle.std.proofs.Common.{◌≡◌, ◌+◌, [], ◌∷◌, ◌++◌, sym, ap, subst, ◌∙◌, arith, map}
+use Rattle.std.proofs.Common.{◌≡◌, ◌+◌, Some, [], ◌∷◌, ◌++◌, sym, ap, subst, ◌∙◌, arith, map}
 use Rattle.std.specs.{Prelude.{slice_get}, List.{remove}}
 use Rattle.sci_lanes.specs.{Ends.{EndOf, nodes_in}, Gathering.{HasTurns}}
 use Rattle.sci_lanes.proofs.Joining.{AreJoining, mapped_at, mapped_less, one_joined}
+use Rattle.sci_lanes.proofs.gather.join_all.Goals.{After-into_parts-part}
 use Rattle.sci_lanes.proofs.gather.join_all.Goals as goal
+
+-- the end that was found stands at its place
+there : (g : _) (c : After-into_parts-part g) → slice_get (map g.E.HasEnd.end_of c.loop-n.ends.items) c.in-Some.place ≡ Some c.in-Some.ensures.some.0
+there g c = sym (ap (λ xs. slice_get (map g.E.HasEnd.end_of xs) c.in-Some.place) c.deref.ensures.value) ∙ c.in-Some.ensures.some.1
+
+-- and it is the one that is joined
+joined : (g : _) (c : After-into_parts-part g) → c.into_end.result ≡ c.in-Some.ensures.some.0
+joined g c = c.into_end.ensures
+    ∙ mapped_at g.E.HasEnd.end_of c.loop-n.ends.items c.in-Some.place c.remove.result _ c.remove.ensures.value (there g c)
 
 pub join-requires-clause-same : goal.join-requires-clause-same
 join-requires-clause-same g c =
     let i = c.loop-n.invariant in
-    let found = c.in-Some.ensures.some in
-    let f = g.E.HasEnd.end_of in
-    let there = sym (ap (λ xs. slice_get (map f xs) c.in-Some.place) c.deref.ensures.value) ∙ found.1 in
-    let end : c.into_end.result ≡ found.0 =
-    c.into_end.ensures ∙ mapped_at f c.loop-n.ends.items c.in-Some.place c.remove.result found.0 c.remove.ensures.value there in
-    i.0 ∙ (sym (i.4.own c.in-Some.place found.0 there).0
-    ∙ (ap (λ (e : EndOf). e.table) (sym end) ∙ ap (λ (e : EndOf). e.table) (sym c.into_parts-part.ensures.seat)))
+    let start = (goal.at.join-requires-clause-same g c).After-into_parts-part in
+    i.0 ∙ (sym (i.4.own c.in-Some.place _ (there g start)).0
+    ∙ (ap (λ (e : EndOf). e.table) (sym (joined g start)) ∙ ap (λ (e : EndOf). e.table) (sym c.into_parts-part.ensures.seat)))
 
 pub loop-n-preserved : goal.loop-n-preserved
 loop-n-preserved g c =
     let i = c.loop-n.invariant in
     let found = c.in-Some.ensures.some in
     let f = g.E.HasEnd.end_of in
-    let there = sym (ap (λ xs. slice_get (map f xs) c.in-Some.place) c.deref.ensures.value) ∙ found.1 in
-    let end : c.into_end.result ≡ found.0 =
-    c.into_end.ensures ∙ mapped_at f c.loop-n.ends.items c.in-Some.place c.remove.result found.0 c.remove.ensures.value there in
+    let start = (goal.at.loop-n-preserved g c).After-into_parts-part in
+    let there = there g start in
+    let end = joined g start in
     let part = ap (λ (e : EndOf). e.part) (c.into_parts-part.ensures.seat ∙ end) in
     let knows = c.join.ensures.knows in
     let parts : c.join.new.root.me.0.parts ≡ c.loop-n.seat.me.0.parts ++ found.0.part ∷ [] =
