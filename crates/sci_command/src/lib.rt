@@ -19,7 +19,7 @@ pub use outcome::Outcome;
 pub use packet_line::{packet_head, packet_tail, push_contents, push_packet, put_contents};
 pub use printer::{print_end, print_piece};
 pub use printing::push_labelled;
-pub use refusal::refusal_text;
+pub use refusal::{refusal_text, word_of_fault};
 pub use verdict::verdict_line;
 pub use words::texts_of;
 pub use writing::write_answer;

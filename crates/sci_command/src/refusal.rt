@@ -1,6 +1,6 @@
 //! Refusals of texts.
 
-ghost use Rattle.std.specs.{Prelude.{◌≡◌, ◌++◌, ℕ, List, false, IfOk}, Io.KnownBytes.{Appends}};
+ghost use Rattle.std.specs.{Prelude.{◌≡◌, ◌≤◌, ◌++◌, ℕ, List, false, length, IfOk}, Io.KnownBytes.{Appends}};
 ghost use Rattle.sci_text.specs.Tap.{has_failed, is_called_again, tapped};
 ghost use Rattle.sci_command.specs.{Refusal.{Refuses, kind_word, line_refusal}, Writing.{WritesFront}};
 
@@ -10,9 +10,11 @@ use sci_text::{Tap, TextFault, TextFaultKind, push_field, push_text};
 use std::alloc::{AllocError, Global};
 use std::io::Write;
 
+/// The word for what is wrong with a text.
 #[tactic(auto, unfolding(crate::specs::Refusal::kind_word))]
-fn word_of(kind: TextFaultKind) -> &'static str
-    ensures { result.now ≡ kind_word kind }
+pub fn word_of_fault(kind: TextFaultKind) -> &'static str
+    ensures word { result.now ≡ kind_word kind }
+    ensures short { length result.now ≤ 8 }
 {
     match kind {
         TextFaultKind::Syntax => "syntax",
@@ -33,7 +35,7 @@ pub fn refusal_text(alloc: Global, fault: TextFault) -> Result<Vec<u8>, AllocErr
     push_text(&mut text, "refused at line")?;
     push_field(&mut text, fault.line as u64)?;
     push_text(&mut text, ": ")?;
-    push_text(&mut text, word_of(fault.kind))?;
+    push_text(&mut text, word_of_fault(fault.kind))?;
     push_text(&mut text, "\n")?;
     Ok(text)
 }

@@ -3,12 +3,13 @@
 ghost use Rattle.std.specs.Prelude.{◌≡◌, ◌≤◌, ℕ, List, [], false, length};
 ghost use Rattle.sci_text.specs.Tap.{has_failed, is_called_again, tapped};
 ghost use Rattle.sci_command.specs.{declared.outcome.Outcome.{Outcome}, Writing.{HasCarriedOut, IsPrinted}};
-ghost use Rattle.sci_command.specs.Refusal.{kind_word};
 ghost use Rattle.scimem.specs.Decoding.{IsDecoded, IsAnswer, refusal, fault_word};
 
-use sci_command::{Outcome, packet_head, packet_tail, print_end, print_piece, write_answer};
+use sci_command::{
+    Outcome, packet_head, packet_tail, print_end, print_piece, word_of_fault, write_answer,
+};
 use sci_packets::{PacketFault, decode};
-use sci_text::{LineEnd, Tap, TextFaultKind, read_input};
+use sci_text::{LineEnd, Tap, read_input};
 use std::alloc::Global;
 use std::io::{Read, Write};
 
@@ -26,33 +27,19 @@ fn word_of(fault: PacketFault) -> &'static str
     }
 }
 
-/// The refusal of a packet that begins at `place`.
+/// The refusal of what begins at `place`, for this reason.
 #[tactic(auto, unfolding(crate::specs::Decoding::refusal))]
-fn refusal_of(place: u64, fault: PacketFault) -> LineEnd
-    ensures { result ≡ refusal place (fault_word fault) }
+fn refusal_of(place: u64, word: &str) -> LineEnd
+    requires { length word.now ≤ 16 }
+    ensures { result ≡ refusal place word.now }
 {
     let mut line = LineEnd::new();
     line.put_text("\n");
-    line.put_text(word_of(fault));
+    line.put_text(word);
     line.put_text(": ");
     line.put_field(place);
     line.put_text("refused at byte");
     line
-}
-
-/// The refusal of an input that couldn't be read.
-#[tactic(auto, unfolding(crate::specs::Decoding::refusal, sci_command::specs::Refusal::kind_word, sci_text::specs::Number::number, sci_text::specs::Number::field))]
-fn input_refusal(kind: TextFaultKind) -> &'static [u8]
-    ensures { result.now ≡ refusal 0 (kind_word kind) }
-{
-    match kind {
-        TextFaultKind::Syntax => b"refused at byte 0: syntax\n",
-        TextFaultKind::Range => b"refused at byte 0: range\n",
-        TextFaultKind::TooMany => b"refused at byte 0: too-many\n",
-        TextFaultKind::Read => b"refused at byte 0: read\n",
-        TextFaultKind::Write => b"refused at byte 0: write\n",
-        TextFaultKind::Memory => b"refused at byte 0: memory\n",
-    }
 }
 
 /// Prints the lines of the packets that the bytes are, and then the refusal of what is no packet; and tells how the command
@@ -74,7 +61,11 @@ fn print_packets<W: Write>(writer: &mut Tap<W>, waiting: &mut Vec<u8>, input: &[
             }
             Err(fault) => {
                 let place = (input.len() - rest.len()) as u64;
-                print_piece(writer, waiting, refusal_of(place, fault).as_slice());
+                print_piece(
+                    writer,
+                    waiting,
+                    refusal_of(place, word_of(fault)).as_slice(),
+                );
                 return Outcome::Refused;
             }
         }
@@ -107,6 +98,9 @@ pub fn decode_bytes<R: Read, W: Write>(
             let outcome = print_packets(writer, &mut waiting, &input);
             print_end(writer, &waiting, outcome)
         }
-        Err(fault) => write_answer(writer, input_refusal(fault.kind), Outcome::Refused),
+        Err(fault) => {
+            let refusal = refusal_of(0, word_of_fault(fault.kind));
+            write_answer(writer, refusal.as_slice(), Outcome::Refused)
+        }
     }
 }

@@ -30,9 +30,9 @@ returns-in-Err g c =
     let known = g.R.Read.remaining (tapped c.args.reader.now) in
     let unread = has_failed c.read_input.new.reader in
     let written = c.write_answer.ensures in record {
-      answers = written_text (IsAnswer known unread) c.input_refusal.result.now Refused
-          (rw c.input_refusal.ensures (refused known unread c.in-Err.fault.kind c.in-Err.ensures.fault)) _ _ _ _ written.front written.whole
-          written.unfailed written.failed;
+      answers = written_text (IsAnswer known unread) c.as_slice.result.now Refused
+          (rw (c.as_slice.ensures, c.refusal_of-refusal.ensures, c.word_of_fault.ensures.word)
+          (refused known unread c.in-Err.fault.kind c.in-Err.ensures.fault)) _ _ _ _ written.front written.whole written.unfailed written.failed;
       read_no_more = c.read_input.ensures.again;
       wrote_no_more = written.again;
     }

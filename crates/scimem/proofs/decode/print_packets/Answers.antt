@@ -49,7 +49,7 @@ returns-in-Err-clause-printed g c =
     let here = place input rest so.0 so.1 in
     let few = within input rest so.0 so.1 in
     let is : said ≡ refusal (length (spellings so.1.packets)) (fault_word fault) =
-    c.as_slice-in-Err.ensures ∙ c.refusal_of.ensures ∙ ap (λ (n : ℕ). refusal n (fault_word fault)) here in
+    c.as_slice-in-Err.ensures ∙ c.refusal_of.ensures ∙ (λ i. refusal (here i) (c.word_of.ensures.word i)) in
     let found : ArePacketsThenFault input (so.0 ++ said) =
     record {
       packets = so.1.packets;
