@@ -30,8 +30,8 @@ def lemmas_in(lines):
     """The names that the file's lines declare, or import from proofs."""
     declared = {m[1] for it in lines if not it.startswith("use") and (m := SIGNED.match(it))}
     hidden = {m[1] for it in lines if (m := re.match(r"(?:pub )?(?:abbrev|unfoldable)(?: pub)? ([a-z_][\w\-']*)", it))}
-    used = re.findall(r"^use (\S+?)\.\{([^}]*)\}", "\n".join(lines), re.M)
-    imported = {it.split(" as ")[-1].strip() for module, names in used if ".proofs" in module for it in names.split(",")}
+    used = [names for it in lines if re.match(r"use \S+\.proofs\.", it) for names in re.findall(r"\{([^{}]*)\}", it)]
+    imported = {it.split(" as ")[-1].strip() for names in used for it in names.split(",")}
     return declared, (declared | {it for it in imported if re.match(r"[a-z_]", it)}) - hidden
 
 
