@@ -21,7 +21,7 @@ use Rattle.sci_core.proofs.Tidy.{TidyRuns.{opening_tidy, any_tidy, reached_tidy}
 use Rattle.sci_core.proofs.Shape.{ShapeSteps.{ShapedAt}, ShapeRuns.{each_mapped, opening_shaped, step_follows}}
 use Rattle.sci_core.proofs.Shape.{ShapeClauses.{last_is, shape_of}, StaleFronts.{any_stale}}
 use Rattle.sci_core.proofs.History.Works.{HasSerials, opening_serials}
-use Rattle.sci_core.proofs.History.Histories.{run_follows, RunLogged, run_logged, IsKnown}
+use Rattle.sci_core.proofs.History.ScheduleHistories.{run_follows, RunLogged, run_logged, IsKnown}
 
 -- ---- from the opening on
 

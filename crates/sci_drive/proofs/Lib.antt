@@ -1,5 +1,5 @@
-pub mod Calls
+pub mod GateCalls
 pub mod Drives
 pub mod InOrder
-pub mod Resting
-pub mod Rounds
+pub mod GateRests
+pub mod DriverRounds

@@ -18,7 +18,7 @@ use Rattle.sci_lanes.specs.Cells.{cell_place, lane_count, sender_of, receiver_of
 use Rattle.sci_lanes.specs.Shown.{AreEnabled, Fits, ShowsLane, Whole, nodes_of, me_of, single, informed, outbound_at, inbound_at, IsKnown, Shows, IsKept}
 use Rattle.sci_lanes.specs.Knowing.{has_sent_more, is_sending, is_receiving, looked_out, looked_in, looked, with_lane_known}
 use Rattle.sci_lanes.specs.{Telling.{IsShown, IsSameNode, Tells, size_in}, Plays.{lane_in, number_in, index_in, Looks}}
-use Rattle.sci_lanes.proofs.{Words.{same_cell}, LaneSteps.{first_full, out_looked, in_looked, sender_finds_empty}}
+use Rattle.sci_lanes.proofs.{TableWords.{same_cell}, LaneSteps.{first_full, out_looked, in_looked, sender_finds_empty}}
 use Rattle.sci_lanes.proofs.{Keeping.{no_further, within}, Turning.{IsTurn, turned_whole, lane_step}}
 use Rattle.sci_lanes.proofs.Facts.{lane_length, known_part, shown}
 

@@ -8,7 +8,7 @@ use Rattle.sci_lanes.specs.declared.view.{Outbound.{Outbound}, Inbound.{Inbound}
 use Rattle.sci_lanes.specs.Cells.{cell_place, lane_count, sender_of, receiver_of}
 use Rattle.sci_lanes.specs.Shown.{Fits, ShowsLane, Whole, nodes_of, me_of, single, informed, outbound_at, inbound_at, IsKept}
 use Rattle.sci_lanes.specs.{Knowing.{filled_out, filled, read_in, read}, Plays.{Fills, Reads}}
-use Rattle.sci_lanes.proofs.{Words.{same_cell, place_within}, LaneSteps.{out_filled, in_read}}
+use Rattle.sci_lanes.proofs.{TableWords.{same_cell, place_within}, LaneSteps.{out_filled, in_read}}
 use Rattle.sci_lanes.proofs.Allowed.{lane_found, index_found, lane_goes, Goes, Owes, allows, of_whole, tells, still}
 
 -- what is known where a word of a part's next cell is filled

@@ -24,7 +24,7 @@ use Rattle.sci_lanes.specs.Shown.{AreEnabled, Fits, ShowsLane, Whole, nodes_of, 
 use Rattle.sci_lanes.specs.Knowing.{published_out, published, freed_in, freed, with_node_known}
 use Rattle.sci_lanes.specs.Telling.{IsMade, IsSending, IsTaken, IsTaking, IsBeating, lane_taken}
 use Rattle.sci_lanes.specs.Plays.{Publishes, Frees, Beats}
-use Rattle.sci_lanes.proofs.Words.{same_cell, place_within, own_apart, stored_else}
+use Rattle.sci_lanes.proofs.TableWords.{same_cell, place_within, own_apart, stored_else}
 use Rattle.sci_lanes.proofs.LaneSteps.{agreeing, out_published, in_freed, words_some}
 use Rattle.sci_lanes.proofs.{Keeping.{step_shows, one_further, seen_all}, Facts.{known_part}}
 use Rattle.sci_lanes.proofs.Allowed.{lane_found, size_known, leads_here, goes, lane_goes, Goes, Owes, allows, tells}

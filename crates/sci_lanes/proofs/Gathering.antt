@@ -10,7 +10,7 @@ use Rattle.sci_core.specs.{Size.{Size}, Core.{run}}
 use Rattle.sci_lanes.specs.{declared.view.View.{View}, Cells.{word_count}}
 use Rattle.sci_lanes.specs.Shown.{AreEnabled, Whole, nodes_of, IsKnown, HasRead, IsCovered, Shows, IsKept}
 use Rattle.sci_lanes.specs.{Ends.{no_view}, Gathering.{Gathers, HasNodes, both_views, read_more}}
-use Rattle.sci_lanes.proofs.{Words.{one_more}, Keeping.{all_at, within}, Sharing.{joins, kept_owned}}
+use Rattle.sci_lanes.proofs.{TableWords.{one_more}, Keeping.{all_at, within}, Sharing.{joins, kept_owned}}
 
 -- ---- joining
 

@@ -1,4 +1,4 @@
-pub mod Words
+pub mod TableWords
 pub mod LaneSteps
 pub mod Keeping
 pub mod Turning
@@ -11,7 +11,7 @@ pub mod Inside
 pub mod Calls
 pub mod Sharing
 pub mod Opening
-pub mod Places
+pub mod CellPlaces
 pub mod Uniqueness
 pub mod Gathering
 pub mod Reading

@@ -13,7 +13,7 @@ use Rattle.sci_lanes.specs.Knowing.{is_receiving, is_sending}
 use Rattle.sci_lanes.specs.Telling.{part_of, IsShown, IsSending, IsTaking, IsBeating, Tells}
 use Rattle.sci_lanes.specs.Plays.{lane_in, number_in, index_in, LooksAt, Looks, Fills, Reads, Publishes, Frees, Beats}
 use Rattle.sci_lanes.specs.Ends.{EndOf, with_part, nodes_in, lane_at_cell, IsNextToSend, IsNextToTake, MayFill, MayRead, IsSeated}
-use Rattle.sci_lanes.proofs.{Words.{place_within}, Allowed.{lane_found, number_found, index_found, looks}}
+use Rattle.sci_lanes.proofs.{TableWords.{place_within}, Allowed.{lane_found, number_found, index_found, looks}}
 use Rattle.sci_lanes.proofs.{Ends.{fills, reads}, Events.{sent_place, publishes, frees, beats}}
 
 -- ---- cells

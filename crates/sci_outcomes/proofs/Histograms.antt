@@ -9,7 +9,7 @@ use Rattle.std.specs.{Cmp.{IsTotalOrder}, Ordering.{eq_by_cmp}}
 use Rattle.sci_outcomes.specs.declared.{histogram.{Histogram.{Histogram}, Tally.{Tally}}, outcome.Held.{Held}}
 use Rattle.sci_outcomes.specs.declared.outcome.{Outcome.{Outcome}, Replied.{Replied}, Sighting.{Sighting}}
 use Rattle.sci_outcomes.specs.Rows.{HasCounted, has_outcome, held_cmp, outcome_cmp, replied_cmp, tally_by, with_run}
-use Rattle.sci_outcomes.proofs.Counts.{tally_more, tally_same}
+use Rattle.sci_outcomes.proofs.SightingCounts.{tally_more, tally_same}
 
 -- ---- the order of outcomes
 

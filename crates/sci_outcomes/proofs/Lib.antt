@@ -1,5 +1,5 @@
-pub mod Counts
-pub mod Places
+pub mod SightingCounts
+pub mod WrittenWords
 pub mod Histograms
 pub mod Ranked
 pub mod Sightings

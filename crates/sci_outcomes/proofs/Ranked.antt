@@ -16,7 +16,7 @@ use Rattle.std.specs.declared.cmp.Ordering.{Ordering, TheVariants.{Less, Equal, 
 use Rattle.sci_outcomes.specs.declared.histogram.{Histogram.{Histogram}, Row.{Row}, Tally.{Tally}}
 use Rattle.sci_outcomes.specs.declared.outcome.{Outcome.{Outcome}, Sighting.{Sighting}}
 use Rattle.sci_outcomes.specs.Rows.{AreRowsOf, HasCounted, IsRowOf, has_outcome, outcome_cmp, row_cmp}
-use Rattle.sci_outcomes.proofs.Counts.{bit, some_tally, sum_by_map, tally_is}
+use Rattle.sci_outcomes.proofs.SightingCounts.{bit, some_tally, sum_by_map, tally_is}
 use Rattle.sci_outcomes.proofs.Histograms.{is_same, outcome_total, same_back}
 
 abbrev pub row_of : Outcome × Tally → Row

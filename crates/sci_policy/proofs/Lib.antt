@@ -1,10 +1,10 @@
-pub mod Ranges
+pub mod LeastAmong
 pub mod Marks
 pub mod Oldest
 pub mod Found
 pub mod Least
 pub mod Wants
-pub mod Rests
+pub mod AlwaysWants
 pub mod Idle
 pub mod Targets
 pub mod Deciding

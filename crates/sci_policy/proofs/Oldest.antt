@@ -7,7 +7,7 @@ use Rattle.std.specs.{Prelude.{IfSome, is_some, option_map}, List.{range_with_le
 use Rattle.sci_core.specs.{Node.{NodeOf, pending_on}, declared.pending.Pending.{Pending}}
 use Rattle.sci_policy.specs.Lines.{all_lines, has_pending, older, oldest, oldest_of, serial_in, serial_on}
 use Rattle.sci_policy.specs.Scan.{is_older_than}
-use Rattle.sci_policy.proofs.Ranges.{range_more}
+use Rattle.sci_policy.proofs.LeastAmong.{range_more}
 
 -- what becomes of the oldest by one line more
 abbrev pub next_oldest : NodeOf → Option ℕ → ℕ → ℕ

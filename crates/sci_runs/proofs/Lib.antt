@@ -1,8 +1,8 @@
-pub mod Steps
+pub mod NodeSteps
 pub mod Sparing
 pub mod Issues
 pub mod Limits
 pub mod Recording
-pub mod Finished
-pub mod Working
+pub mod RunEnds
+pub mod WorkingNodes
 pub mod Playing

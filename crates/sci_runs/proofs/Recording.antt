@@ -18,7 +18,7 @@ use Rattle.sci_core.proofs.{Settling.Drains.{some_node, some_sender}, Step.{Node
 use Rattle.sci_core.proofs.WellFormed.WellFormedSteps.{reached_well}
 use Rattle.sci_lanes.specs.Shown.{AreEnabled}
 use Rattle.sci_lanes.proofs.{Events.{enabled_more, run_further}, Opening.{node_opened}}
-use Rattle.sci_runs.proofs.{Steps.{perform_makes}, Issues.{issues_on}, Limits.{opening_raised, stepping_raised}}
+use Rattle.sci_runs.proofs.{NodeSteps.{perform_makes}, Issues.{issues_on}, Limits.{opening_raised, stepping_raised}}
 use Rattle.sci_runs.specs.declared.fault.RunFault.{RunFault}
 use Rattle.sci_runs.specs.Recorded.{HasIssued, HasLed, IsOfSize, IsRecorder, IsSameSize, raised, with_limit}
 use Rattle.sci_words.specs.declared.event.Event.TheVariants as event

@@ -11,7 +11,7 @@ use Rattle.sci_lanes.specs.Ends.{EndOf, IsNextToSend, IsNextToTake, informed_at,
 use Rattle.sci_words.specs.declared.event.Event.{Event}
 use Rattle.sci_core.specs.Core.{lane_at}
 use Rattle.sci_lanes.proofs.Seats.{sends_in, shown_nodes, takes_in}
-use Rattle.sci_station.proofs.Stills.{fill_still, look_still, still_sends, still_takes}
+use Rattle.sci_station.proofs.StillEnds.{fill_still, look_still, still_sends, still_takes}
 
 lane_in_part : (part : Part) (lane : ℕ) (shown : IsShown part) → lane < lane_count (nodes_in part) → lane < lane_count shown.core.size.nodes
 lane_in_part part lane shown lt = subst (λ (n : ℕ). lane < lane_count n) (shown_nodes part shown) lt

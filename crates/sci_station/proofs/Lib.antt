@@ -1,9 +1,9 @@
 pub mod Budgets
-pub mod Stills
+pub mod StillEnds
 pub mod Cells
 pub mod Spelled
 pub mod OwnEvents
-pub mod Events
+pub mod StationEvents
 pub mod OneLogs
 pub mod Beats
 pub mod Belonging

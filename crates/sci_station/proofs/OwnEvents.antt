@@ -6,7 +6,7 @@ use Rattle.sci_words.specs.declared.event.Event.{Event}
 use Rattle.sci_core.specs.Core.{node_of}
 use Rattle.sci_lanes.specs.{declared.view.Part.{Part}, Shown.{AreOfOthers, IsSeen, me_of}, Telling.{IsMade}}
 use Rattle.sci_turn.specs.Moves.{own_of}
-use Rattle.sci_turn.proofs.Turns.{own_one, own_join}
+use Rattle.sci_turn.proofs.LongerTurns.{own_one, own_join}
 
 -- the own events among these and others' are those among these
 own_others : (n : ℕ) (others : List Event) → AreOfOthers n others → own_of n others ≡ []

@@ -17,7 +17,7 @@ use Rattle.sci_turn.specs.Posts.{IsMade, IsPost, IsStill, OthersLead, PostOf, no
 use Rattle.sci_turn.proofs.Working.{other_stays}
 use Rattle.sci_packets.specs.declared.packet.Packet.{Packet}
 use Rattle.sci_station.specs.{Ends.{HasRead}, Posts.{StationPostOf, post_of}, Station.{StationOf}}
-use Rattle.sci_station.proofs.Events.{front_read}
+use Rattle.sci_station.proofs.StationEvents.{front_read}
 
 some_step : (core : Core) (o : Option Core) → IsSome o → o ≡ Some (unwrap_or o core)
 some_step core None some = cc

@@ -22,7 +22,7 @@ use Rattle.sci_turn.specs.Posts.{IsMade, IsPost, IsStill as IsStillPost, OthersL
 use Rattle.sci_station.specs.{declared.receiving.Seen.{Seen}, Ends.{HasRead, HasSeen, IsStill, LeavesOthers}}
 use Rattle.sci_station.specs.Posts.{IsRead, KeptOf, Remembers, answers_to, is_kept, owed, packet_in, post_of}
 use Rattle.sci_station.proofs.Owing.{adds_one, changed_owes, others_owe, sent_owes, taken_owes, takes_one}
-use Rattle.sci_station.proofs.{Posts.{is_post, made_post, node_there, post_nodes, still_post}, Stills.{same_of_still}}
+use Rattle.sci_station.proofs.{Posts.{is_post, made_post, node_there, post_nodes, still_post}, StillEnds.{same_of_still}}
 use Rattle.sci_words.specs.declared.event.Event.TheVariants as event
 
 -- ---- sizes

@@ -2,4 +2,4 @@ pub mod Rising
 pub mod Waiting
 pub mod Walked
 pub mod Counted
-pub mod Parts
+pub mod FigureTexts

@@ -7,7 +7,7 @@ use Rattle.std.specs.{Prelude.{not, option_map, cond}, List.{filter_map, prefix_
 use Rattle.sci_statistics.specs.declared.{kind.Access.{Access}, passage.Passage.{Passage}, waits.Wait.{Wait}}
 use Rattle.sci_statistics.specs.Measures.{is_line}
 use Rattle.sci_statistics.specs.Waits.{issued_line, performed_at, since_issue, wait_at, wait_behind}
-use Rattle.sci_statistics.proofs.Parts.{range_more}
+use Rattle.sci_statistics.proofs.FigureTexts.{range_more}
 
 -- the place behind the last Issue about each line, of the first i events
 pub record IsBehind (n : ℕ) (passages : List Passage) (i : ℕ) (behind : List ℕ) : Type 0 where

@@ -9,7 +9,7 @@ use Rattle.sci_lanes.specs.{Ends.{EndOf}, Shown.{me_of}}
 use Rattle.sci_drive.specs.{declared.driver.Issuing.{Issuing, TheVariants.{InOrder}}, Driving.{DriverOf}}
 use Rattle.sci_drive.specs.Script.{IsFrontOf, IsLogOf, IsWholeLogOf}
 use Rattle.sci_drive.proofs.Drives.{log_of, whole_of}
-use Rattle.sci_station.proofs.Stills.{same_itself, same_then}
+use Rattle.sci_station.proofs.StillEnds.{same_itself, same_then}
 use Rattle.sci_threads.specs.Shares.{GoesOn, HaveGoneOn, IsOpened, IsWell}
 
 -- The log of the end's node is of the operations that stand under its number, and whole if it has finished. If they were

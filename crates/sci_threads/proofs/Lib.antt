@@ -1,2 +1,2 @@
-pub mod Sharing
+pub mod RunStations
 pub mod Going

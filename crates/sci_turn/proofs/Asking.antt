@@ -8,7 +8,7 @@ use Rattle.sci_policy.specs.declared.{progress.Progress.{Progress}, want.Want.Th
 use Rattle.sci_policy.specs.{Policy.{PolicyOf, next_policy, next_wanted}, Turn.{is_ask}}
 use Rattle.sci_turn.specs.{Posts.{PostOf, node_in}, Moves.{HasMoved, IsAsked, IsOwn, own_of}, Idle.{IsHeldUp}}
 use Rattle.sci_turn.specs.Far.{HasAskedAll}
-use Rattle.sci_turn.proofs.Turns.{moved_more, moved_still}
+use Rattle.sci_turn.proofs.LongerTurns.{moved_more, moved_still}
 use Rattle.sci_words.specs.declared.event.Event.TheVariants as event
 
 -- so many asks at least since some turn came so far

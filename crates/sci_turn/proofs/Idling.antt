@@ -15,7 +15,7 @@ use Rattle.sci_policy.specs.Lines.{state_on}
 use Rattle.sci_policy.specs.Policy.{IsEnabledWant, PolicyOf, decided, next_policy, next_wanted, ticked, turned}
 use Rattle.sci_policy.specs.Rest.{AwaitsOthers, Awaits, MayIdle, MayRest, NothingPending, NothingPends}
 use Rattle.sci_policy.specs.Turn.{decided_event}
-use Rattle.sci_policy.proofs.{Alone.{alone_rests, first_only}, Deciding.{keep_of, keeps_no_own}, Rests.{may_rest}}
+use Rattle.sci_policy.proofs.{Alone.{alone_rests, first_only}, Deciding.{keep_of, keeps_no_own}, AlwaysWants.{may_rest}}
 use Rattle.sci_policy.proofs.{Targets.{asked_target, waiting_target}, Wants.{wanted_enabled}}
 use Rattle.sci_turn.specs.Posts.{IsFull, IsPost, IsStill, OthersLead, PostOf, lane_to, node_in, nodes_in}
 use Rattle.sci_turn.specs.Moves.{taken_next, taking_event}

@@ -1,7 +1,7 @@
 pub mod Stills
-pub mod Turns
-pub mod Enabled
-pub mod Events
+pub mod LongerTurns
+pub mod AtPosts
+pub mod TurnEvents
 pub mod Moments
 pub mod Idling
 pub mod Working

@@ -1,6 +1,6 @@
-pub mod Answered
+pub mod UnreadInputs
 pub mod OneDecoding
-pub mod Runs
+pub mod PacketRuns
 pub mod Counts
 pub mod ReplayLogs
 pub mod DoneLogs

@@ -7,7 +7,7 @@ use Rattle.sci_packets.specs.{declared.{packet.Packet.{Packet}, fault.PacketFaul
 use Rattle.sci_packets.specs.Spelling.{IsPacket, Spells, NoneSpells, spelling}
 use Rattle.sci_command.specs.declared.outcome.Outcome.{Outcome}
 use Rattle.scimem.specs.Decoding.{PacketsThen, ArePackets, ArePacketsThenFault, IsDecoded, spellings, packet_lines, refusal, fault_word}
-use Rattle.scimem.proofs.Runs.{shorter}
+use Rattle.scimem.proofs.PacketRuns.{shorter}
 
 abbrev pub NoProperPrefix : Type 0
 NoProperPrefix = (p q : Packet) (bytes more : List ℕ) → Spells p bytes → Spells q (bytes ++ more) → more ≡ []

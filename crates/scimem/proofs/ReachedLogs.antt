@@ -6,7 +6,7 @@ use Rattle.sci_history.specs.{declared.entry.Entry.{Entry}, Placed.{is_of_node}}
 use Rattle.sci_history.proofs.Order.{all_weaker, all_both}
 use Rattle.sci_core.specs.{Size.{Size, IsMachineSize}, Core.{Core, node_at, run}, Done.{done}, InRange.{IsEntryOf}}
 use Rattle.sci_core.specs.{Outcome.{logs_of}, Reached.{IsReached}, Sharing.{last_at, last_of}}
-use Rattle.sci_core.proofs.History.Histories.{IsKnown}
+use Rattle.sci_core.proofs.History.ScheduleHistories.{IsKnown}
 use Rattle.sci_core.proofs.WellFormed.Ranges.{log_short, reached_contents, reached_entries}
 use Rattle.sci_core.proofs.WellFormed.WellFormedSteps.{is_size, reached_well}
 use Rattle.sci_core.proofs.ReachedLaws.{schedule_history, schedule_logged, schedule_log, log_at}

@@ -1,4 +1,4 @@
-pub mod Words
+pub mod WalkWords
 pub mod RunWords
 pub mod OutcomesWords
 pub mod StatsWords

@@ -6,7 +6,7 @@ use Rattle.sci_drive.specs.declared.driver.Issuing.{Issuing, TheVariants.{Ahead,
 use Rattle.sci_outcomes.specs.declared.trials.Turns.{Turns, TheVariants.{Drawn, Threads}}
 use Rattle.sci_run_reports.specs.declared.outcomes.{OutcomesRequest.{OutcomesRequest}, TheConstants.{MAX_RUNS}}
 use Rattle.sciview.specs.Choice.{ChoosesOutcomes, ChoosesTurnOrder, flag, is_in_order, turn_order_words}
-use Rattle.sciview.proofs.Words.{first}
+use Rattle.sciview.proofs.WalkWords.{first}
 
 abbrev third_letter : List ℕ → ℕ
 third_letter word = slice_index word 2

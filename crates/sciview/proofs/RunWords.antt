@@ -4,7 +4,7 @@ use Rattle.std.specs.Prelude.{codes, Bool, true, false, option_map}
 use Rattle.sci_drive.specs.declared.driver.Issuing.{Issuing, TheVariants.{Ahead, InOrder}}
 use Rattle.sci_run_reports.specs.declared.running.RunRequest.{RunRequest}
 use Rattle.sciview.specs.Choice.{ChoosesPace, ChoosesRun, FitsTurns, flag, is_in_order, turns_words}
-use Rattle.sciview.proofs.Words.{first}
+use Rattle.sciview.proofs.WalkWords.{first}
 
 -- ---- turns alone
 

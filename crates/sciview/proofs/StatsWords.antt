@@ -6,7 +6,7 @@ use Rattle.sci_words.specs.declared.limits.TheConstants.{MAX_LINES}
 use Rattle.sci_text.specs.Number.{number}
 use Rattle.sci_statistics.specs.declared.counting.StatsRequest.{StatsRequest}
 use Rattle.sciview.specs.Choice.{ChoosesStats, FitsNode, line_words, node_words}
-use Rattle.sciview.proofs.Words.{first}
+use Rattle.sciview.proofs.WalkWords.{first}
 
 -- ---- a line and a node
 

@@ -13,7 +13,7 @@ use Rattle.sci_core.specs.Sharing.{packets_of, answer_in, answer_to, sharer_of, 
 use Rattle.sci_core.specs.Work.{IsIssued, IsLogged}
 use Rattle.sci_core.proofs.{Step.{NodeSides.{perform_as}, Nodes.{some_below}}, Basics.Options.{of_some}}
 use Rattle.sci_core.proofs.WellFormed.{Ranges.{reached_contents}, WellFormedSteps.{reached_well}}
-use Rattle.sci_core.proofs.{ReachedLaws.{reached_shapes}, Tidy.{TidyRuns.{reached_tidy}, Waits.{idle_has_none}}}
+use Rattle.sci_core.proofs.{ReachedLaws.{reached_shapes}, Tidy.{TidyRuns.{reached_tidy}, RowWaits.{idle_has_none}}}
 
 -- ---- Issue
 

@@ -13,8 +13,8 @@ use Rattle.sci_core.specs.Core.{Core, node_at, with_node, lane_at, with_lane}
 use Rattle.sci_core.specs.{Sharing.{packets_of, answer_in, home_at, answer_to as told}, Tidy.{IsSentIn, IsTidy}}
 use Rattle.sci_core.specs.WellFormed.{IsPart}
 use Rattle.sci_core.proofs.{Basics.Lists.{at_place_set}, Step.Nodes.{home_below}}
-use Rattle.sci_core.proofs.Tidy.Packets.{packets_same, packets_served, filter_left, filter_one, lane_has}
-use Rattle.sci_core.proofs.Tidy.Waits.{idle_has_none, some_has_one}
+use Rattle.sci_core.proofs.Tidy.PacketMoves.{packets_same, packets_served, filter_left, filter_one, lane_has}
+use Rattle.sci_core.proofs.Tidy.RowWaits.{idle_has_none, some_has_one}
 use Rattle.sci_core.proofs.Tidy.TidySteps.{about_from, about_line, about_asker, request_asker, about_answer}
 use Rattle.sci_core.proofs.Shape.{Views.{Shift, View}, Standings.{busy_alike}, Led.{AlikeIn, alike_moved, alike_same}}
 use Rattle.sci_core.proofs.Shape.Shapes.{Asks, Shaped, home_shaped}

@@ -11,8 +11,8 @@ use Rattle.sci_core.specs.Node.{NodeOf, lines_of, home_of, no_node}
 use Rattle.sci_core.specs.Core.{Core, node_at, with_node, lane_at, with_lane}
 use Rattle.sci_core.specs.{Sharing.{is_about, packets_of, answer_in, home_at, answer_to as told}, Tidy.{IsTidy}}
 use Rattle.sci_core.proofs.Basics.Lists.{at_place_set}
-use Rattle.sci_core.proofs.Tidy.Packets.{packets_changed, packets_same, packets_asked, packets_replied, packets_accepted, filter_joined, filter_left}
-use Rattle.sci_core.proofs.Tidy.{Packets.{filter_one, lane_has, node_has}, Waits.{idle_has_none, some_has_one}}
+use Rattle.sci_core.proofs.Tidy.PacketMoves.{packets_changed, packets_same, packets_asked, packets_replied, packets_accepted, filter_joined, filter_left}
+use Rattle.sci_core.proofs.Tidy.{PacketMoves.{filter_one, lane_has, node_has}, RowWaits.{idle_has_none, some_has_one}}
 use Rattle.sci_core.proofs.Tidy.WaitingNodes.{AsksOnce, Replies, Accepts}
 use Rattle.sci_core.proofs.Tidy.TidySteps.{about_from, about_line, about_asker, request_asker, answer_asker, same_line}
 use Rattle.sci_core.proofs.Shape.{Views.{View}, Standings.{Alike, alike_itself, Performs}}

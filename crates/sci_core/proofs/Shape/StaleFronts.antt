@@ -21,7 +21,7 @@ use Rattle.sci_core.proofs.Shape.ShapeSteps.{SameLine, homes_same, view_of}
 use Rattle.sci_core.proofs.Shape.{Standings.{Leaves, Makes, Performs, Reads, performing_does}, Views.{Shift, View}}
 use Rattle.sci_core.proofs.Step.NodeSides.{At_home, In_cache, PerformedAs, ServedAs}
 use Rattle.sci_core.proofs.{Step.Steps.{Stepped, Taken, stepping_stepped}, Basics.Options.{of_some}}
-use Rattle.sci_core.proofs.Tidy.{Packets.{packets_changed}, TidyRuns.{opening_tidy, step_tidy}}
+use Rattle.sci_core.proofs.Tidy.{PacketMoves.{packets_changed}, TidyRuns.{opening_tidy, step_tidy}}
 use Rattle.sci_core.proofs.{Tidy.WaitingNodes.{Answers, serve_answers}, WellFormed.WellFormedSteps.{opened, step_well}}
 use Rattle.sci_packets.specs.declared.body.Body.TheVariants as body
 use Rattle.sci_home.specs.declared.state.HomeState.TheVariants as at

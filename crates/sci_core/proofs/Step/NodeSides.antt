@@ -12,7 +12,7 @@ use Rattle.sci_cache.specs.Line.{LineState, untouched, line_in, line_asked, ask_
 use Rattle.sci_cache.specs.Cache.{CacheOf, Letter, line_of, with_line, cache_asked}
 use Rattle.sci_core.proofs.Basics.{Options.{of_some}, Lists.{if_either, at_place_set, if_cases}}
 use Rattle.sci_core.proofs.Shape.Standings.{Alike, alike_itself}
-use Rattle.sci_core.proofs.Tidy.Waits.{BeginsToWait, EndsToWait, asking_waits, accepting_waits}
+use Rattle.sci_core.proofs.Tidy.RowWaits.{BeginsToWait, EndsToWait, asking_waits, accepting_waits}
 use Rattle.sci_core.specs.declared.pending.Pending.{Pending}
 use Rattle.sci_core.specs.Node.{NodeOf, lines_of, home_place, home_of, pending_on, entry_of, node_logged, node_issuing, performed_by, performing_pending}
 use Rattle.sci_core.specs.Node.{node_performing, asked_by, node_asking, with_answer, served_at_home, served_in_cache, serving_at_home, serving_in_cache}

@@ -7,9 +7,9 @@ use Rattle.sci_home.specs.{declared.state.HomeState.{HomeState}, Serving.{is_for
 use Rattle.sci_cache.specs.{State.{CacheState, waits}, Serving.{serving}, Accepting.{accepting}}
 use Rattle.sci_cache.specs.{Line.{last_control, line_in}, Cache.{Letter, line_of, with_line}}
 use Rattle.sci_core.proofs.{Basics.{Lists.{if_cases}, Options.{map_some}}, Step.Applied.{front_holds, front_comes}}
-use Rattle.sci_core.proofs.{Step.{Places.{place_from}, Steps.{lane_below}}, Tidy.Packets.{lane_has, packets_accepted}}
+use Rattle.sci_core.proofs.{Step.{Places.{place_from}, Steps.{lane_below}}, Tidy.PacketMoves.{lane_has, packets_accepted}}
 use Rattle.sci_core.proofs.Tidy.{TidyRuns.{any_tidy, node_below}, TidySteps.{about_from, request_asker, answer_asker}}
-use Rattle.sci_core.proofs.{Tidy.Waits.{some_has_one}, ReachedLaws.{any_accepted}}
+use Rattle.sci_core.proofs.{Tidy.RowWaits.{some_has_one}, ReachedLaws.{any_accepted}}
 use Rattle.sci_core.proofs.WellFormed.WellFormedSteps.{any_well, reachable}
 use Rattle.sci_core.specs.declared.lane.LaneKind.{LaneKind, TheVariants.{Requests, Answers}}
 use Rattle.sci_core.specs.Node.{NodeOf, node_serving, node_refusing, is_setback, accepted_by}

@@ -11,9 +11,9 @@ use Rattle.sci_core.specs.Core.{Core, node_at, with_node, lane_at, with_lane}
 use Rattle.sci_core.specs.{Sharing.{asker_of, is_about, packets_of}, Tidy.{IsAwaited, HasItsPackets, IsTidy}}
 use Rattle.sci_core.specs.WellFormed.{IsWellFormed}
 use Rattle.sci_core.proofs.Basics.Lists.{at_place_set}
-use Rattle.sci_core.proofs.Tidy.Packets.{packets_changed, packets_same, packets_asked, packets_replied, packets_served, packets_accepted, filter_joined}
-use Rattle.sci_core.proofs.Tidy.Packets.{filter_left, filter_one, lane_has, node_has}
-use Rattle.sci_core.proofs.Tidy.Waits.{Keeps, keeps_itself, keeps_packets, idle_has_none, some_has_one}
+use Rattle.sci_core.proofs.Tidy.PacketMoves.{packets_changed, packets_same, packets_asked, packets_replied, packets_served, packets_accepted, filter_joined}
+use Rattle.sci_core.proofs.Tidy.PacketMoves.{filter_left, filter_one, lane_has, node_has}
+use Rattle.sci_core.proofs.Tidy.RowWaits.{Keeps, keeps_itself, keeps_packets, idle_has_none, some_has_one}
 use Rattle.sci_core.proofs.Tidy.WaitingNodes.{KeepsLines, Stays, AsksOnce, Answers, Replies, Accepts}
 
 -- what a tidy state says of one node and one line

@@ -3,9 +3,9 @@ use Rattle.std.proofs.Common.{◌≡◌, ℕ, ◌%◌, ◌<◌, Bool, true, fals
 use Rattle.std.proofs.{Common.{subst, ◌∙◌, inl, inr, arith}, lemmas.{Bool.{cases_Bool}, List.Elements.{All-head}}}
 use Rattle.std.specs.{Prelude.{IfSome, unwrap_or, option_to_list, option_map, slice_get}, List.{All}}
 use Rattle.sci_core.proofs.Basics.Options.{if_below}
-use Rattle.sci_core.proofs.Tidy.Packets.{packets_changed, packets_same, packets_asked, packets_replied, packets_served, packets_accepted, filter_joined}
-use Rattle.sci_core.proofs.Tidy.Packets.{filter_left, filter_one, lane_has, node_has}
-use Rattle.sci_core.proofs.Tidy.Waits.{idle_has_none, some_has_one}
+use Rattle.sci_core.proofs.Tidy.PacketMoves.{packets_changed, packets_same, packets_asked, packets_replied, packets_served, packets_accepted, filter_joined}
+use Rattle.sci_core.proofs.Tidy.PacketMoves.{filter_left, filter_one, lane_has, node_has}
+use Rattle.sci_core.proofs.Tidy.RowWaits.{idle_has_none, some_has_one}
 use Rattle.sci_core.proofs.Tidy.WaitingNodes.{Stays, AsksOnce, Answers, Replies, Accepts, issue_stays, perform_stays, ask_once, serve_answers}
 use Rattle.sci_core.proofs.Tidy.WaitingNodes.{refuse_answers, reply_replies, accept_accepts}
 use Rattle.sci_core.proofs.Tidy.TidySteps.{about_line, about_asker, request_asker, about_answer}

@@ -13,7 +13,7 @@ use Rattle.sci_core.specs.Node.{NodeOf, lines_of, node_issuing, node_performing,
 use Rattle.sci_core.specs.Node.{node_serving, node_refusing, replied_by, node_replying, node_accepting}
 use Rattle.sci_core.specs.Tidy.{IsAwaited}
 use Rattle.sci_core.proofs.Basics.{Lists.{if_either, at_place_set}, Options.{if_below, of_some}}
-use Rattle.sci_core.proofs.Tidy.Waits.{BeginsToWait, asking_waits, Keeps, keeps_itself, KeepsWait, serving_waits, performing_waits, asked_number}
+use Rattle.sci_core.proofs.Tidy.RowWaits.{BeginsToWait, asking_waits, Keeps, keeps_itself, KeepsWait, serving_waits, performing_waits, asked_number}
 use Rattle.sci_core.proofs.Step.NodeSides.{ServedAs, At_home, In_cache, perform_as, request_served, accept_as}
 
 -- every line of the node is awaited as it was

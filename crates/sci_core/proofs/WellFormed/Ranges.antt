@@ -20,7 +20,7 @@ use Rattle.sci_history.proofs.Order.{filter_yes, filter_no, all_weaker, all_both
 use Rattle.sci_core.specs.{Size.{Size}, Core.{Core, node_at}, Done.{done}}
 use Rattle.sci_core.specs.{InRange.{IsLine, IsStamped, IsReply, IsEntryOf}, Outcome.{logs_of}}
 use Rattle.sci_core.specs.{Reached.{IsReachable, IsReached}, Sharing.{last_at}, WellFormed.{IsWellFormed}}
-use Rattle.sci_core.proofs.{History.Histories.{IsKnown}, Basics.{Lists.{if_either}, Logs.{short_log}}}
+use Rattle.sci_core.proofs.{History.ScheduleHistories.{IsKnown}, Basics.{Lists.{if_either}, Logs.{short_log}}}
 use Rattle.sci_core.proofs.ReachedLaws.{any_lawful, reached_logged, last_within, reached_log, reached_history}
 use Rattle.sci_core.proofs.WellFormed.WellFormedSteps.{reachable, reached_well}
 

@@ -1,5 +1,5 @@
 use Rattle.std.proofs.Common.{refl, arith}
-use Rattle.sci_c_values.proofs.Packets.{says_out, second_again}
+use Rattle.sci_c_values.proofs.PacketWords.{says_out, second_again}
 use Rattle.sci_c_values.proofs.packet.packet_out.Goals as goal
 
 pub overflow_cast-result : goal.overflow_cast-result

@@ -4,7 +4,7 @@ use Rattle.sci_words.specs.declared.operation.Op.{Op}
 use Rattle.sci_drive.specs.{Calls.{AreCalls, EndWithAllDone, times_done}, Driving.{DriverOf, IsInOrder, opening_driver}}
 use Rattle.sci_drive.specs.{Resting.{RestsInTime}, Rounds.{GoRounds}, Script.{IsFrontOf, IsLogOf, IsWholeLogOf}}
 use Rattle.sci_drive.specs.declared.driver.Issuing.{Issuing}
-use Rattle.sci_drive.proofs.{Calls.{calls_of, told_once}, Drives.{log_of, whole_of}}
+use Rattle.sci_drive.proofs.{GateCalls.{calls_of, told_once}, Drives.{log_of, whole_of}}
 use Rattle.sci_drive.proofs.running.drive_issuing.Goals as goal
 
 pub returns-clause-named : goal.returns-clause-named

@@ -1,5 +1,5 @@
 use Rattle.std.proofs.Common.{refl}
-use Rattle.sci_lanes.proofs.Places.{one_more}
+use Rattle.sci_lanes.proofs.CellPlaces.{one_more}
 use Rattle.sci_lanes.proofs.cell.first_places.Goals as goal
 
 pub loop-inbox-preserved : goal.loop-inbox-preserved

@@ -1,4 +1,4 @@
-use Rattle.sci_lanes.proofs.Places.{AreFirst}
+use Rattle.sci_lanes.proofs.CellPlaces.{AreFirst}
 use Rattle.sci_lanes.proofs.cell.first_places.Given as goal
 
 abbrev pub invariant-loop-inbox : goal.invariant-loop-inbox

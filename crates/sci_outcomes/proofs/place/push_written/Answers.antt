@@ -1,5 +1,5 @@
 use Rattle.std.proofs.Common.{sym, ◌∙◌, ap}
-use Rattle.sci_outcomes.proofs.Places.{written_more, written_same}
+use Rattle.sci_outcomes.proofs.WrittenWords.{written_more, written_same}
 use Rattle.sci_outcomes.proofs.place.push_written.Goals.{then-is_written+in_ok-push, else-is_written}
 use Rattle.sci_outcomes.proofs.place.push_written.Goals as goal
 

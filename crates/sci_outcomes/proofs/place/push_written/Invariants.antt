@@ -1,5 +1,5 @@
 use Rattle.std.proofs.Common.{◌≡◌, ◌++◌}
-use Rattle.sci_outcomes.proofs.Places.{first_written}
+use Rattle.sci_outcomes.proofs.WrittenWords.{first_written}
 use Rattle.sci_outcomes.proofs.place.push_written.Given as goal
 
 -- the words so far

@@ -1,5 +1,5 @@
 use Rattle.std.proofs.Common.{arith}
-use Rattle.sci_outcomes.proofs.Places.{places_more, places_within}
+use Rattle.sci_outcomes.proofs.WrittenWords.{places_more, places_within}
 use Rattle.sci_outcomes.proofs.place.written_places.Goals as goal
 
 pub loop-line-preserved : goal.loop-line-preserved

@@ -2,7 +2,7 @@ use Rattle.std.proofs.{Common.{◌≡◌, ◌&&◌, ℕ, Bool, Some, None, true,
 use Rattle.sci_cache.specs.Kinds.{is_of}
 use Rattle.sci_core.specs.Node.{lines_of}
 use Rattle.sci_policy.specs.Lines.{state_on}
-use Rattle.sci_policy.proofs.Ranges.{found_at}
+use Rattle.sci_policy.proofs.LeastAmong.{found_at}
 use Rattle.sci_policy.proofs.lines.least_with.Goals as goal
 
 pub returns-then-test : goal.returns-then-test

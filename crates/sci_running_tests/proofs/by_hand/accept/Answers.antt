@@ -1,4 +1,4 @@
-use Rattle.sci_station.proofs.Events.{may_accept}
+use Rattle.sci_station.proofs.StationEvents.{may_accept}
 use Rattle.sci_running_tests.proofs.by_hand.accept.Goals as goal
 
 pub free-requires-clause-may : goal.free-requires-clause-may

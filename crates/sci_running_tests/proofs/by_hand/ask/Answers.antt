@@ -1,7 +1,7 @@
 use Rattle.std.proofs.Common.{ap, sym, ◌∙◌}
 use Rattle.sci_cache.specs.Cache.{letter_of}
 use Rattle.sci_core.specs.{declared.lane.LaneKind.TheVariants.{Requests}, Core.{sends}, Node.{NodeOf, node_asking}}
-use Rattle.sci_station.proofs.Events.{ask_target}
+use Rattle.sci_station.proofs.StationEvents.{ask_target}
 use Rattle.sci_running_tests.proofs.by_hand.ask.Goals as goal
 
 pub send-requires-clause-target : goal.send-requires-clause-target

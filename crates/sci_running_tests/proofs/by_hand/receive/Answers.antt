@@ -1,4 +1,4 @@
-use Rattle.sci_station.proofs.Stills.{still_then}
+use Rattle.sci_station.proofs.StillEnds.{still_then}
 use Rattle.sci_running_tests.proofs.by_hand.receive.Goals as goal
 
 pub see-requires : goal.see-requires

@@ -2,7 +2,7 @@ use Rattle.std.proofs.Common.{None, sym, ap, ◌∙◌}
 use Rattle.sci_cache.specs.Cache.{letter_of}
 use Rattle.sci_core.specs.{declared.lane.LaneKind.TheVariants.{Answers}, Core.{sends}, Node.{NodeOf}}
 use Rattle.sci_core.proofs.Step.Applied.{waits_replying}
-use Rattle.sci_station.proofs.Events.{reply_target}
+use Rattle.sci_station.proofs.StationEvents.{reply_target}
 use Rattle.sci_running_tests.proofs.by_hand.reply.Goals as goal
 
 pub send-requires-clause-target : goal.send-requires-clause-target

@@ -3,7 +3,7 @@ use Rattle.std.specs.Prelude.{option_copied, option_map}
 use Rattle.sci_cache.specs.Cache.{letter_of}
 use Rattle.sci_core.specs.Node.{NodeOf}
 use Rattle.sci_policy.proofs.Deciding.{none_seen}
-use Rattle.sci_station.proofs.Events.{may_serve}
+use Rattle.sci_station.proofs.StationEvents.{may_serve}
 use Rattle.sci_running_tests.proofs.by_hand.serve.Goals as goal
 
 pub free-requires-clause-may : goal.free-requires-clause-may

@@ -2,7 +2,7 @@ use Rattle.std.proofs.Common.{◌∙◌, subst}
 use Rattle.sci_text.specs.Script.{ScriptValue}
 use Rattle.sci_drive.specs.declared.driver.Issuing.{Issuing}
 use Rattle.sci_runs.specs.Runs.{IsRunOf}
-use Rattle.sci_runs.proofs.Finished.{run_if}
+use Rattle.sci_runs.proofs.RunEnds.{run_if}
 use Rattle.sci_runs.proofs.running.run_script.Goals as goal
 
 pub returns-clause-run : goal.returns-clause-run

@@ -1,7 +1,7 @@
 use Rattle.std.proofs.{Common.{ℕ, length, ap, subst, ◌∙◌, arith}, lemmas.List.{length-set, length-take-le, take-set-le}}
 use Rattle.sci_lanes.specs.{declared.view.Inbound.{Inbound}, Shown.{inbound_at}, Ends.{EndOf, lane_at_cell}}
 use Rattle.sci_station.proofs.{Budgets.{no_more_less, no_more_then}, Cells.{read_found}, Spelled.{found_more}}
-use Rattle.sci_station.proofs.Stills.{known_others, lane_still, others_then, read_still, still_place, still_takes, still_then}
+use Rattle.sci_station.proofs.StillEnds.{known_others, lane_still, others_then, read_still, still_place, still_takes, still_then}
 use Rattle.sci_station.specs.Ends.{LeavesOthers}
 use Rattle.sci_station.proofs.receiving.read.Goals as goal
 

@@ -4,7 +4,7 @@ use Rattle.sci_packets.specs.{Spelling.{CountsWords, SpellsInWords}, declared.pa
 use Rattle.sci_lanes.specs.{Ends.{IsNextToTake, lane_at_cell}, Shown.{inbound_at}, Telling.{IsFront, IsShown}}
 use Rattle.sci_lanes.specs.declared.{cell.CellId.{CellId}, view.Part.{Part}}
 use Rattle.sci_station.proofs.{Cells.{front_found}, Spelled.{front_spelled, never_refused, only_that}}
-use Rattle.sci_station.proofs.{Stills.{still_takes}, receiving.read_packet.Goals.{After-from_words}}
+use Rattle.sci_station.proofs.{StillEnds.{still_takes}, receiving.read_packet.Goals.{After-from_words}}
 use Rattle.sci_station.proofs.receiving.read_packet.Goals as goal
 
 some_few : {count : ℕ} → (count ≡ 2) ⊎ (count ≡ 11) → (1 ≤ count) × (count ≤ 11)

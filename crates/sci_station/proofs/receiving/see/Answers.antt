@@ -3,7 +3,7 @@ use Rattle.sci_core.specs.{Node.{NodeOf}, declared.lane.LaneKind.{LaneKind}, Cor
 use Rattle.sci_lanes.specs.{declared.cell.CellId.{CellId}, Ends.{EndOf, LooksFor, lane_at_cell, nodes_in}}
 use Rattle.sci_lanes.specs.Shown.{me_of}
 use Rattle.sci_station.specs.Ends.{HasSeen, LeavesOthers}
-use Rattle.sci_station.proofs.{Cells.{looked_found}, Stills.{known_others, look_still, next_same, still_takes}}
+use Rattle.sci_station.proofs.{Cells.{looked_found}, StillEnds.{known_others, look_still, next_same, still_takes}}
 use Rattle.sci_station.proofs.receiving.see.Goals as goal
 
 pub returns-then-first-eq0-clause-none : goal.returns-then-first-eq0-clause-none

@@ -2,7 +2,7 @@ use Rattle.std.proofs.Common.{◌≡◌, ◌<◌, ◌+◌, ◌-◌, ◌++◌, �
 use Rattle.std.proofs.lemmas.Grind.{common_steps}
 use Rattle.sci_station.specs.Ends.{LeavesOthers}
 use Rattle.sci_station.proofs.Budgets.{no_more_less, no_more_then}
-use Rattle.sci_station.proofs.Stills.{fill_still, known_others, lane_still, others_then, still_place, still_sends, still_then}
+use Rattle.sci_station.proofs.StillEnds.{fill_still, known_others, lane_still, others_then, still_place, still_sends, still_then}
 use Rattle.sci_station.proofs.Cells.{filled_there}
 use Rattle.sci_lanes.specs.{declared.view.Outbound.{Outbound}, Shown.{outbound_at}, Ends.{EndOf, lane_at_cell}}
 use Rattle.sci_station.proofs.sending.fill.Goals as goal

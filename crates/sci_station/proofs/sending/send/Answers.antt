@@ -4,8 +4,8 @@ use Rattle.sci_cache.specs.Cache.{letter_of}
 use Rattle.sci_core.specs.{declared.lane.LaneKind.{LaneKind}, Core.{Sends, lane_of, lane_place, side}, Node.{NodeOf}}
 use Rattle.sci_lanes.specs.{Ends.{EndOf, lane_at_cell, nodes_in}, Shown.{me_of}, Telling.{state_of}}
 use Rattle.sci_station.specs.Ends.{IsStill, LeavesOthers}
-use Rattle.sci_station.proofs.{Cells.{looked_vacant}, Events.{made_later}, Spelled.{whole_words}}
-use Rattle.sci_station.proofs.Stills.{known_others, lane_still, look_still, others_then, still_sends, still_then}
+use Rattle.sci_station.proofs.{Cells.{looked_vacant}, StationEvents.{made_later}, Spelled.{whole_words}}
+use Rattle.sci_station.proofs.StillEnds.{known_others, lane_still, look_still, others_then, still_sends, still_then}
 use Rattle.sci_station.proofs.sending.send.Goals.{After-look, After-fill}
 use Rattle.sci_station.proofs.sending.send.Goals as goal
 

@@ -1,5 +1,5 @@
 use Rattle.sci_statistics.specs.StatsAnswer.{line_part}
-use Rattle.sci_statistics.proofs.Parts.{parts_more}
+use Rattle.sci_statistics.proofs.FigureTexts.{parts_more}
 use Rattle.sci_statistics.proofs.counting.push_lines.Goals as goal
 
 pub loop-line-preserved : goal.loop-line-preserved

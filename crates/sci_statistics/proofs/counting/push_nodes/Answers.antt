@@ -1,5 +1,5 @@
 use Rattle.sci_statistics.specs.StatsAnswer.{node_part}
-use Rattle.sci_statistics.proofs.Parts.{parts_more}
+use Rattle.sci_statistics.proofs.FigureTexts.{parts_more}
 use Rattle.sci_statistics.proofs.counting.push_nodes.Goals as goal
 
 pub loop-node-preserved : goal.loop-node-preserved

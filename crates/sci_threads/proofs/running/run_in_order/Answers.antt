@@ -1,7 +1,7 @@
 use Rattle.std.proofs.Common.{refl, sym, subst}
 use Rattle.sci_history.specs.Sequential.{AreInProgramOrder}
 use Rattle.sci_threads.specs.Shares.{HaveFrontLogsOf, HaveLogsOf, HaveWholeLogsOf}
-use Rattle.sci_threads.proofs.Sharing.{led_by}
+use Rattle.sci_threads.proofs.RunStations.{led_by}
 use Rattle.sci_threads.proofs.running.run_in_order.Goals as goal
 
 pub returns-clause-named : goal.returns-clause-named

@@ -1,6 +1,6 @@
 use Rattle.std.proofs.Common.{sym, subst}
 use Rattle.sci_threads.specs.Shares.{HaveLogsOf, HaveWholeLogsOf}
-use Rattle.sci_threads.proofs.Sharing.{led_by}
+use Rattle.sci_threads.proofs.RunStations.{led_by}
 use Rattle.sci_threads.proofs.running.run_nodes.Goals as goal
 
 pub returns-clause-named : goal.returns-clause-named

@@ -7,8 +7,8 @@ use Rattle.sci_lanes.specs.{Ends.{EndOf}, Shown.{me_of}, Gathering.{AreAll, AreO
 use Rattle.sci_drive.specs.{Driving.{HasSubmittedNothing}, Script.{IsFrontOf, IsLogOf, IsWholeLogOf}}
 use Rattle.sci_station.specs.{Ends.{IsSameEnd}, Station.{StationOf, end_in, node_in}}
 use Rattle.sci_lanes.proofs.Gathered.{node_log}
-use Rattle.sci_threads.proofs.Sharing.{came_back, each_end, each_log, in_order, opened_long, opened_known, opened_all_fresh, sized_for, whole_if}
-use Rattle.sci_threads.proofs.{Sharing.{written_back}, Going.{HasRun, all_run}}
+use Rattle.sci_threads.proofs.RunStations.{came_back, each_end, each_log, in_order, opened_long, opened_known, opened_all_fresh, sized_for, whole_if}
+use Rattle.sci_threads.proofs.{RunStations.{written_back}, Going.{HasRun, all_run}}
 use Rattle.sci_threads.proofs.running.run_to_machine.Goals.{In-Ok, In_ok-stations}
 use Rattle.sci_threads.specs.{declared.share.Share.{Share}, Shares.{HaveGoneOn, IsWell, operations_of, own_of}}
 use Rattle.sci_threads.proofs.running.run_to_machine.Goals as goal

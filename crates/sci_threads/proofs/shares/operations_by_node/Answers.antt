@@ -2,7 +2,7 @@ use Rattle.std.proofs.Common.{◌≡◌, ◌≤◌, ◌<◌, ℕ, List, length, 
 use Rattle.std.proofs.lemmas.List.{take_all}
 use Rattle.sci_words.specs.declared.{limits.TheConstants.{MAX_OPERATIONS}, operation.Op.{Op}}
 use Rattle.sci_threads.specs.Shares.{operations_of}
-use Rattle.sci_threads.proofs.Sharing.{few_own}
+use Rattle.sci_threads.proofs.RunStations.{few_own}
 use Rattle.sci_threads.proofs.shares.operations_by_node.Goals as goal
 
 -- src/shares.rt:99:1

@@ -1,7 +1,7 @@
 use Rattle.std.proofs.Common.{◌≡◌, refl, []}
 use Rattle.sci_core.specs.declared.lane.LaneKind.TheVariants.{Answers}
 use Rattle.sci_turn.specs.Posts.{PostOf, lane_to}
-use Rattle.sci_turn.proofs.{Moments.{node_stays, so_after, so_now}, Turns.{goes_still, goes_then}}
+use Rattle.sci_turn.proofs.{Moments.{node_stays, so_after, so_now}, LongerTurns.{goes_still, goes_then}}
 use Rattle.sci_turn.proofs.turn.accept.Goals as goal
 
 pub returns-in_err-look-clause-goes : goal.returns-in_err-look-clause-goes

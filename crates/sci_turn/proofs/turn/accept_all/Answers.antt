@@ -2,7 +2,7 @@ use Rattle.std.proofs.{Common.{rules, ◌≡◌, ◌<◌, ℕ, refl, sym, subst,
 use Rattle.sci_core.specs.{declared.lane.LaneKind.TheVariants.{Answers}, Size.{Size}}
 use Rattle.sci_policy.specs.Policy.{opening_policy}
 use Rattle.sci_turn.specs.{Posts.{IsSamePost, PostOf, lane_to, nodes_in}, Idle.{WasEmpty}}
-use Rattle.sci_turn.proofs.{Moments.{node_stays, so_after, so_now, so_still}, Turns.{goes_then}}
+use Rattle.sci_turn.proofs.{Moments.{node_stays, so_after, so_now, so_still}, LongerTurns.{goes_then}}
 use Rattle.sci_turn.proofs.turn.accept_all.Goals as goal
 
 -- a node that is there before is one of so many

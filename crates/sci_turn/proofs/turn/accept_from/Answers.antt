@@ -2,7 +2,7 @@ use Rattle.std.proofs.Common.{rules, ◌≡◌, []}
 use Rattle.sci_core.specs.declared.lane.LaneKind.TheVariants.{Answers}
 use Rattle.sci_policy.specs.Policy.{opening_policy}
 use Rattle.sci_turn.specs.Posts.{PostOf, lane_to}
-use Rattle.sci_turn.proofs.{Moments.{node_stays, so_after}, Turns.{goes_then}}
+use Rattle.sci_turn.proofs.{Moments.{node_stays, so_after}, LongerTurns.{goes_then}}
 use Rattle.sci_turn.proofs.turn.accept_from.Goals as goal
 
 pub accept-requires : goal.accept-requires

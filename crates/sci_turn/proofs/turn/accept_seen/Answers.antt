@@ -2,7 +2,7 @@ use Rattle.std.proofs.Common.{refl, sym, subst}
 use Rattle.sci_cache.specs.Cache.{letter_of}
 use Rattle.sci_core.specs.declared.lane.LaneKind.TheVariants.{Answers}
 use Rattle.sci_turn.specs.Posts.{MayTake}
-use Rattle.sci_turn.proofs.{Enabled.{may_accept}, Events.{goes_accepted}, Turns.{goes_still}}
+use Rattle.sci_turn.proofs.{AtPosts.{may_accept}, TurnEvents.{goes_accepted}, LongerTurns.{goes_still}}
 use Rattle.sci_words.specs.declared.event.Event.TheVariants as event
 use Rattle.sci_turn.proofs.turn.accept_seen.Goals as goal
 

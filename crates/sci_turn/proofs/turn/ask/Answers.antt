@@ -2,7 +2,7 @@ use Rattle.std.proofs.Common.{ap, sym, subst, ◌∙◌}
 use Rattle.sci_cache.specs.Cache.{letter_of}
 use Rattle.sci_core.specs.{declared.lane.LaneKind.TheVariants.{Requests}, Node.{NodeOf, node_asking}}
 use Rattle.sci_turn.specs.Posts.{MaySend}
-use Rattle.sci_turn.proofs.Enabled.{may_ask}
+use Rattle.sci_turn.proofs.AtPosts.{may_ask}
 use Rattle.sci_words.specs.declared.event.Event.TheVariants as event
 use Rattle.sci_turn.proofs.turn.ask.Goals as goal
 

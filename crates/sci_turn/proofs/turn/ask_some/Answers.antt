@@ -5,8 +5,8 @@ use Rattle.sci_policy.specs.declared.want.Want.{Want, TheVariants.{Ask}}
 use Rattle.sci_policy.specs.{Policy.{IsEnabledWant, PolicyOf, next_policy, next_wanted}, Turn.{MadeNothing}}
 use Rattle.sci_policy.proofs.Telling.{tells_something}
 use Rattle.sci_turn.specs.{Posts.{PostOf, node_in}, Idle.{IsHeldUp}}
-use Rattle.sci_turn.proofs.{Asking.{asks_ended, asks_more, asks_no_more}, Events.{goes_asked}, Stills.{still_then}}
-use Rattle.sci_turn.proofs.Turns.{ends_asked, ends_ready, goes_still, goes_then}
+use Rattle.sci_turn.proofs.{Asking.{asks_ended, asks_more, asks_no_more}, TurnEvents.{goes_asked}, Stills.{still_then}}
+use Rattle.sci_turn.proofs.LongerTurns.{ends_asked, ends_ready, goes_still, goes_then}
 use Rattle.sci_words.specs.declared.event.Event.TheVariants as event
 use Rattle.sci_turn.proofs.turn.ask_some.Goals as goal
 

@@ -2,7 +2,7 @@ use Rattle.std.proofs.Common.{◌≡◌, Some, refl, ap, sym, subst, ◌∙◌}
 use Rattle.sci_cache.specs.Cache.{letter_of}
 use Rattle.sci_core.specs.{declared.lane.LaneKind.TheVariants.{Answers}, Node.{NodeOf}}
 use Rattle.sci_turn.specs.Posts.{MaySend, node_in}
-use Rattle.sci_turn.proofs.{Enabled.{may_reply}, Events.{goes_replied}, Turns.{goes_still}}
+use Rattle.sci_turn.proofs.{AtPosts.{may_reply}, TurnEvents.{goes_replied}, LongerTurns.{goes_still}}
 use Rattle.sci_words.specs.declared.event.Event.TheVariants as event
 use Rattle.sci_turn.proofs.turn.reply.Goals as goal
 

@@ -1,6 +1,6 @@
 use Rattle.std.proofs.Common.{◌≡◌, Bool, false, None, refl}
 use Rattle.sci_turn.specs.{Posts.{PostOf}, Moves.{taken_next}, Idle.{TookNone}}
-use Rattle.sci_turn.proofs.{Moments.{if_ok_map, none_came, so_after, so_now}, Turns.{goes_still, goes_then}}
+use Rattle.sci_turn.proofs.{Moments.{if_ok_map, none_came, so_after, so_now}, LongerTurns.{goes_still, goes_then}}
 use Rattle.sci_turn.proofs.turn.take.Goals as goal
 
 pub returns-in_err-look-clause-goes : goal.returns-in_err-look-clause-goes

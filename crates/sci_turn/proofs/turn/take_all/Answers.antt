@@ -3,7 +3,7 @@ use Rattle.std.proofs.{lemmas.Bool.{cases_lt}, Math.Nat.{mod-add-mod, mod-lt}}
 use Rattle.sci_policy.specs.Policy.{PolicyOf}
 use Rattle.sci_policy.proofs.Circles.{comes_by}
 use Rattle.sci_turn.specs.{Posts.{PostOf}, Moves.{taken_next}, Idle.{TookNone}}
-use Rattle.sci_turn.proofs.{Moments.{so_after, so_still}, Turns.{goes_then}}
+use Rattle.sci_turn.proofs.{Moments.{so_after, so_still}, LongerTurns.{goes_then}}
 use Rattle.sci_turn.proofs.turn.take_all.Goals as goal
 
 next_at : (nodes first place from next : ℕ) → next ≡ (from + 1) % nodes → from ≡ (first + place) % nodes → next ≡ (first + (place + 1)) % nodes

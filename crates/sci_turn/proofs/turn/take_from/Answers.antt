@@ -1,7 +1,7 @@
 use Rattle.std.proofs.Common.{rules, ◌≡◌, None, subst}
 use Rattle.sci_policy.specs.Policy.{PolicyOf}
 use Rattle.sci_turn.specs.{Posts.{PostOf}, Moves.{taken_next}, Idle.{TookNone}}
-use Rattle.sci_turn.proofs.{Moments.{node_stays, so_after}, Turns.{goes_then}}
+use Rattle.sci_turn.proofs.{Moments.{node_stays, so_after}, LongerTurns.{goes_then}}
 use Rattle.sci_turn.proofs.turn.take_from.Goals as goal
 
 pub take-requires : goal.take-requires

@@ -4,8 +4,8 @@ use Rattle.sci_core.specs.Node.{NodeOf}
 use Rattle.sci_policy.specs.{Policy.{decided}, Turn.{decided_event}}
 use Rattle.sci_policy.proofs.Telling.{tells_something}
 use Rattle.sci_turn.specs.{Posts.{PostOf, node_in}, Moves.{GoesOn, taken_next}}
-use Rattle.sci_turn.proofs.{Enabled.{may_take}, Events.{goes_taken, take_is_own}, Moments.{so_now, taken_event}}
-use Rattle.sci_turn.proofs.{Turns.{goes_still, goes_then}, turn.take_seen.Goals.{After-reply}}
+use Rattle.sci_turn.proofs.{AtPosts.{may_take}, TurnEvents.{goes_taken, take_is_own}, Moments.{so_now, taken_event}}
+use Rattle.sci_turn.proofs.{LongerTurns.{goes_still, goes_then}, turn.take_seen.Goals.{After-reply}}
 use Rattle.sci_turn.proofs.turn.take_seen.Goals as goal
 
 pub take-requires-clause-may : goal.take-requires-clause-may

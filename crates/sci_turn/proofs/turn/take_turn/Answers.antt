@@ -4,7 +4,7 @@ use Rattle.sci_policy.specs.{Turn.{Counts, MayPerform}, Worker.{HasSameWork, IsN
 use Rattle.sci_policy.proofs.Telling.{idle_tells}
 use Rattle.sci_turn.specs.{Posts.{IsPost, PostOf, node_in}, Moves.{GoesOn, HasEnded, HasMoved, IsTurn}}
 use Rattle.sci_turn.specs.Far.{HasAskedAll}
-use Rattle.sci_turn.proofs.{Idling.{idle_turn, may_idle}, Turns.{ends_there, goes_then, turn_begins}}
+use Rattle.sci_turn.proofs.{Idling.{idle_turn, may_idle}, LongerTurns.{ends_there, goes_then, turn_begins}}
 use Rattle.sci_turn.proofs.Working.{node_turn, post_after, turn_work}
 use Rattle.sci_turn.proofs.turn.take_turn.Goals.{After-reply, After-accept_all, After-take_all}
 use Rattle.sci_turn.proofs.turn.take_turn.Goals as goal

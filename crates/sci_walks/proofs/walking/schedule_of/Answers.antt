@@ -2,7 +2,7 @@
 use Rattle.std.proofs.Common.{arith, ◌<◌, ◌∙◌, length}
 use Rattle.sci_words.specs.declared.limits.TheConstants.{MAX_EVENTS}
 use Rattle.sci_text.specs.Schedule.{IsEventWithin}
-use Rattle.sci_walks.proofs.Walks.{memory_alone}
+use Rattle.sci_walks.proofs.RandomWalks.{memory_alone}
 use Rattle.sci_walks.proofs.walking.schedule_of.Goals as goal
 
 pub returns-in-Err-clause-kind : goal.returns-in-Err-clause-kind

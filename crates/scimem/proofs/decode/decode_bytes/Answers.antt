@@ -3,7 +3,7 @@ use Rattle.sci_text.specs.Tap.{tapped, has_failed}
 use Rattle.sci_command.specs.{declared.outcome.Outcome.TheVariants.{Refused}, Writing.{IsPrinted}}
 use Rattle.sci_command.proofs.Finished.{written_text}
 use Rattle.scimem.specs.Decoding.{IsAnswer}
-use Rattle.scimem.proofs.Answered.{refused}
+use Rattle.scimem.proofs.UnreadInputs.{refused}
 use Rattle.scimem.proofs.decode.decode_bytes.Goals as goal
 
 pub returns-in-Ok : goal.returns-in-Ok

@@ -2,7 +2,7 @@ use Rattle.std.proofs.Common.{◌≡◌, ◌<◌, ◌≤◌, ◌++◌, length, L
 use Rattle.sci_text.specs.Tap.{has_failed, tapped}
 use Rattle.sci_command.specs.{PacketLine.{packet_line}, Writing.{IsPrinted}}
 use Rattle.scimem.specs.Decoding.{ArePacketsThenFault, fault_word, refusal, spellings}
-use Rattle.scimem.proofs.Runs.{Reads, line_parts, place, reads_more, shorter, whole_rest, within}
+use Rattle.scimem.proofs.PacketRuns.{Reads, line_parts, place, reads_more, shorter, whole_rest, within}
 use Rattle.scimem.proofs.decode.print_packets.Goals as goal
 
 pub loop-rest-smaller : goal.loop-rest-smaller

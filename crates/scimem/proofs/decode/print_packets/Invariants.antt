@@ -1,7 +1,7 @@
 use Rattle.std.proofs.Common.{◌≡◌, List, ℕ, length}
 use Rattle.sci_text.specs.Tap.{has_failed, is_called_again, tapped}
 use Rattle.sci_command.specs.Writing.{IsPrinted}
-use Rattle.scimem.proofs.Runs.{Reads}
+use Rattle.scimem.proofs.PacketRuns.{Reads}
 use Rattle.scimem.proofs.decode.print_packets.Given as goal
 
 -- the packets that were read, whose lines are printed

@@ -3,7 +3,7 @@ use Rattle.std.proofs.Common.{◌≡◌, ℕ, true, sym, subst, ap, ◌∙◌}
 use Rattle.sci_text.specs.{Tap.{has_failed, tapped}, FirstFault.{IsTold}, Log.{log_text}, Script.{script_text}}
 use Rattle.sci_text.specs.ScriptFault.{IsScriptFault}
 use Rattle.sci_threads.specs.Shares.{HaveLogsOf, HaveWholeLogsOf}
-use Rattle.sci_threads.proofs.Sharing.{led_by}
+use Rattle.sci_threads.proofs.RunStations.{led_by}
 use Rattle.sci_command.proofs.Answers.{answer_made}
 use Rattle.scimem.specs.ThreadsAnswer.{IsThreadsOf}
 use Rattle.scimem.proofs.{ThreadLogs.{IsRunOf, threads_is}, threads.threads.Goals.{then-finished, else-finished}}

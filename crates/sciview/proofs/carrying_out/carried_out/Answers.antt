@@ -16,7 +16,7 @@ use Rattle.sci_statistics.specs.StatsAnswer.{IsStatsAnswer, IsStatsFault}
 use Rattle.sci_statistics.proofs.Counted.{stats_memory}
 use Rattle.sci_reports.proofs.Checked.{refused_whole}
 use Rattle.sci_run_reports.proofs.Ran.{run_memory}
-use Rattle.sci_walks.proofs.Walks.{walk_memory}
+use Rattle.sci_walks.proofs.RandomWalks.{walk_memory}
 use Rattle.sciview.proofs.carrying_out.carried_out.Goals as goal
 
 pub returns-in-Order : goal.returns-in-Order

@@ -1,4 +1,4 @@
-use Rattle.sciview.proofs.Words.{chart_said}
+use Rattle.sciview.proofs.WalkWords.{chart_said}
 use Rattle.sciview.proofs.choice.chart_choice.Goals as goal
 
 pub returns : goal.returns

@@ -2,7 +2,7 @@ use Rattle.std.proofs.Common.{[], arith}
 use Rattle.std.specs.Prelude.{codes}
 use Rattle.sci_words.specs.declared.limits.TheConstants.{MAX_LINES}
 use Rattle.sciview.specs.Choice.{line_words}
-use Rattle.sciview.proofs.Words.{number_said}
+use Rattle.sciview.proofs.WalkWords.{number_said}
 use Rattle.sciview.proofs.choice.line_choice.Goals as goal
 
 pub returns-in_ok-line-in-text : goal.returns-in_ok-line-in-text

@@ -2,7 +2,7 @@ use Rattle.std.proofs.Common.{[], arith}
 use Rattle.std.specs.Prelude.{codes}
 use Rattle.sci_words.specs.declared.limits.TheConstants.{MAX_NODES}
 use Rattle.sciview.specs.Choice.{node_words}
-use Rattle.sciview.proofs.Words.{number_said}
+use Rattle.sciview.proofs.WalkWords.{number_said}
 use Rattle.sciview.proofs.choice.node_choice.Goals as goal
 
 pub returns-in_ok-node-in-text : goal.returns-in_ok-node-in-text

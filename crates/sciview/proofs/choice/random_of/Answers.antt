@@ -1,4 +1,4 @@
-use Rattle.sciview.proofs.Words.{both}
+use Rattle.sciview.proofs.WalkWords.{both}
 use Rattle.sciview.proofs.choice.random_of.Goals as goal
 
 pub returns : goal.returns

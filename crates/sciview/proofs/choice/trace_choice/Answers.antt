@@ -1,5 +1,5 @@
 use Rattle.std.specs.Prelude.{map}
-use Rattle.sciview.proofs.Words.{json_alone, json_first, json_words, words_alone}
+use Rattle.sciview.proofs.WalkWords.{json_alone, json_first, json_words, words_alone}
 use Rattle.sciview.proofs.choice.trace_choice.Goals as goal
 
 pub returns-in-Some : goal.returns-in-Some

@@ -1,5 +1,5 @@
 use Rattle.std.proofs.Common.{[], arith}
-use Rattle.sciview.proofs.Words.{five_said}
+use Rattle.sciview.proofs.WalkWords.{five_said}
 use Rattle.sciview.proofs.choice.walk_of.Goals as goal
 
 pub returns : goal.returns

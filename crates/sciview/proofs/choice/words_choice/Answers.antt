@@ -1,5 +1,5 @@
 use Rattle.std.specs.Prelude.{map}
-use Rattle.sciview.proofs.Words.{line_alone}
+use Rattle.sciview.proofs.WalkWords.{line_alone}
 use Rattle.sciview.proofs.choice.words_choice.Goals as goal
 
 pub returns-in-Some : goal.returns-in-Some

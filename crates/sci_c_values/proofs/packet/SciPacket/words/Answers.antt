@@ -1,6 +1,6 @@
 use Rattle.std.proofs.Common.{rules, ℕ, List, ◌∷◌, ap}
 use Rattle.sci_c_values.specs.Packet.{first_of, second_of}
-use Rattle.sci_c_values.proofs.Packets.{eight}
+use Rattle.sci_c_values.proofs.PacketWords.{eight}
 use Rattle.sci_c_values.proofs.packet.SciPacket.words.Goals as goal
 
 pub returns : goal.returns

@@ -1,8 +1,8 @@
 -- Round after round, with what is asked and the rests between them.
 use Rattle.std.proofs.Common.{◌+◌, refl, arith, ◌∙◌, rules}
 use Rattle.sci_drive.specs.Resting.{in_a_row, is_rest_due}
-use Rattle.sci_drive.proofs.Resting.{after_asked, after_rest, after_round, ended, gone_on, has_not_gone, row_is_short}
-use Rattle.sci_drive.proofs.Rounds.{behind_last, behind_round, one_round_more}
+use Rattle.sci_drive.proofs.GateRests.{after_asked, after_rest, after_round, ended, gone_on, has_not_gone, row_is_short}
+use Rattle.sci_drive.proofs.DriverRounds.{behind_last, behind_round, one_round_more}
 use Rattle.sci_drive.proofs.driver.Driver.go_on.Goals as goal
 
 pub loop-turn-init : goal.loop-turn-init

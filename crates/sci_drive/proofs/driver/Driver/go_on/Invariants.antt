@@ -1,6 +1,6 @@
 use Rattle.std.proofs.Common.{◌≡◌, ◌≤◌}
 use Rattle.sci_drive.specs.{Driving.{IsDriven, IsInOrder}, Rounds.{GoRounds}}
-use Rattle.sci_drive.proofs.Resting.{HasGone}
+use Rattle.sci_drive.proofs.GateRests.{HasGone}
 use Rattle.sci_drive.proofs.driver.Driver.go_on.Given as goal
 
 abbrev pub invariant-loop-turn : goal.invariant-loop-turn

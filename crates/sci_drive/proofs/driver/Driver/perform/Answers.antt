@@ -5,8 +5,8 @@ use Rattle.sci_history.specs.declared.entry.Entry.{Entry}
 use Rattle.sci_core.specs.{Node.{NodeOf, node_performing}, Work.{IsLogged}}
 use Rattle.sci_drive.specs.{Calls.{Answered, IsHeard}, Driving.{DriverOf, IsDriven, IsInOrder}}
 use Rattle.sci_drive.specs.Rounds.{ArePerformed, IsTried}
-use Rattle.sci_drive.proofs.{Calls.{answer_call, heard_nothing, heard_on}, Drives.{grows, left_of, performs}}
-use Rattle.sci_drive.proofs.{InOrder.{performs_in_order}, Rounds.{one_more_performed, tried_on}}
+use Rattle.sci_drive.proofs.{GateCalls.{answer_call, heard_nothing, heard_on}, Drives.{grows, left_of, performs}}
+use Rattle.sci_drive.proofs.{InOrder.{performs_in_order}, DriverRounds.{one_more_performed, tried_on}}
 use Rattle.sci_drive.proofs.driver.Driver.perform.Goals as goal
 
 -- src/driver.rt:132:9

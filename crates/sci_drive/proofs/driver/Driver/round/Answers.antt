@@ -4,7 +4,7 @@ use Rattle.std.specs.{Prelude.{IfOk, Ok, Result}, declared.alloc.AllocError.{All
 use Rattle.sci_policy.specs.Worker.{IsNodeTurn}
 use Rattle.sci_drive.specs.{declared.driver.Round.{Round}, Driving.{DriverOf, IsDriven, IsInOrder}, Rounds.{GoesRound}}
 use Rattle.sci_drive.proofs.{Drives.{left_of, tells, turns}, InOrder.{tells_in_order, turns_in_order}}
-use Rattle.sci_drive.proofs.{Rounds.{goes, goes_done}, driver.Driver.round.Goals.{After-turn}}
+use Rattle.sci_drive.proofs.{DriverRounds.{goes, goes_done}, driver.Driver.round.Goals.{After-turn}}
 use Rattle.sci_drive.proofs.driver.Driver.round.Goals as goal
 
 -- what the turn leaves, and what the round is then

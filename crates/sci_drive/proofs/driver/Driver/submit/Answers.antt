@@ -8,7 +8,7 @@ use Rattle.sci_core.specs.Work.{IsIssued}
 use Rattle.sci_policy.specs.Turn.{submit_fault}
 use Rattle.sci_drive.specs.{Calls.{MayIssue}, Driving.{DriverOf, IsDriven}}
 use Rattle.sci_drive.specs.Rounds.{AllSubmitted, LineIsTaken, NoRoom, NotAllowed, Refused, most_pending, next_op}
-use Rattle.sci_drive.proofs.{Drives.{left_of, submits}, Rounds.{asks, holds_back, submits_one}}
+use Rattle.sci_drive.proofs.{Drives.{left_of, submits}, DriverRounds.{asks, holds_back, submits_one}}
 use Rattle.sci_drive.proofs.driver.Driver.submit.Goals.{In-Some}
 use Rattle.sci_drive.proofs.driver.Driver.submit.Goals as goal
 

@@ -4,7 +4,7 @@ use Rattle.sci_packets.specs.{declared.packet.Packet.{Packet}, Spelling.{SpellsI
 use Rattle.sci_cache.specs.Cache.{letter_of}
 use Rattle.sci_core.specs.{Node.{NodeOf}, Core.{side}}
 use Rattle.sci_lanes.specs.{Ends.{EndOf, MayFree, MayBeGiven, taken_by, lane_at_cell}, Shown.{inbound_at}}
-use Rattle.sci_lanes.proofs.{Seats.{takes_in}, Inside.{freed_inside}, Places.{places_freed}}
+use Rattle.sci_lanes.proofs.{Seats.{takes_in}, Inside.{freed_inside}, CellPlaces.{places_freed}}
 use Rattle.sci_lanes.proofs.{Calls.{takes_some, given, freeing, one_spelled}, end.LaneEnd.free.Goals.{After-self}}
 use Rattle.sci_lanes.proofs.end.LaneEnd.free.Goals as goal
 

@@ -3,7 +3,7 @@ use Rattle.sci_lanes.specs.{Cells.{lane_number}, declared.cell.CellId.{CellId}, 
 use Rattle.sci_lanes.specs.Telling.{IsShown, state_of}
 use Rattle.sci_lanes.specs.Ends.{EndOf, IsNextToTake, informed_at, lane_at_cell, looked_at, nodes_in}
 use Rattle.sci_core.specs.{declared.lane.LaneKind.{LaneKind}, Core.{Core, lane_at, lane_of, lane_place}, Node.{NodeOf}}
-use Rattle.sci_lanes.proofs.{Seats.{shown_nodes, takes_in}, Inside.{looked_inside}, Places.{inbox_listed, place_here}}
+use Rattle.sci_lanes.proofs.{Seats.{shown_nodes, takes_in}, Inside.{looked_inside}, CellPlaces.{inbox_listed, place_here}}
 use Rattle.sci_lanes.proofs.end.LaneEnd.look_for.Goals as goal
 
 pub look-requires-clause-place : goal.look-requires-clause-place

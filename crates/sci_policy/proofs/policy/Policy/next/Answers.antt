@@ -1,7 +1,7 @@
 use Rattle.std.proofs.Common.{Option, sym, subst, ◌∙◌}
 use Rattle.std.specs.Prelude.{IfSome}
 use Rattle.sci_policy.specs.{declared.want.Want.{Want}, Policy.{IsEnabledWant}}
-use Rattle.sci_policy.proofs.{Rests.{may_rest}, Wants.{wanted_enabled}}
+use Rattle.sci_policy.proofs.{AlwaysWants.{may_rest}, Wants.{wanted_enabled}}
 use Rattle.sci_policy.proofs.policy.Policy.next.Goals as goal
 
 pub returns-clause-enabled : goal.returns-clause-enabled

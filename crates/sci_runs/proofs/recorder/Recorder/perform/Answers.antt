@@ -2,7 +2,7 @@ use Rattle.std.proofs.Common.{◌<◌, refl, sym, subst}
 use Rattle.sci_words.specs.declared.event.Event.TheVariants.{Perform}
 use Rattle.sci_core.specs.{Core.{node_at}, Work.{IsLogged}}
 use Rattle.sci_core.proofs.History.Pendings.{perform_puts}
-use Rattle.sci_runs.proofs.{Steps.{node_fits}, Recording.{event_within, recorder_on}, Sparing.{spares_step}}
+use Rattle.sci_runs.proofs.{NodeSteps.{node_fits}, Recording.{event_within, recorder_on}, Sparing.{spares_step}}
 use Rattle.sci_runs.specs.Recorded.{RecorderOf, SparesOthers}
 use Rattle.sci_runs.proofs.recorder.Recorder.perform.Goals as goal
 

@@ -1,7 +1,7 @@
 use Rattle.std.proofs.Common.{◌<◌, refl, sym, subst}
 use Rattle.sci_words.specs.declared.event.Event.TheVariants.{Issue}
 use Rattle.sci_core.specs.{Core.{node_at}, Work.{IsIssued}}
-use Rattle.sci_runs.proofs.{Steps.{issue_makes}, Recording.{event_within, recorder_on}, Sparing.{spares_step}}
+use Rattle.sci_runs.proofs.{NodeSteps.{issue_makes}, Recording.{event_within, recorder_on}, Sparing.{spares_step}}
 use Rattle.sci_runs.specs.Recorded.{RecorderOf, SparesOthers}
 use Rattle.sci_runs.proofs.recorder.Recorder.submit.Goals as goal
 

@@ -1,5 +1,5 @@
 use Rattle.std.proofs.Common.{false, true}
-use Rattle.sci_runs.proofs.Finished.{behind_of, ends_of, run_of}
+use Rattle.sci_runs.proofs.RunEnds.{behind_of, ends_of, run_of}
 use Rattle.sci_runs.proofs.table.Table.finish.Goals as goal
 
 pub returns-clause-run : goal.returns-clause-run

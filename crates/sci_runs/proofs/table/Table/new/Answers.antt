@@ -1,5 +1,5 @@
 use Rattle.sci_runs.specs.declared.player.Player.{Player}
-use Rattle.sci_runs.proofs.Working.{all_opened, begins}
+use Rattle.sci_runs.proofs.WorkingNodes.{all_opened, begins}
 use Rattle.sci_runs.proofs.table.Table.new.Goals as goal
 
 pub invariant_of-result : goal.invariant_of-result

@@ -1,7 +1,7 @@
 use Rattle.std.proofs.Common.{Err, IfOk, Ok, Result, subst}
 use Rattle.sci_core.specs.Core.{node_at}
 use Rattle.sci_runs.specs.{declared.player.Player.{Player}, Played.{GoesOpenly}}
-use Rattle.sci_runs.proofs.Working.{player_at, round_is, round_on}
+use Rattle.sci_runs.proofs.WorkingNodes.{player_at, round_is, round_on}
 use Rattle.sci_runs.proofs.table.Table.round.Goals as goal
 
 pub round-requires-clause-driven : goal.round-requires-clause-driven

@@ -4,7 +4,7 @@ use Rattle.sci_lanes.specs.{Ends.{EndOf, nodes_in}, Telling.{IsShown, state_of}}
 use Rattle.sci_turn.specs.Posts.{IsStill as IsStillPost}
 use Rattle.sci_core.proofs.Basics.Options.{of_some}
 use Rattle.sci_station.specs.{declared.receiving.Seen.{Seen}, Posts.{IsRead, Remembers, StationPostOf, post_of}}
-use Rattle.sci_station.proofs.{Stills.{still_then as stills}, Posts.{post_nodes, still_post}}
+use Rattle.sci_station.proofs.{StillEnds.{still_then as stills}, Posts.{post_nodes, still_post}}
 use Rattle.sci_station.proofs.Remembering.{apart_looked, remembers_still}
 use Rattle.sci_station.proofs.post.StationPostPost.look.Goals.{After-node-node, After-read}
 use Rattle.sci_station.proofs.post.StationPostPost.look.Goals as goal

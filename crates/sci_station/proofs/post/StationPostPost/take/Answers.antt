@@ -10,7 +10,7 @@ use Rattle.sci_turn.proofs.Stills.{still_itself}
 use Rattle.sci_station.specs.{Ends.{LeavesOthers}, Posts.{IsRead, KeptOf, Remembers, StationPostOf, is_kept, post_of}}
 use Rattle.sci_station.proofs.Posts.{made_post, may_free, node_there, taken_post}
 use Rattle.sci_station.proofs.Remembering.{none_kept, remembers_no_more, remembers_taken, sender_there}
-use Rattle.sci_station.proofs.{Owing.{takes_one}, Stills.{known_others, next_same}}
+use Rattle.sci_station.proofs.{Owing.{takes_one}, StillEnds.{known_others, next_same}}
 use Rattle.sci_station.proofs.post.StationPostPost.take.Goals.{After-free}
 use Rattle.sci_station.proofs.post.StationPostPost.take.Goals as goal
 

@@ -11,7 +11,7 @@ use Rattle.sci_drive.specs.Driving.{DriverOf}
 use Rattle.sci_drive.specs.Resting.{AllAreDone, AreBehind, NotAsked, NotYet, in_a_row, is_rest_due, rests_if, row_after}
 use Rattle.sci_drive.specs.Rounds.{AllSubmitted, ArePerformed, GoRounds, GoesRound, IsHeldBack, IsTried, LineIsTaken, NoRoom, NoneNow, NotAllowed, OneMore}
 use Rattle.sci_drive.specs.Rounds.{Refused, Submits, next_op, with_submitted}
-use Rattle.sci_drive.proofs.Calls.{calls_on, done_call, no_calls, one_call, submit_call}
+use Rattle.sci_drive.proofs.GateCalls.{calls_on, done_call, no_calls, one_call, submit_call}
 
 -- ---- submitted
 

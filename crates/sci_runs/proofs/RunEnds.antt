@@ -14,7 +14,7 @@ use Rattle.sci_drive.specs.{declared.driver.Issuing.{Issuing}, Driving.{DriverOf
 use Rattle.sci_drive.specs.Script.{IsFrontOf, IsLogOf, IsWholeLogOf}
 use Rattle.sci_drive.proofs.Drives.{log_of as log_driven, whole_of}
 use Rattle.sci_threads.specs.Shares.{operations_of, size_for}
-use Rattle.sci_threads.proofs.Sharing.{in_order}
+use Rattle.sci_threads.proofs.RunStations.{in_order}
 use Rattle.sci_runs.specs.Players.{AreAtWork, IsAnswered, IsAtWork, TableOf}
 use Rattle.sci_runs.specs.Recorded.{HasIssued, HasLed, IsKnown, IsOfSize, issues_at, raised}
 use Rattle.sci_runs.specs.Runs.{IsRunOf, last_behind, logs_behind}

@@ -7,7 +7,7 @@ use Rattle.sci_core.specs.Node.{NodeOf}
 use Rattle.sci_drive.specs.declared.driver.Round.{Round}
 use Rattle.sci_drive.specs.Calls.{AllDone, AreCalls, Call, EndWithAllDone, IsHeard, Rest, entry_told, is_rest, times_rested, told}
 use Rattle.sci_drive.specs.{Driving.{DriverOf}, Resting.{RestsInTime, in_a_row}}
-use Rattle.sci_drive.proofs.Calls.{calls_on, no_calls, one_call}
+use Rattle.sci_drive.proofs.GateCalls.{calls_on, no_calls, one_call}
 
 rests_append : (first second : List Call) → times_rested (first ++ second) ≡ times_rested first + times_rested second
 rests_append first second = sum_by-append (λ (c : Call). cond (is_rest c) 1 0) first second

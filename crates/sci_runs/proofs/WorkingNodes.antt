@@ -12,7 +12,7 @@ use Rattle.sci_drive.specs.declared.driver.{Round.{Round}, Issuing.{Issuing}}
 use Rattle.sci_drive.specs.Driving.{DriverOf, HasSubmittedNothing, IsDriven, IsInOrder, opening_driver}
 use Rattle.sci_drive.proofs.{Drives.{opens}, InOrder.{opens_in_order}}
 use Rattle.sci_threads.specs.Shares.{operations_of}
-use Rattle.sci_threads.proofs.Sharing.{opened_fresh, sized_for}
+use Rattle.sci_threads.proofs.RunStations.{opened_fresh, sized_for}
 use Rattle.sci_runs.specs.{Deeds.{Takes}, Played.{Begins, GoesOpenly, IsRound, Moment, StaysBut}}
 use Rattle.sci_runs.specs.Players.{AreAtWork, IsAtWork, TableOf, moment_of}
 use Rattle.sci_runs.specs.Recorded.{RecorderOf, SparesOthers, with_limit}

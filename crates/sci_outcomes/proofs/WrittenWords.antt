@@ -7,7 +7,7 @@ use Rattle.std.specs.{Prelude.{filter}, List.{flat_map, range_with_len}}
 use Rattle.sci_words.specs.declared.{limits.TheConstants.{WORDS_PER_LINE}, operation.Op.{Op}}
 use Rattle.sci_outcomes.specs.declared.place.Place.{Place}
 use Rattle.sci_outcomes.specs.Outcomes.{IsPlaceWithin, is_written, written_on, written_places}
-use Rattle.sci_outcomes.proofs.Counts.{map_same}
+use Rattle.sci_outcomes.proofs.SightingCounts.{map_same}
 
 -- ---- words
 

@@ -13,7 +13,7 @@ use Rattle.sci_core.proofs.{Tidy.Enabled.{accept_enabled, request_enabled}, Basi
 use Rattle.sci_policy.proofs.Targets.{asked_target, waiting_target}
 use Rattle.sci_lanes.specs.{declared.{cell.CellId.{CellId}, view.Part.{Part}}, Shown.{inbound_at, me_of}}
 use Rattle.sci_lanes.specs.{Telling.{IsShown, IsMade}, Ends.{EndOf, MayFree, lane_at_cell, nodes_in}}
-use Rattle.sci_station.proofs.{Stills.{same_of_still}, Cells.{front_found}}
+use Rattle.sci_station.proofs.{StillEnds.{same_of_still}, Cells.{front_found}}
 use Rattle.sci_lanes.proofs.{Seats.{shown_nodes}, LaneSteps.{words_some}}
 use Rattle.sci_station.specs.Ends.{HasRead, IsStill}
 use Rattle.sci_history.proofs.Order.{all-append}

@@ -8,7 +8,7 @@ use Rattle.sci_policy.specs.declared.{decision.Decision.{Decision}, progress.Pro
 use Rattle.sci_policy.specs.{declared.want.Want.TheVariants.{Ask}, Policy.{PolicyOf, decided, next_policy, next_wanted}}
 use Rattle.sci_policy.specs.Turn.{Counts, IsTurnEvent, counted, decided_event}
 use Rattle.sci_turn.specs.{Posts.{IsMade, IsTaken, PostOf, node_in}, Moves.{Decides, GoesOn, IsAsked, taken_next}}
-use Rattle.sci_turn.proofs.{Moments.{taken_event}, Turns.{goes_made}}
+use Rattle.sci_turn.proofs.{Moments.{taken_event}, LongerTurns.{goes_made}}
 use Rattle.sci_words.specs.declared.event.Event.TheVariants as event
 use Rattle.sci_policy.specs.declared.decision.Decision.TheVariants as decision
 
