@@ -10,12 +10,9 @@ const ONE_READER: &str = "
     state 0 0 = FreshHead forward none @0 0; perform 0 0 = 0 @0; home 0 = FRESH 0 @0 0
 ";
 
-#[test]
-fn a_claim_loses(rt: HostRuntime) -> Result<(), Fail> {
-    play_after(
-        &rt,
-        ONE_READER,
-        "
+/// Its claim or its clear loses to a node that comes first.
+const LOSERS: &str = "
+    row a_claim_loses
         issue 1 load 0 0; ask 1 0 fread; serve 1 0 = fdata old 0 @0 0; reply 0; accept 0 1
         ask 0 0 claim; state 0 0 = Claiming forward none @0 0; serve 0 0 = wbno; reply 0 = wbno to 0; accept 0 0
         state 0 0 = FreshHead forward none @0 0; state 1 0 = FreshJoining old 0 @0 0
@@ -26,21 +23,11 @@ fn a_claim_loses(rt: HostRuntime) -> Result<(), Fail> {
         state 1 0 = Head forward 0 @0 0; home 0 = GONE 1; not perform 1 0 = NotAllowed
         ask 1 0 purge; serve 1 0 = purged forward none; reply 0; accept 0 1; state 0 0 = Out
         perform 1 0 = - @1; state 1 0 = Head forward none @1 9
-        log 2 2 1
-        last 0 @1 9 0 0 0 0 0 0 0
+        log 2 2 1; last 0 @1 9 0 0 0 0 0 0 0
         0 0 load 0 0 = 0 @0
-        1 0 load 0 0 = 0 @0
-        1 1 store 0 0 9 = - @1
-    ",
-    )
-}
+        1 0 load 0 0 = 0 @0; 1 1 store 0 0 9 = - @1
 
-#[test]
-fn a_clear_loses(rt: HostRuntime) -> Result<(), Fail> {
-    play_after(
-        &rt,
-        ONE_READER,
-        "
+    row a_clear_loses
         ask 0 0 clear; state 0 0 = Clearing @0 0
         issue 1 store 0 0 5; ask 1 0 mread; serve 1 0 = mgone old 0; reply 0; accept 0 1; home 0 = GONE 1
         serve 0 0 = wbno; home 0 = GONE 1; reply 0 = wbno to 0; accept 0 0
@@ -49,30 +36,23 @@ fn a_clear_loses(rt: HostRuntime) -> Result<(), Fail> {
         state 1 0 = Head forward 0 @0 0; state 0 0 = Below forward none backward 1 @0 0
         ask 1 0 purge; serve 1 0 = purged forward none; reply 0; accept 0 1; state 0 0 = Out
         perform 1 0 = - @1; state 1 0 = Head forward none @1 5
-        log 2 2 1
-        last 0 @1 5 0 0 0 0 0 0 0
+        log 2 2 1; last 0 @1 5 0 0 0 0 0 0 0
         0 0 load 0 0 = 0 @0
         1 0 store 0 0 5 = - @1
-    ",
-    )
-}
 
-#[test]
-fn a_clear_loses_to_a_fresh_list(rt: HostRuntime) -> Result<(), Fail> {
-    play_after(
-        &rt,
-        ONE_READER,
-        "
+    row a_clear_loses_to_a_fresh_list
         ask 0 0 clear; state 0 0 = Clearing @0 0
         issue 1 load 0 0; ask 1 0 fread; serve 1 0 = fdata old 0 @0 0; reply 0; accept 0 1; home 0 = FRESH 1 @0 0
         serve 0 0 = wbno; home 0 = FRESH 1 @0 0; reply 0 = wbno to 0; accept 0 0
         state 0 0 = FreshHead forward none @0 0; state 1 0 = FreshJoining old 0 @0 0
         ask 1 0 cread; serve 1 0 = cdata @0 0; reply 0; accept 0 1; perform 1 0 = 0 @0
         state 1 0 = FreshHead forward 0 @0 0; state 0 0 = Below forward none backward 1 @0 0; home 0 = FRESH 1 @0 0
-        log 2 2 1
-        last 0 @0 0 0 0 0 0 0 0 0
+        log 2 2 1; last 0 @0 0 0 0 0 0 0 0 0
         0 0 load 0 0 = 0 @0
         1 0 load 0 0 = 0 @0
-    ",
-    )
+";
+
+#[test]
+fn claims_and_clears_lose(rt: HostRuntime) -> Result<(), Fail> {
+    play_after(&rt, ONE_READER, LOSERS)
 }

@@ -1,7 +1,8 @@
 //! Rows: texts that say what happens in a machine, and what is seen of it.
 //!
-//! The first line of a row is that of a schedule, `machine NODES LINES SLOTS`. Each other line has commands with `;`
-//! between them. With `1000 times: ` in front it is played a thousand times.
+//! A row begins with a line `row NAME`. The next line is that of a schedule, `machine NODES LINES SLOTS`, unless other
+//! lines come before each row. Each other line has commands with `;` between them. With `1000 times: ` in front it is
+//! played a thousand times. A line that begins with `//` is a comment.
 //!
 //! - `EVENT` is an event as in a schedule, and must be enabled. `EVENT = WORDS` also says what comes of it: of an ask the
 //!   request, its target and its control number, as `roll forward none to 1 #2`; of a serve and a refuse the answer, as
@@ -12,7 +13,8 @@
 //! - `entries NODE = COUNT` is how many operations a node has performed. `list LINE = [NODE, ..]`, `authority LINE = NODE`
 //!   and `last LINE = CONTENTS` are what the machine says of a line.
 //! - `drain = COUNT` and `settle = COUNT` are how many events these take. No event comes after them in a row.
-//! - `log NODES NODES LINES`, the last command, is the text of the logs and the last contents, to the end of the row.
+//! - `log NODES NODES LINES`, the last command, is the text of the logs and the last contents, to the end of the row. Its
+//!   lines may stand on one, with `;` between them.
 //!
 //! Each event happens in a `Machine`, and once more in caches and homes between which its packets are carried by hand.
 //! Both must show the same after it.
@@ -24,19 +26,26 @@ use crate::words::push_contents;
 use std::alloc::Global;
 use std::test::*;
 
-/// Plays a row. An error names the command that failed.
-pub fn play(rt: &(impl Eprint + AllocGlobal), text: &str) -> Result<(), Fail> {
-    play_after(rt, text, "")
+/// Plays rows. An error names the row and the command that failed.
+pub fn play(rt: &(impl Eprint + AllocGlobal), rows: &str) -> Result<(), Fail> {
+    play_after(rt, "", rows)
 }
 
-/// Plays a row that begins as another.
-pub fn play_after(rt: &(impl Eprint + AllocGlobal), first: &str, text: &str) -> Result<(), Fail> {
-    let (machine, commands) = first.trim().split_once('\n').ok_or("no machine")?;
+/// Plays rows that all begin with these lines.
+pub fn play_after(rt: &(impl Eprint + AllocGlobal), first: &str, rows: &str) -> Result<(), Fail> {
     let alloc = rt.alloc();
-    let twins = Twins::new(alloc, extent_of(alloc, machine)?)?;
-    let mut row = Row { alloc, twins };
-    row.play(rt, commands)?;
-    row.play(rt, text)
+    let (_blank, rows) = rows.split_once("row ").ok_or("no row")?;
+    for row in rows.split("row ") {
+        let (name, rest) = row.split_once('\n').ok_or("no commands")?;
+        let text = format!(in alloc; "{first}{rest}")?;
+        let (machine, commands) = text.trim().split_once('\n').ok_or("no machine")?;
+        let twins = Twins::new(alloc, extent_of(alloc, machine)?)?;
+        if let Err(fail) = (Row { alloc, twins }).play(rt, commands) {
+            let _ = rt.eprintln(format_args!("in the row {name}"));
+            return Err(fail);
+        }
+    }
+    Ok(())
 }
 
 /// A machine that a row is played on.
@@ -53,7 +62,9 @@ impl Row {
             None => (text, None),
         };
         for line in commands.lines() {
-            self.play_line(rt, line)?;
+            if !line.trim().starts_with("//") {
+                self.play_line(rt, line)?;
+            }
         }
         match log {
             Some(log) => self.logged(log),
@@ -69,7 +80,7 @@ impl Row {
         for _time in 0..times {
             for command in commands.split(';') {
                 if let Err(fail) = self.command(command.trim()) {
-                    let _ = rt.eprintln(format_args!("in a row, {command}"));
+                    let _ = rt.eprintln(format_args!("at the command {command}"));
                     return Err(fail);
                 }
             }
@@ -145,8 +156,10 @@ impl Row {
     fn logged(&self, log: &str) -> Result<(), Fail> {
         let mut wanted = String::from_str(self.alloc, "log ")?;
         for line in log.trim().lines() {
-            wanted.push_str(line.trim())?;
-            wanted.push('\n')?;
+            for entry in line.split(';') {
+                wanted.push_str(entry.trim())?;
+                wanted.push('\n')?;
+            }
         }
         let found = self.twins.machine().text(self.alloc)?;
         if found.as_slice() != wanted.as_bytes() {
