@@ -4,9 +4,9 @@ use crate::reading::event_of;
 use crate::sharer::Sharer;
 use crate::states::state_text;
 use crate::table::{Part, Table};
-use crate::words::{body_of, body_text, packet_text, reply_text};
+use crate::words::{answer_text, body_of, packet_text, reply_text, request_to};
 use sci_cache::AskFault;
-use sci_packets::{NodeId, Packet};
+use sci_packets::Packet;
 use sci_words::{AskKind, Event, Extent};
 use std::alloc::Global;
 use std::test::*;
@@ -40,12 +40,14 @@ impl CachePart {
             return Err(Fail::from("no kind"));
         };
         let mut copy = self.sharer.copy(alloc)?;
-        let request = self.sharer.ask(line, kind);
-        if copy.ask_in_two_calls(line, kind) != request || copy.held(0) != self.sharer.held(0) {
+        let Some(Ok(request)) = self.sharer.ask(line, kind) else {
+            return Err(Fail::from("it is refused"));
+        };
+        let again = copy.ask_in_two_calls(line, kind);
+        if again != Some(request) || copy.held(0) != self.sharer.held(0) {
             return Err(Fail::from("two calls do something else"));
         }
-        let request = request.ok_or("it is refused")?;
-        if copy.refusal(1, AskKind::Fread) != Some(AskFault::NoSlot) {
+        if copy.ask(1, AskKind::Fread) != Some(Err(AskFault::NoSlot)) {
             return Err(Fail::from("the line takes no slot"));
         }
         self.asked = Some(request);
@@ -63,19 +65,10 @@ impl CachePart {
         }
     }
 
-    fn serve(&mut self, alloc: Global, sender: u16, request: &str) -> Result<String, Fail> {
-        let request = Packet {
-            target: NodeId::new(4).ok_or("a node")?,
-            source: NodeId::new(sender).ok_or("a node")?,
-            control: 7,
-            line: 0,
-            body: body_of(request)?,
-        };
+    fn serve(&mut self, alloc: Global, sender: u16, words: &str) -> Result<String, Fail> {
+        let request = request_to(4, sender, 0, words)?;
         let answer = self.sharer.serve(&request).ok_or("no request of a cache")?;
-        if answer != request.answer(answer.body) {
-            return Err(Fail::from("the answer is for another request"));
-        }
-        Ok(body_text(alloc, &answer.body)?)
+        answer_text(alloc, &request, &answer)
     }
 
     fn perform(&mut self, alloc: Global, op: &str) -> Result<String, Fail> {

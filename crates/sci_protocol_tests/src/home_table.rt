@@ -2,9 +2,9 @@
 
 use crate::states::home_text;
 use crate::table::{Part, Table};
-use crate::words::{body_of, body_text, push_contents};
+use crate::words::{answer_text, push_contents, request_to};
 use sci_home::{Home, is_for_home};
-use sci_packets::{NodeId, Packet};
+use sci_packets::Packet;
 use std::alloc::Global;
 use std::test::*;
 
@@ -17,22 +17,12 @@ struct HomePart {
 
 impl HomePart {
     /// What the home answers to a request. The answer is for the request's sender, of its control number and line.
-    fn serve(&mut self, alloc: Global, sender: u16, request: &str) -> Result<String, Fail> {
-        let request = Packet {
-            target: NodeId::new(9).ok_or("a node")?,
-            source: NodeId::new(sender).ok_or("a node")?,
-            control: 3,
-            line: 5,
-            body: body_of(request)?,
-        };
+    fn serve(&mut self, alloc: Global, request: &Packet) -> Result<String, Fail> {
         if !is_for_home(&request.body) {
             return Ok(String::from_str(alloc, "for a cache")?);
         }
-        let answer = self.home.serve(&request);
-        if answer != request.answer(answer.body) {
-            return Err(Fail::from("the answer is for another request"));
-        }
-        Ok(body_text(alloc, &answer.body)?)
+        let answer = self.home.serve(request);
+        answer_text(alloc, request, &answer)
     }
 
     fn current(&self, alloc: Global) -> Result<String, Fail> {
@@ -60,7 +50,10 @@ impl Part for HomePart {
 
     fn act(&mut self, alloc: Global, command: &str) -> Result<String, Fail> {
         match command.split_once(' ') {
-            Some((sender, request)) => self.serve(alloc, sender.parse::<u16>()?, request),
+            Some((sender, words)) => match request_to(9, sender.parse::<u16>()?, 5, words) {
+                Ok(request) => self.serve(alloc, &request),
+                Err(fail) => Err(fail),
+            },
             None => self.current(alloc),
         }
     }

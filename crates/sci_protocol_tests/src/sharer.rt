@@ -46,32 +46,14 @@ impl Sharer {
         packet.target.get() == u16::from(self.me) && packet.line < u64::from(self.lines)
     }
 
-    /// The request of this kind about a line, which must be the one that `asked` gives before.
-    pub fn ask(&mut self, line: u8, kind: AskKind) -> Option<Packet> {
+    /// The request of this kind about a line, or why it isn't asked, which must be what `asked` gives before.
+    pub fn ask(&mut self, line: u8, kind: AskKind) -> Option<Result<Packet, AskFault>> {
         if line >= self.lines {
             return None;
         }
-        let Ok(told) = self.cache.asked(line, kind) else {
-            return None;
-        };
-        match self.cache.ask(line, kind) {
-            Ok(request) if request == told => Some(request),
-            _ => None,
-        }
-    }
-
-    /// Why this kind isn't asked about a line, which `asked` must give before.
-    pub fn refusal(&mut self, line: u8, kind: AskKind) -> Option<AskFault> {
-        if line >= self.lines {
-            return None;
-        }
-        let Err(told) = self.cache.asked(line, kind) else {
-            return None;
-        };
-        match self.cache.ask(line, kind) {
-            Err(fault) if fault == told => Some(fault),
-            _ => None,
-        }
+        let told = self.cache.asked(line, kind);
+        let made = self.cache.ask(line, kind);
+        if made == told { Some(made) } else { None }
     }
 
     /// Makes the request of this kind about a line in two calls, by a look and an act.

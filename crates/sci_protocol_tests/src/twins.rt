@@ -3,7 +3,7 @@
 use crate::bounded::Bounded;
 use crate::sharer::Sharer;
 use crate::walked::Walked;
-use crate::words::{body_text, packet_text, reply_text, request_text};
+use crate::words::{answer_text, body_text, packet_text, reply_text, request_text};
 use sci_cache::AskFault;
 use sci_core::{LaneKind, Obstacle};
 use sci_home::{Home, is_for_home};
@@ -58,7 +58,7 @@ impl Twins {
             let no_slot = obstacle == Some(Obstacle::NoSlot);
             let sharer = self.sharer(node).ok_or("no such node")?;
             if obstacle.is_some()
-                && no_slot != (sharer.refusal(line, kind) == Some(AskFault::NoSlot))
+                && no_slot != (sharer.ask(line, kind) == Some(Err(AskFault::NoSlot)))
             {
                 return Err(Fail::from("it is refused for another reason by hand"));
             }
@@ -124,8 +124,8 @@ impl Twins {
             return Ok(None);
         };
         match sharer.ask(line, kind) {
-            Some(request) => Ok(Some(request_text(alloc, &request)?)),
-            None => Ok(None),
+            Some(Ok(request)) => Ok(Some(request_text(alloc, &request)?)),
+            _ => Ok(None),
         }
     }
 
@@ -149,10 +149,7 @@ impl Twins {
             let sharer = self.sharer(n).ok_or("no such node")?;
             sharer.serve(&request).ok_or("it is for another cache")?
         };
-        if answer != request.answer(answer.body) {
-            return Err(Fail::from("the answer is for another request"));
-        }
-        Ok(Some(body_text(self.alloc, &answer.body)?))
+        Ok(Some(answer_text(self.alloc, &request, &answer)?))
     }
 
     fn refuse(&mut self, from: u8, n: u8) -> Result<Option<String>, Fail> {

@@ -108,6 +108,25 @@ pub fn body_of(text: &str) -> Result<Body, Fail> {
     Ok(body_named(name, node, &contents).ok_or("no packet says so")?)
 }
 
+/// The request about a line that a node gets from another in these words.
+pub fn request_to(target: u16, source: u16, line: u8, words: &str) -> Result<Packet, Fail> {
+    Ok(Packet {
+        target: NodeId::new(target).ok_or("a node")?,
+        source: NodeId::new(source).ok_or("a node")?,
+        control: 7,
+        line: u64::from(line),
+        body: body_of(words)?,
+    })
+}
+
+/// What the answer to a request says. An error if it is for another request.
+pub fn answer_text(alloc: Global, request: &Packet, answer: &Packet) -> Result<String, Fail> {
+    if *answer != request.answer(answer.body) {
+        return Err(Fail::from("the answer is for another request"));
+    }
+    Ok(body_text(alloc, &answer.body)?)
+}
+
 /// The body of this name with this node and these contents: that of the packet with these fields.
 fn body_named(name: &str, node: Option<NodeId>, contents: &Stamped) -> Option<Body> {
     let command = Command::ALL
