@@ -9,28 +9,25 @@ use std::alloc::{AllocError, Global};
 use std::process::Abort;
 use std::test::*;
 
-/// A machine of this size in which each node may issue one operation. It is asked for again if memory is refused.
-fn machine(alloc: Global, extent: Extent) -> Result<Machine, Fail> {
-    if let Ok(machine) = Machine::new(alloc, extent, 1) {
-        return Ok(machine);
-    }
-    Ok(Machine::new(alloc, extent, 1).ok().ok_or("refused twice")?)
-}
-
-/// A copy of a machine, asked for again if memory is refused.
-fn copy_of(alloc: Global, machine: &Machine) -> Result<Machine, Fail> {
-    if let Ok(copy) = machine.try_clone(alloc) {
-        return Ok(copy);
-    }
-    Ok(machine.try_clone(alloc).ok().ok_or("refused twice")?)
-}
-
-/// The log of node 0 is this entry alone. The logs are asked for again if memory is refused.
-fn expect_logged(rt: &(impl Abort + AllocGlobal), machine: &Machine) -> Result<(), Fail> {
-    let logs = match machine.logs(rt.alloc()) {
-        Ok(logs) => logs,
-        Err(_) => machine.logs(rt.alloc()).ok().ok_or("refused twice")?,
+/// What a call gives, which is made again if memory is refused.
+macro_rules! again {
+    ($call:expr) => {
+        match $call {
+            Ok(made) => made,
+            Err(_) => $call.ok().ok_or("refused twice")?,
+        }
     };
+}
+
+/// A machine of this size in which each node may issue one operation.
+fn machine(alloc: Global, size: (u8, u8, u8)) -> Result<Machine, Fail> {
+    let extent = Extent::new(size.0, size.1, size.2).ok_or("an extent")?;
+    Ok(again!(Machine::new(alloc, extent, 1)))
+}
+
+/// The log of node 0 is this entry alone.
+fn expect_logged(rt: &(impl Abort + AllocGlobal), machine: &Machine) -> Result<(), Fail> {
+    let logs = again!(machine.logs(rt.alloc()));
     assert_eq!(rt; logs.of(0), [entry()].as_slice());
     assert_eq!(rt; logs.of(1).len(), 0);
     Ok(())
@@ -38,10 +35,9 @@ fn expect_logged(rt: &(impl Abort + AllocGlobal), machine: &Machine) -> Result<(
 
 #[test]
 fn memory_for_a_machine(rt: HostRuntime) -> Result<(), Fail> {
-    let extent = Extent::new(2, 3, 1).ok_or("an extent")?;
-    let mut first = machine(rt.alloc(), extent)?;
-    let mut copy = copy_of(rt.alloc(), &first)?;
-    assert_eq!(rt; copy.extent(), extent);
+    let mut first = machine(rt.alloc(), (2, 3, 1))?;
+    let mut copy = again!(first.try_clone(rt.alloc()));
+    assert_eq!(rt; Some(copy.extent()), Extent::new(2, 3, 1));
     for event in &schedule() {
         let done = first.apply(event);
         assert!(rt; done.is_ok() || first.apply(event).is_ok(), "{event:?}");
@@ -55,17 +51,9 @@ fn memory_for_a_machine(rt: HostRuntime) -> Result<(), Fail> {
 #[test]
 fn memory_for_a_node(rt: HostRuntime) -> Result<(), Fail> {
     let extent = Extent::new(1, 2, 1).ok_or("an extent")?;
-    let mut node = match Node::new(rt.alloc(), 0, extent, 1) {
-        Ok(node) => node,
-        Err(_) => Node::new(rt.alloc(), 0, extent, 1)
-            .ok()
-            .ok_or("refused twice")?,
-    };
+    let mut node = again!(Node::new(rt.alloc(), 0, extent, 1));
     assert_eq!(rt; node.issue(entry().op), Some(0));
-    let copy = match node.try_clone(rt.alloc()) {
-        Ok(copy) => copy,
-        Err(_) => node.try_clone(rt.alloc()).ok().ok_or("refused twice")?,
-    };
+    let copy = again!(node.try_clone(rt.alloc()));
     assert_eq!(rt; copy.log().len(), 0);
     assert!(rt; !copy.is_at_rest());
     Ok(())
@@ -82,8 +70,7 @@ fn under_way(machine: &Machine) -> usize {
 
 #[test]
 fn a_refused_event_changes_nothing(rt: HostRuntime) -> Result<(), Fail> {
-    let extent = Extent::new(1, 1, 1).ok_or("an extent")?;
-    let mut machine = machine(rt.alloc(), extent)?;
+    let mut machine = machine(rt.alloc(), (1, 1, 1))?;
     for event in &schedule() {
         let before = under_way(&machine);
         match machine.apply(event) {
@@ -103,8 +90,7 @@ fn a_refused_event_changes_nothing(rt: HostRuntime) -> Result<(), Fail> {
 // What was done before the refused event is not enabled once more, so that the whole schedule can be run again.
 #[test]
 fn a_refused_run_stands_before_its_event(rt: HostRuntime) -> Result<(), Fail> {
-    let extent = Extent::new(1, 1, 1).ok_or("an extent")?;
-    let mut machine = machine(rt.alloc(), extent)?;
+    let mut machine = machine(rt.alloc(), (1, 1, 1))?;
     let events = schedule();
     if machine.run(&events).is_err() {
         assert_eq!(rt; machine.last().lines(), 1);
@@ -115,8 +101,7 @@ fn a_refused_run_stands_before_its_event(rt: HostRuntime) -> Result<(), Fail> {
 
 #[test]
 fn a_refused_settling_can_go_on(rt: HostRuntime) -> Result<(), Fail> {
-    let extent = Extent::new(2, 1, 1).ok_or("an extent")?;
-    let mut machine = machine(rt.alloc(), extent)?;
+    let mut machine = machine(rt.alloc(), (2, 1, 1))?;
     let events = schedule();
     if machine.run(&events[..3]).is_err() {
         assert_eq!(rt; machine.run(&events[..3]), Ok(()));
