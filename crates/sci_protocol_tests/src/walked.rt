@@ -13,71 +13,77 @@ use std::test::*;
 /// How many operations a node may issue.
 pub const LIMIT: u32 = 300;
 
-/// What happened in walks.
+/// Something that happens in walks.
 #[derive(Clone, Copy, Debug, PartialEq, Eq)]
-pub struct Counts {
-    pub idle: u64,
-    pub issued: u64,
-    pub loads: u64,
-    pub makers: u64,
-    pub joined: u64,
-    pub purged: u64,
-    pub rolled: u64,
-    pub written_back: u64,
-    pub claimed: u64,
-    pub cleared: u64,
-    pub lost: u64,
-    pub busy: u64,
+pub enum Happening {
+    Loaded,
+    Made,
+    Joined,
+    Purged,
+    Rolled,
+    WroteBack,
+    Claimed,
+    Cleared,
+    Lost,
+    WasBusy,
 }
+
+/// What happens when an operation is performed.
+pub const OPERATIONS: [Happening; 2] = [Happening::Loaded, Happening::Made];
+
+/// What else happens.
+pub const OTHERS: [Happening; 8] = [
+    Happening::Joined,
+    Happening::Purged,
+    Happening::Rolled,
+    Happening::WroteBack,
+    Happening::Claimed,
+    Happening::Cleared,
+    Happening::Lost,
+    Happening::WasBusy,
+];
+
+/// How often each of these happened.
+#[derive(Clone, Copy, Debug, PartialEq, Eq)]
+pub struct Counts([u64; 10]);
 
 impl Counts {
     pub fn none() -> Counts {
-        Counts {
-            idle: 0,
-            issued: 0,
-            loads: 0,
-            makers: 0,
-            joined: 0,
-            purged: 0,
-            rolled: 0,
-            written_back: 0,
-            claimed: 0,
-            cleared: 0,
-            lost: 0,
-            busy: 0,
-        }
+        Counts([0; 10])
     }
 
     /// Adds what happened in other walks.
     pub fn add(&mut self, more: &Counts) {
-        self.idle = self.idle.wrapping_add(more.idle);
-        self.issued = self.issued.wrapping_add(more.issued);
-        self.loads = self.loads.wrapping_add(more.loads);
-        self.makers = self.makers.wrapping_add(more.makers);
-        self.joined = self.joined.wrapping_add(more.joined);
-        self.purged = self.purged.wrapping_add(more.purged);
-        self.rolled = self.rolled.wrapping_add(more.rolled);
-        self.written_back = self.written_back.wrapping_add(more.written_back);
-        self.claimed = self.claimed.wrapping_add(more.claimed);
-        self.cleared = self.cleared.wrapping_add(more.cleared);
-        self.lost = self.lost.wrapping_add(more.lost);
-        self.busy = self.busy.wrapping_add(more.busy);
+        for (count, more) in self.0.iter_mut().zip(&more.0) {
+            *count = count.wrapping_add(*more);
+        }
+    }
+
+    /// How often it happened.
+    pub fn of(&self, what: Happening) -> u64 {
+        self.0.get(what as usize).copied().unwrap_or(0)
+    }
+
+    /// It happened once more.
+    fn count(&mut self, what: Happening) {
+        if let Some(count) = self.0.get_mut(what as usize) {
+            *count = count.wrapping_add(1);
+        }
     }
 
     /// One more of what an answer that was accepted ends.
     fn count_answer(&mut self, asked: &Held, answer: &Body) {
-        let count = match (asked, answer) {
-            (_, Body::Busy) => &mut self.busy,
-            (_, Body::Wbno) => &mut self.lost,
-            (Held::Claiming(_), _) => &mut self.claimed,
-            (Held::Clearing(_), _) => &mut self.cleared,
-            (Held::Returning(_), _) => &mut self.written_back,
-            (Held::Purging(_), _) => &mut self.purged,
-            (Held::Rolling(_), _) => &mut self.rolled,
-            (Held::Joining(_) | Held::FreshJoining(_), _) => &mut self.joined,
+        self.count(match (asked, answer) {
+            (_, Body::Busy) => Happening::WasBusy,
+            (_, Body::Wbno) => Happening::Lost,
+            (Held::Claiming(_), _) => Happening::Claimed,
+            (Held::Clearing(_), _) => Happening::Cleared,
+            (Held::Returning(_), _) => Happening::WroteBack,
+            (Held::Purging(_), _) => Happening::Purged,
+            (Held::Rolling(_), _) => Happening::Rolled,
+            (Held::Joining(_) | Held::FreshJoining(_), _) => Happening::Joined,
             _ => return,
-        };
-        *count = count.wrapping_add(1);
+        });
     }
 }
 
@@ -172,22 +178,18 @@ impl Walked {
 
     /// Applies an event and carries the packets as it says; tells whether it was enabled.
     pub fn step(&mut self, event: &Event) -> Result<bool, Fail> {
-        let happened = match *event {
-            Event::Issue { node, .. } => self.issue(event, node)?,
-            Event::Perform { node, line } => self.perform(event, node, line)?,
+        match *event {
+            Event::Issue { node, .. } => self.issue(event, node),
+            Event::Perform { node, line } => self.perform(event, node, line),
             Event::Ask { node, line, kind } => {
                 let request = self.asked(node, line, kind);
-                self.ask(event, node, line, request)?
+                self.ask(event, node, line, request)
             }
-            Event::Serve { from, node } => self.answer(event, from, node, false)?,
-            Event::Refuse { from, node } => self.answer(event, from, node, true)?,
-            Event::Reply { node } => self.reply(event, node)?,
-            Event::Accept { from, node } => self.accept(event, from, node)?,
-        };
-        if !happened {
-            self.counts.idle = self.counts.idle.wrapping_add(1);
+            Event::Serve { from, node } => self.answer(event, from, node, false),
+            Event::Refuse { from, node } => self.answer(event, from, node, true),
+            Event::Reply { node } => self.reply(event, node),
+            Event::Accept { from, node } => self.accept(event, from, node),
         }
-        Ok(happened)
     }
 
     fn issue(&mut self, event: &Event, n: u8) -> Result<bool, Fail> {
@@ -197,7 +199,6 @@ impl Walked {
         if let Some(issued) = self.issued.get_mut(usize::from(n)) {
             *issued = issued.wrapping_add(1);
         }
-        self.counts.issued = self.counts.issued.wrapping_add(1);
         Ok(true)
     }
 
@@ -208,10 +209,8 @@ impl Walked {
         }
         match pending {
             None => return Err(Fail::from("nothing was pending")),
-            Some(pending) if pending.op.is_maker() => {
-                self.counts.makers = self.counts.makers.wrapping_add(1)
-            }
-            Some(_) => self.counts.loads = self.counts.loads.wrapping_add(1),
+            Some(pending) if pending.op.is_maker() => self.counts.count(Happening::Made),
+            Some(_) => self.counts.count(Happening::Loaded),
         }
         Ok(true)
     }

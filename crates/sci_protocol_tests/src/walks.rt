@@ -4,7 +4,7 @@
 
 use crate::choices::{any_event, enabled_event};
 use crate::plain_lists::holds;
-use crate::walked::{Counts, Walked};
+use crate::walked::{Counts, Happening, OPERATIONS, OTHERS, Walked};
 use sci_cache::Held;
 use sci_chance::Random;
 use sci_core::LaneKind;
@@ -15,15 +15,8 @@ use sci_words::Extent;
 use std::alloc::Global;
 use std::test::*;
 
-/// Walks on machines of one size: of how many seeds, and how many events each tries.
-#[derive(Drop)]
-struct Walks {
-    nodes: u8,
-    lines: u8,
-    slots: u8,
-    seeds: u16,
-    events: u16,
-}
+/// Walks on a machine of so many nodes, lines and slots: of how many seeds, and how many events each tries.
+type Walks = (u8, u8, u8, u16, u16);
 
 /// An error if the logs aren't lawful, or have no one order of all entries.
 fn audit_logs(alloc: Global, walked: &Walked) -> Result<(), Fail> {
@@ -128,12 +121,13 @@ fn settle(alloc: Global, walked: &mut Walked) -> Result<(), Fail> {
 }
 
 /// What happens in the walk of a seed.
-fn walk(alloc: Global, walks: &Walks, seed: u64) -> Result<Counts, Fail> {
-    let extent = Extent::new(walks.nodes, walks.lines, walks.slots).ok_or("an extent")?;
+fn walk(alloc: Global, walks: Walks, seed: u64) -> Result<Counts, Fail> {
+    let (nodes, lines, slots, _seeds, events) = walks;
+    let extent = Extent::new(nodes, lines, slots).ok_or("an extent")?;
     let mut random = Random::new(seed);
     let mut walked = Walked::new(alloc, extent)?;
-    for place in 0..walks.events {
-        if place == walks.events / 2 {
+    for place in 0..events {
+        if place == events / 2 {
             compare(alloc, &walked)?;
         }
         step(&mut random, &mut walked)?;
@@ -143,105 +137,84 @@ fn walk(alloc: Global, walks: &Walks, seed: u64) -> Result<Counts, Fail> {
     Ok(walked.counts)
 }
 
-/// What happens in all these walks together. The seed of a walk that goes wrong is printed.
-fn walk_all(rt: &impl Eprint, alloc: Global, all: &[Walks]) -> Result<Counts, Fail> {
+/// An error if one of these happened less often.
+fn happened(counts: &Counts, each: &[Happening], least: u64) -> Result<(), Fail> {
+    for what in each {
+        let count = counts.of(*what);
+        if count < least {
+            return Err(Fail::new(format_args!("{what:?} {count} times")));
+        }
+    }
+    Ok(())
+}
+
+/// An error if a walk of these goes wrong, or if in them all an operation or something else happens less often. The seed of
+/// a walk that goes wrong is printed.
+fn walk_all(
+    rt: &(impl Eprint + AllocGlobal),
+    all: &[Walks],
+    operations: u64,
+    others: u64,
+) -> Result<(), Fail> {
     let mut counts = Counts::none();
     for walks in all {
-        let (nodes, lines, slots) = (walks.nodes, walks.lines, walks.slots);
-        for seed in 0..u64::from(walks.seeds) {
-            match walk(alloc, walks, seed) {
+        for seed in 0..u64::from(walks.3) {
+            match walk(rt.alloc(), *walks, seed) {
                 Ok(more) => counts.add(&more),
                 Err(fail) => {
-                    let _ = rt.eprintln(format_args!(
-                        "machine {nodes} {lines} {slots}, seed {seed}"
-                    ));
+                    let _ = rt.eprintln(format_args!("walks {walks:?}, seed {seed}"));
                     return Err(fail);
                 }
             }
         }
     }
-    Ok(counts)
-}
-
-/// Walks on a machine of this size.
-fn of_size(nodes: u8, lines: u8, slots: u8, seeds: u16, events: u16) -> Walks {
-    Walks {
-        nodes,
-        lines,
-        slots,
-        seeds,
-        events,
-    }
-}
-
-/// An error if something happened seldom or never.
-fn much_happened(counts: &Counts, operations: u64, others: u64) -> Result<(), Fail> {
-    let fewest_operations = counts.loads.min(counts.makers);
-    let fewest_others = counts
-        .joined
-        .min(counts.purged)
-        .min(counts.rolled)
-        .min(counts.written_back)
-        .min(counts.claimed)
-        .min(counts.cleared)
-        .min(counts.lost)
-        .min(counts.busy);
-    if fewest_operations < operations || fewest_others < others {
-        return Err(Fail::new(format_args!("{counts:?}")));
-    }
-    Ok(())
+    happened(&counts, &OPERATIONS, operations)?;
+    happened(&counts, &OTHERS, others)
 }
 
 #[test]
 fn walks_of_two_nodes(rt: HostRuntime) -> Result<(), Fail> {
-    let all = [of_size(2, 1, 1, 400, 200), of_size(2, 3, 1, 200, 200)];
-    let counts = walk_all(&rt, rt.alloc(), &all)?;
-    much_happened(&counts, 3_000, 300)
+    let all = [(2, 1, 1, 400, 200), (2, 3, 1, 200, 200)];
+    walk_all(&rt, &all, 3_000, 300)
 }
 
 #[test]
 fn walks_of_three_nodes(rt: HostRuntime) -> Result<(), Fail> {
-    let all = [of_size(3, 1, 1, 400, 200), of_size(3, 4, 2, 200, 240)];
-    let counts = walk_all(&rt, rt.alloc(), &all)?;
-    much_happened(&counts, 3_000, 100)
+    let all = [(3, 1, 1, 400, 200), (3, 4, 2, 200, 240)];
+    walk_all(&rt, &all, 3_000, 100)
 }
 
 #[test]
 fn walks_of_four_nodes(rt: HostRuntime) -> Result<(), Fail> {
-    let all = [of_size(4, 1, 2, 300, 240), of_size(4, 8, 3, 200, 300)];
-    let counts = walk_all(&rt, rt.alloc(), &all)?;
-    much_happened(&counts, 2_000, 100)
+    let all = [(4, 1, 2, 300, 240), (4, 8, 3, 200, 300)];
+    walk_all(&rt, &all, 2_000, 100)
 }
 
 #[test]
 fn walks_of_five_and_six_nodes(rt: HostRuntime) -> Result<(), Fail> {
-    let all = [of_size(5, 2, 2, 200, 300), of_size(6, 1, 1, 200, 300)];
-    let counts = walk_all(&rt, rt.alloc(), &all)?;
-    much_happened(&counts, 1_500, 5)
+    let all = [(5, 2, 2, 200, 300), (6, 1, 1, 200, 300)];
+    walk_all(&rt, &all, 1_500, 5)
 }
 
 #[test]
 fn walks_of_seven_to_twelve_nodes(rt: HostRuntime) -> Result<(), Fail> {
     let all = [
-        of_size(7, 3, 1, 80, 400),
-        of_size(8, 16, 4, 40, 400),
-        of_size(10, 1, 8, 80, 400),
-        of_size(12, 5, 2, 40, 400),
+        (7, 3, 1, 80, 400),
+        (8, 16, 4, 40, 400),
+        (10, 1, 8, 80, 400),
+        (12, 5, 2, 40, 400),
     ];
-    let counts = walk_all(&rt, rt.alloc(), &all)?;
-    much_happened(&counts, 1_000, 50)
+    walk_all(&rt, &all, 1_000, 50)
 }
 
 #[test]
 fn walks_of_sixteen_nodes(rt: HostRuntime) -> Result<(), Fail> {
-    let all = [of_size(16, 1, 1, 50, 800), of_size(16, 2, 1, 50, 800)];
-    let counts = walk_all(&rt, rt.alloc(), &all)?;
-    much_happened(&counts, 200, 2)
+    let all = [(16, 1, 1, 50, 800), (16, 2, 1, 50, 800)];
+    walk_all(&rt, &all, 200, 2)
 }
 
 #[test]
 fn walks_of_many_nodes_and_lines(rt: HostRuntime) -> Result<(), Fail> {
-    let all = [of_size(15, 6, 8, 60, 800), of_size(16, 64, 8, 4, 800)];
-    let counts = walk_all(&rt, rt.alloc(), &all)?;
-    much_happened(&counts, 100, 4)
+    let all = [(15, 6, 8, 60, 800), (16, 64, 8, 4, 800)];
+    walk_all(&rt, &all, 100, 4)
 }
