@@ -4,12 +4,12 @@ use sci_words::*;
 
 const ONES: Word = 0xFFFF_FFFF_FFFF_FFFF;
 
-fn lock_op(op: LockOp) -> Op {
-    Op {
-        line: 0,
-        word: 0,
-        act: Act::Lock(op),
-    }
+fn op(line: u8, word: u8, act: Act) -> Op {
+    Op { line, word, act }
+}
+
+fn lock_op(lock: LockOp) -> Op {
+    op(0, 0, Act::Lock(lock))
 }
 
 #[test]
@@ -58,68 +58,37 @@ fn lock_operations_at_their_corners(rt: HostRuntime) {
 #[test]
 fn loads_and_stores_at_their_corners(rt: HostRuntime) {
     for old in [0, 1, ONES] {
-        let load = Op {
-            line: 0,
-            word: 0,
-            act: Act::Load,
-        };
-        let store = Op {
-            line: 0,
-            word: 0,
-            act: Act::Store(ONES - old),
-        };
+        let load = op(0, 0, Act::Load);
+        let store = op(0, 0, Act::Store(ONES - old));
         assert_eq!(rt; effect(load, old), (old, Reply::Got(old)));
         assert_eq!(rt; effect(store, old), (ONES - old, Reply::Stored));
     }
 }
 
+/// A swap makes a version even if it fails, and a load makes none. Neither changes the line.
 #[test]
-fn a_failed_swap_makes_a_version(rt: HostRuntime) {
+fn a_failed_swap_makes_a_version_and_a_load_makes_none(rt: HostRuntime) {
     let before = Stamped {
         line: Line::zero().with(7, 3),
         version: 4,
     };
-    let swap = Op {
-        line: 63,
-        word: 7,
-        act: Act::Lock(LockOp::CompareSwap { arg: 5, datum: 9 }),
-    };
-    let (after, reply) = before.after(swap);
-    assert_eq!(rt; after.version, 5);
-    assert_eq!(rt; after.line, before.line);
-    assert_eq!(rt; reply, Reply::Got(3));
-}
-
-#[test]
-fn a_load_makes_none(rt: HostRuntime) {
-    let before = Stamped {
-        line: Line::zero().with(0, 3),
-        version: 4,
-    };
-    let load = Op {
-        line: 0,
-        word: 1,
-        act: Act::Load,
-    };
-    let (after, reply) = before.after(load);
-    assert_eq!(rt; after.version, 4);
-    assert_eq!(rt; after.line, before.line);
-    assert_eq!(rt; reply, Reply::Got(0));
+    let swap = Act::Lock(LockOp::CompareSwap { arg: 5, datum: 9 });
+    for (op, version, word) in [(op(63, 7, swap), 5, 3), (op(0, 1, Act::Load), 4, 0)] {
+        assert!(rt; op.word < 8);
+        let (after, reply) = before.after(op);
+        assert_eq!(rt; after.version, version, "{op:?}");
+        assert_eq!(rt; after.line, before.line, "{op:?}");
+        assert_eq!(rt; reply, Reply::Got(word), "{op:?}");
+    }
 }
 
 #[test]
 fn extents_at_their_limits(rt: HostRuntime) {
     assert!(rt; Extent::new(1, 1, 1).is_some());
     assert!(rt; Extent::new(16, 64, 8).is_some());
-    let outside = [
-        (0, 1, 1),
-        (17, 1, 1),
-        (1, 0, 1),
-        (1, 65, 1),
-        (1, 1, 0),
-        (1, 1, 9),
-    ];
-    for (nodes, lines, slots) in outside {
+    let too_small = [(0, 1, 1), (1, 0, 1), (1, 1, 0)];
+    let too_large = [(17, 1, 1), (1, 65, 1), (1, 1, 9)];
+    for (nodes, lines, slots) in too_small.into_iter().chain(too_large) {
         assert!(rt;
             Extent::new(nodes, lines, slots).is_none(),
             "{nodes} {lines} {slots}"

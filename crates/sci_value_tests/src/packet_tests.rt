@@ -1,5 +1,7 @@
 //! That the table of packets is the one that is meant, by packets written out by hand.
 
+ghost use Rattle.std.specs.Prelude.{◌<◌, ◌^◌};
+
 use byteorder::{BigEndian, ByteOrder};
 use sci_packets::*;
 use sci_words::{Line, Stamped};
@@ -101,24 +103,15 @@ fn table() -> Result<[(Body, u64, u64); 19], Fail> {
     ])
 }
 
-/// The packet of the table with this body.
-fn of_table(body: Body) -> Result<Packet, Fail> {
+/// A packet with this body from one node to another.
+fn packet(from: u16, to: u16, control: u16, line: u64, body: Body) -> Result<Packet, Fail>
+    requires { line < 2 ^ 42 }
+{
     Ok(Packet {
-        target: node(1)?,
-        source: node(2)?,
-        control: 3,
-        line: 5,
-        body,
-    })
-}
-
-/// A packet with this body from node 0 to node 1, control 2, line 3.
-fn from_home(body: Body) -> Result<Packet, Fail> {
-    Ok(Packet {
-        target: node(1)?,
-        source: node(0)?,
-        control: 2,
-        line: 3,
+        target: node(to)?,
+        source: node(from)?,
+        control,
+        line,
         body,
     })
 }
@@ -167,13 +160,7 @@ fn refused(rt: &impl Abort, first: u64, second: u64, fault: PacketFault) {
 
 #[test]
 fn packets(rt: HostRuntime) -> Result<(), Fail> {
-    let mread = Packet {
-        target: node(0)?,
-        source: node(1)?,
-        control: 0,
-        line: 0,
-        body: Body::Mread,
-    };
+    let mread = packet(1, 0, 0, 0, Body::Mread)?;
     let first = 0x0000_0001_0001_0000;
     let words = zeros(first, NONE);
     both_ways(&rt, mread, &words, 2);
@@ -188,7 +175,7 @@ fn packets(rt: HostRuntime) -> Result<(), Fail> {
         PacketFault::UnknownCommand,
     );
     refused(&rt, first, 0, PacketFault::BadIdentifier);
-    let mgone = from_home(Body::Mgone { old_head: node(0)? })?;
+    let mgone = packet(0, 1, 2, 3, Body::Mgone { old_head: node(0)? })?;
     let words = zeros(0x0001_0102_0000_0002, 0x00C0_0000);
     both_ways(&rt, mgone, &words, 2);
     Ok(())
@@ -196,18 +183,12 @@ fn packets(rt: HostRuntime) -> Result<(), Fail> {
 
 #[test]
 fn mdata(rt: HostRuntime) -> Result<(), Fail> {
-    let packet = Packet {
-        target: node(1)?,
-        source: node(0)?,
-        control: 65535,
-        line: 1,
-        body: Body::Mdata(Stamped {
-            line: Line::zero().with(0, 7),
-            version: 1,
-        }),
-    };
+    let body = Body::Mdata(Stamped {
+        line: Line::zero().with(0, 7),
+        version: 1,
+    });
     let words = one_seven(0x0001_0101_0000_FFFF, 0x0040_FFFF);
-    both_ways(&rt, packet, &words, 11);
+    both_ways(&rt, packet(0, 1, 65535, 1, body)?, &words, 11);
     Ok(())
 }
 
@@ -220,9 +201,8 @@ fn fdata(rt: HostRuntime) -> Result<(), Fail> {
             version: 0,
         },
     };
-    let packet = from_home(body)?;
     let words = zeros(0x0001_010A_0000_0002, 0x00C0_0000);
-    both_ways(&rt, packet, &words, 11);
+    both_ways(&rt, packet(0, 1, 2, 3, body)?, &words, 11);
     Ok(())
 }
 
@@ -242,7 +222,7 @@ fn decode_faults(rt: HostRuntime) {
 #[test]
 fn every_command(rt: HostRuntime) -> Result<(), Fail> {
     for (body, first, second) in table()? {
-        let packet = of_table(body)?;
+        let packet = packet(2, 1, 3, 5, body)?;
         let count = if has_contents(&body) { 11 } else { 2 };
         both_ways(&rt, packet, &long(first, second), count);
         let answers = first & 0x0100_0000_0000 != 0;
@@ -268,7 +248,7 @@ fn identifiers_that_are_none(rt: HostRuntime) -> Result<(), Fail> {
         ),
     ];
     for (body, first, count) in table {
-        let packet = of_table(body)?;
+        let packet = packet(2, 1, 3, 5, body)?;
         both_ways(&rt, packet, &long(first, 0x0140_FFFF), count);
     }
     Ok(())
@@ -340,13 +320,7 @@ fn every_short_length(rt: HostRuntime) -> Result<(), Fail> {
 
 #[test]
 fn answers_go_back(rt: HostRuntime) -> Result<(), Fail> {
-    let packet = Packet {
-        target: node(4)?,
-        source: node(9)?,
-        control: 77,
-        line: 4_398_046_511_103,
-        body: Body::Claim,
-    };
+    let packet = packet(9, 4, 77, 4_398_046_511_103, Body::Claim)?;
     let answer = packet.answer(Body::Wbno);
     assert_eq!(rt; answer.target, packet.source);
     assert_eq!(rt; answer.source, packet.target);
