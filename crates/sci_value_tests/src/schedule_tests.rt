@@ -1,6 +1,8 @@
 //! Schedules that are read, and schedules that are refused.
 
-use crate::readers::{Dripping, Many, at, repeated};
+use crate::readers::{
+    Dripping, Many, at, reads_fail_in_turn, refused, refused_lines, refused_nines, repeated,
+};
 use sci_text::*;
 use sci_words::{Act, AskKind, Event, Extent, Op};
 use std::alloc::Global;
@@ -12,10 +14,6 @@ const ONE_STORE: &[u8] =
 
 fn read(alloc: Global, text: &[u8]) -> Result<Schedule, TextFault> {
     read_schedule(alloc, &mut Tap::new(text))
-}
-
-fn fault_of(alloc: Global, text: &[u8]) -> Option<TextFault> {
-    read(alloc, text).err()
 }
 
 fn ask(node: u8, line: u8, kind: AskKind) -> Event {
@@ -86,86 +84,77 @@ fn every_kind_of_ask(rt: HostRuntime) -> Result<(), Fail> {
 #[test]
 fn a_machine_with_no_event(rt: HostRuntime) -> Result<(), Fail> {
     assert_eq!(rt; read(rt.alloc(), b"machine 2 1 1\n")?.events().len(), 0);
-    assert_eq!(rt; fault_of(rt.alloc(), b""), at(1, TextFaultKind::Syntax));
-    assert_eq!(rt;
-        fault_of(rt.alloc(), b"machine 17 1 1\n"),
-        at(1, TextFaultKind::Range)
-    );
-    assert_eq!(rt;
-        fault_of(rt.alloc(), b"reply 0\n"),
-        at(1, TextFaultKind::Syntax)
-    );
     Ok(())
 }
 
+/// Well-formed events that a machine of two nodes, one line and one slot lacks.
+const OUT_OF_RANGE: [&[u8]; 17] = [
+    b"serve 2 0\n",
+    b"serve 0 2\n",
+    b"serve 256 0\n",
+    b"refuse 2 0\n",
+    b"refuse 0 2\n",
+    b"accept 2 0\n",
+    b"accept 0 2\n",
+    b"reply 2\n",
+    b"reply 99999999999999999999999999\n",
+    b"perform 2 0\n",
+    b"perform 0 1\n",
+    b"ask 2 0 mread\n",
+    b"ask 0 1 mread\n",
+    b"issue 2 load 0 0\n",
+    b"issue 0 load 1 0\n",
+    b"issue 0 load 0 8\n",
+    b"issue 0 store 0 0 18446744073709551616\n",
+];
+
+/// Events that break the form of a schedule, though a number may also be out of range.
+const MALFORMED: [&[u8]; 22] = [
+    b"ask 0 0 cwrite\n",
+    b"ask 2 1 cwrite\n",
+    b"ask 0 0 mreads\n",
+    b"ask 0 0 0\n",
+    b"ask 0 0\n",
+    b"ask 0 mread\n",
+    b"ask 0 0  mread\n",
+    b"ask 0 0 Mread\n",
+    b"serve 0\n",
+    b"serve 0 0 0\n",
+    b"serve 0 00\n",
+    b"serve  0 0\n",
+    b"serve 0 0 \n",
+    b"serve 0 0\r\n",
+    b"serve 0 0",
+    b"reply\n",
+    b"reply 0 0\n",
+    b"answer 0\n",
+    b"p 0 load 0 0\n",
+    b"issue 0  load 0 0\n",
+    b"\n",
+    b"machine 2 1 1\n",
+];
+
 #[test]
 fn refused_schedules(rt: HostRuntime) -> Result<(), Fail> {
-    let faults: [(&[u8], TextFaultKind); 39] = [
-        (b"serve 2 0\n", TextFaultKind::Range),
-        (b"serve 0 2\n", TextFaultKind::Range),
-        (b"serve 256 0\n", TextFaultKind::Range),
-        (b"refuse 2 0\n", TextFaultKind::Range),
-        (b"refuse 0 2\n", TextFaultKind::Range),
-        (b"accept 2 0\n", TextFaultKind::Range),
-        (b"accept 0 2\n", TextFaultKind::Range),
-        (b"reply 2\n", TextFaultKind::Range),
-        (b"reply 99999999999999999999999999\n", TextFaultKind::Range),
-        (b"perform 2 0\n", TextFaultKind::Range),
-        (b"perform 0 1\n", TextFaultKind::Range),
-        (b"ask 2 0 mread\n", TextFaultKind::Range),
-        (b"ask 0 1 mread\n", TextFaultKind::Range),
-        (b"issue 2 load 0 0\n", TextFaultKind::Range),
-        (b"issue 0 load 1 0\n", TextFaultKind::Range),
-        (b"issue 0 load 0 8\n", TextFaultKind::Range),
-        (
-            b"issue 0 store 0 0 18446744073709551616\n",
-            TextFaultKind::Range,
-        ),
-        (b"ask 0 0 cwrite\n", TextFaultKind::Syntax),
-        (b"ask 2 1 cwrite\n", TextFaultKind::Syntax),
-        (b"ask 0 0 mreads\n", TextFaultKind::Syntax),
-        (b"ask 0 0 0\n", TextFaultKind::Syntax),
-        (b"ask 0 0\n", TextFaultKind::Syntax),
-        (b"ask 0 mread\n", TextFaultKind::Syntax),
-        (b"ask 0 0  mread\n", TextFaultKind::Syntax),
-        (b"ask 0 0 Mread\n", TextFaultKind::Syntax),
-        (b"serve 0\n", TextFaultKind::Syntax),
-        (b"serve 0 0 0\n", TextFaultKind::Syntax),
-        (b"serve 0 00\n", TextFaultKind::Syntax),
-        (b"serve  0 0\n", TextFaultKind::Syntax),
-        (b"serve 0 0 \n", TextFaultKind::Syntax),
-        (b"serve 0 0\r\n", TextFaultKind::Syntax),
-        (b"serve 0 0", TextFaultKind::Syntax),
-        (b"reply\n", TextFaultKind::Syntax),
-        (b"reply 0 0\n", TextFaultKind::Syntax),
-        (b"answer 0\n", TextFaultKind::Syntax),
-        (b"p 0 load 0 0\n", TextFaultKind::Syntax),
-        (b"issue 0  load 0 0\n", TextFaultKind::Syntax),
-        (b"\n", TextFaultKind::Syntax),
-        (b"machine 2 1 1\n", TextFaultKind::Syntax),
-    ];
-    for (line, kind) in faults {
-        let text = repeated(rt.alloc(), b"machine 2 1 1\n", line, 1)?;
-        assert_eq!(rt; fault_of(rt.alloc(), &text), at(2, kind), "{line:?}");
-    }
-    Ok(())
+    let machine = b"machine 2 1 1\n";
+    refused_lines::<Schedule>(&rt, machine, &MALFORMED, at(2, TextFaultKind::Syntax))?;
+    refused_lines::<Schedule>(&rt, machine, &OUT_OF_RANGE, at(2, TextFaultKind::Range))
 }
 
 #[test]
 fn the_first_faulty_event_is_told(rt: HostRuntime) {
+    refused::<Schedule>(&rt, b"", at(1, TextFaultKind::Syntax));
+    refused::<Schedule>(&rt, b"reply 0\n", at(1, TextFaultKind::Syntax));
+    refused::<Schedule>(&rt, b"machine 17 1 1\n", at(1, TextFaultKind::Range));
     let text = b"machine 1 1 1\nreply 0\nreply 1\nreply\n";
-    assert_eq!(rt; fault_of(rt.alloc(), text), at(3, TextFaultKind::Range));
+    refused::<Schedule>(&rt, text, at(3, TextFaultKind::Range));
 }
 
 #[test]
 fn events_of_256_bytes(rt: HostRuntime) -> Result<(), Fail> {
-    let front: &[u8] = b"machine 1 1 1\nreply ";
-    for (digits, kind) in [(250, TextFaultKind::Range), (251, TextFaultKind::Syntax)] {
-        let mut text = repeated(rt.alloc(), front, b"9", digits)?;
-        text.push(b'\n')?;
-        assert_eq!(rt; fault_of(rt.alloc(), &text), at(2, kind), "{digits} digits");
-    }
-    Ok(())
+    let front = b"machine 1 1 1\nreply ";
+    refused_nines::<Schedule>(&rt, front, 250, at(2, TextFaultKind::Range))?;
+    refused_nines::<Schedule>(&rt, front, 251, at(2, TextFaultKind::Syntax))
 }
 
 #[test]
@@ -173,15 +162,9 @@ fn too_many_events(rt: HostRuntime) -> Result<(), Fail> {
     let mut text = repeated(rt.alloc(), b"machine 2 1 1\n", b"reply 0\n", 500_000)?;
     assert_eq!(rt; read(rt.alloc(), &text)?.events().len(), 500_000);
     text.extend_from_slice(b"reply 2\n")?;
-    assert_eq!(rt;
-        fault_of(rt.alloc(), &text),
-        at(500_002, TextFaultKind::Range)
-    );
+    refused::<Schedule>(&rt, &text, at(500_002, TextFaultKind::Range));
     let text = repeated(rt.alloc(), b"machine 2 1 1\n", b"reply 0\n", 500_001)?;
-    assert_eq!(rt;
-        fault_of(rt.alloc(), &text),
-        at(500_002, TextFaultKind::TooMany)
-    );
+    refused::<Schedule>(&rt, &text, at(500_002, TextFaultKind::TooMany));
     Ok(())
 }
 
@@ -193,18 +176,10 @@ fn too_long_a_schedule(rt: HostRuntime) {
 
 #[test]
 fn each_read_of_a_schedule_fails_in_turn(rt: HostRuntime) -> Result<(), Fail> {
-    let whole = read(rt.alloc(), ONE_STORE)?;
-    for fails_at in 0..=ONE_STORE.len() + 1 {
-        let mut tap = Tap::new(Dripping::new(rt.alloc(), ONE_STORE, fails_at, ErrorKind::Other));
-        let result = read_schedule(rt.alloc(), &mut tap);
-        let fails = fails_at <= ONE_STORE.len();
-        assert_eq!(rt; tap.failed(), fails, "{fails_at}");
-        if fails {
-            assert_eq!(rt; result.err(), at(0, TextFaultKind::Read), "{fails_at}");
-        } else {
-            assert_eq!(rt; result?.events(), whole.events());
-        }
-    }
+    reads_fail_in_turn::<Schedule>(&rt, ONE_STORE);
+    let dripping = Dripping::new(rt.alloc(), ONE_STORE, usize::MAX, ErrorKind::Other);
+    let dripped = read_schedule(rt.alloc(), &mut Tap::new(dripping))?;
+    assert_eq!(rt; dripped.events(), read(rt.alloc(), ONE_STORE)?.events());
     Ok(())
 }
 

@@ -1,6 +1,8 @@
 //! Texts that are read, and texts that are refused, by readers of several kinds.
 
-use crate::readers::{Dripping, KINDS, Many, at, repeated};
+use crate::readers::{
+    Dripping, Many, at, reads_fail_in_turn, refused, refused_lines, refused_nines, repeated,
+};
 use sci_text::*;
 use sci_words::{Act, Extent, LockOp, Op};
 use std::alloc::Global;
@@ -11,10 +13,6 @@ const STORE_THEN_LOAD: &[u8] = b"machine 2 1 1\np 0 store 0 0 7\np 1 load 0 0\n"
 
 fn read(alloc: Global, text: &[u8]) -> Result<Script, TextFault> {
     read_script(alloc, &mut Tap::new(text))
-}
-
-fn fault_of(alloc: Global, text: &[u8]) -> Option<TextFault> {
-    read(alloc, text).err()
 }
 
 fn op(line: u8, word: u8, act: Act) -> Op {
@@ -80,102 +78,88 @@ fn every_operation(rt: HostRuntime) -> Result<(), Fail> {
     Ok(())
 }
 
-#[test]
-fn refused_texts(rt: HostRuntime) {
-    let first: [&[u8]; 15] = [
-        b"",
-        b"\n",
-        b"machine 1 1 1",
-        b"machine 1 1 1\r\n",
-        b"machine 1 1 1 \n",
-        b" machine 1 1 1\n",
-        b"machine  1 1 1\n",
-        b"machine 1 1\n",
-        b"machine 1 1 1 1\n",
-        b"machine 01 1 1\n",
-        b"machine 1 1 +1\n",
-        b"machine 1 1 -1\n",
-        b"Machine 1 1 1\n",
-        b"p 0 load 0 0\n",
-        b"machine 17 1 01\n",
-    ];
-    let sizes: [&[u8]; 6] = [
-        b"machine 17 1 1\n",
-        b"machine 0 1 1\n",
-        b"machine 1 65 1\n",
-        b"machine 1 1 9\n",
-        b"machine 257 1 1\n",
-        b"machine 1 99999999999999999999999999 1\n",
-    ];
-    for (texts, kind) in [
-        (first.as_slice(), TextFaultKind::Syntax),
-        (sizes.as_slice(), TextFaultKind::Range),
-    ] {
-        for text in texts {
-            assert_eq!(rt; fault_of(rt.alloc(), text), at(1, kind), "{text:?}");
-        }
-    }
-}
+/// First lines, or texts of none, that break the form.
+const MALFORMED_MACHINES: [&[u8]; 15] = [
+    b"",
+    b"\n",
+    b"machine 1 1 1",
+    b"machine 1 1 1\r\n",
+    b"machine 1 1 1 \n",
+    b" machine 1 1 1\n",
+    b"machine  1 1 1\n",
+    b"machine 1 1\n",
+    b"machine 1 1 1 1\n",
+    b"machine 01 1 1\n",
+    b"machine 1 1 +1\n",
+    b"machine 1 1 -1\n",
+    b"Machine 1 1 1\n",
+    b"p 0 load 0 0\n",
+    b"machine 17 1 01\n",
+];
+
+/// Well-formed first lines of no machine.
+const MACHINES_OUT_OF_RANGE: [&[u8]; 6] = [
+    b"machine 17 1 1\n",
+    b"machine 0 1 1\n",
+    b"machine 1 65 1\n",
+    b"machine 1 1 9\n",
+    b"machine 257 1 1\n",
+    b"machine 1 99999999999999999999999999 1\n",
+];
+
+/// Operations that break the form of a script, though a number may also be out of range.
+const MALFORMED: [&[u8]; 22] = [
+    b"p 0 store 0 0 07\n",
+    b"p 0 store 0 0 7",
+    b"p 0 store 0 8 07\n",
+    b"p 0  store 0 0 7\n",
+    b"p 0 store  0 0 7\n",
+    b"p 0 store 0 0 7 \n",
+    b"p 0 store 0 0 7\r\n",
+    b"p\t0 load 0 0\n",
+    b"\n",
+    b"machine 1 1 1\n",
+    b"p 0 load 0 0 7\n",
+    b"p 0 store 0 0\n",
+    b"p 0 mask-swap 0 0 1\n",
+    b"p 0 compare-swap 0 0 1\n",
+    b"p 0 fetch-add 0 0 1 2\n",
+    b"p 0 bounded-add 0 0 1\n",
+    b"p 0 wrap-add 0 0 1\n",
+    b"p 0 mask_swap 0 0 1 2\n",
+    b"p 0 little-add 0 0 1\n",
+    b"p 0 loads 0 0\n",
+    b"p 1 load 0\n",
+    b"p 99999999999999999999999 load 0 00\n",
+];
+
+/// Well-formed operations that a machine of one node, one line and one slot lacks.
+const OUT_OF_RANGE: [&[u8]; 10] = [
+    b"p 0 store 0 8 1\n",
+    b"p 1 load 0 0\n",
+    b"p 256 load 0 0\n",
+    b"p 0 load 1 0\n",
+    b"p 0 load 256 0\n",
+    b"p 0 load 0 8\n",
+    b"p 0 load 0 256\n",
+    b"p 0 store 0 0 18446744073709551616\n",
+    b"p 0 store 0 0 99999999999999999999999999\n",
+    b"p 0 wrap-add 0 0 18446744073709551616 1\n",
+];
 
 #[test]
-fn refused_operations(rt: HostRuntime) -> Result<(), Fail> {
-    let faults: [(&[u8], TextFaultKind); 32] = [
-        (b"p 0 store 0 0 07\n", TextFaultKind::Syntax),
-        (b"p 0 store 0 0 7", TextFaultKind::Syntax),
-        (b"p 0 store 0 8 07\n", TextFaultKind::Syntax),
-        (b"p 0  store 0 0 7\n", TextFaultKind::Syntax),
-        (b"p 0 store  0 0 7\n", TextFaultKind::Syntax),
-        (b"p 0 store 0 0 7 \n", TextFaultKind::Syntax),
-        (b"p 0 store 0 0 7\r\n", TextFaultKind::Syntax),
-        (b"p\t0 load 0 0\n", TextFaultKind::Syntax),
-        (b"\n", TextFaultKind::Syntax),
-        (b"machine 1 1 1\n", TextFaultKind::Syntax),
-        (b"p 0 load 0 0 7\n", TextFaultKind::Syntax),
-        (b"p 0 store 0 0\n", TextFaultKind::Syntax),
-        (b"p 0 mask-swap 0 0 1\n", TextFaultKind::Syntax),
-        (b"p 0 compare-swap 0 0 1\n", TextFaultKind::Syntax),
-        (b"p 0 fetch-add 0 0 1 2\n", TextFaultKind::Syntax),
-        (b"p 0 bounded-add 0 0 1\n", TextFaultKind::Syntax),
-        (b"p 0 wrap-add 0 0 1\n", TextFaultKind::Syntax),
-        (b"p 0 mask_swap 0 0 1 2\n", TextFaultKind::Syntax),
-        (b"p 0 little-add 0 0 1\n", TextFaultKind::Syntax),
-        (b"p 0 loads 0 0\n", TextFaultKind::Syntax),
-        (b"p 1 load 0\n", TextFaultKind::Syntax),
-        (
-            b"p 99999999999999999999999 load 0 00\n",
-            TextFaultKind::Syntax,
-        ),
-        (b"p 0 store 0 8 1\n", TextFaultKind::Range),
-        (b"p 1 load 0 0\n", TextFaultKind::Range),
-        (b"p 256 load 0 0\n", TextFaultKind::Range),
-        (b"p 0 load 1 0\n", TextFaultKind::Range),
-        (b"p 0 load 256 0\n", TextFaultKind::Range),
-        (b"p 0 load 0 8\n", TextFaultKind::Range),
-        (b"p 0 load 0 256\n", TextFaultKind::Range),
-        (
-            b"p 0 store 0 0 18446744073709551616\n",
-            TextFaultKind::Range,
-        ),
-        (
-            b"p 0 store 0 0 99999999999999999999999999\n",
-            TextFaultKind::Range,
-        ),
-        (
-            b"p 0 wrap-add 0 0 18446744073709551616 1\n",
-            TextFaultKind::Range,
-        ),
-    ];
-    for (line, kind) in faults {
-        let text = repeated(rt.alloc(), b"machine 1 1 1\n", line, 1)?;
-        assert_eq!(rt; fault_of(rt.alloc(), &text), at(2, kind), "{line:?}");
-    }
-    Ok(())
+fn refused_texts(rt: HostRuntime) -> Result<(), Fail> {
+    let (malformed, out_of_range) = (TextFaultKind::Syntax, TextFaultKind::Range);
+    refused_lines::<Script>(&rt, b"", &MALFORMED_MACHINES, at(1, malformed))?;
+    refused_lines::<Script>(&rt, b"", &MACHINES_OUT_OF_RANGE, at(1, out_of_range))?;
+    refused_lines::<Script>(&rt, b"machine 1 1 1\n", &MALFORMED, at(2, malformed))?;
+    refused_lines::<Script>(&rt, b"machine 1 1 1\n", &OUT_OF_RANGE, at(2, out_of_range))
 }
 
 #[test]
 fn the_first_faulty_line_is_told(rt: HostRuntime) {
     let text = b"machine 1 1 1\np 0 load 0 0\np 0 load 0 8\np 0 load\n";
-    assert_eq!(rt; fault_of(rt.alloc(), text), at(3, TextFaultKind::Range));
+    refused::<Script>(&rt, text, at(3, TextFaultKind::Range));
 }
 
 #[test]
@@ -189,9 +173,7 @@ fn lines_of_256_bytes(rt: HostRuntime) -> Result<(), Fail> {
         (machine, 245, at(1, TextFaultKind::Syntax)),
     ];
     for (front, digits, fault) in table {
-        let mut text = repeated(rt.alloc(), front, b"9", digits)?;
-        text.push(b'\n')?;
-        assert_eq!(rt; fault_of(rt.alloc(), &text), fault, "{digits} digits");
+        refused_nines::<Script>(&rt, front, digits, fault)?;
     }
     Ok(())
 }
@@ -205,10 +187,7 @@ fn limits(rt: HostRuntime) -> Result<(), Fail> {
     text.extend_from_slice(b"p 1 load 0 0\n")?;
     assert_eq!(rt; read(rt.alloc(), &text)?.operations().len(), 65_537);
     text.extend_from_slice(b"p 0 load 0 0\n")?;
-    assert_eq!(rt;
-        fault_of(rt.alloc(), &text),
-        at(65_539, TextFaultKind::TooMany)
-    );
+    refused::<Script>(&rt, &text, at(65_539, TextFaultKind::TooMany));
     Ok(())
 }
 
@@ -244,19 +223,7 @@ fn a_reader_of_one_byte_at_a_time(rt: HostRuntime) -> Result<(), Fail> {
 
 #[test]
 fn each_read_fails_in_turn(rt: HostRuntime) {
-    for with in KINDS {
-        for fails_at in 0..=STORE_THEN_LOAD.len() + 1 {
-            let mut tap = Tap::new(Dripping::new(rt.alloc(), STORE_THEN_LOAD, fails_at, with));
-            let result = read_script(rt.alloc(), &mut tap);
-            let fails = fails_at <= STORE_THEN_LOAD.len();
-            assert_eq!(rt; tap.failed(), fails, "{fails_at}");
-            if fails {
-                assert_eq!(rt; result.err(), at(0, TextFaultKind::Read), "{fails_at}");
-            } else {
-                assert!(rt; result.is_ok());
-            }
-        }
-    }
+    reads_fail_in_turn::<Script>(&rt, STORE_THEN_LOAD);
 }
 
 #[test]

@@ -1,7 +1,7 @@
 //! Calls whose allocations are refused. With every allocation granted each gives its answer. `make faults` refuses one
 //! allocation in turn: the call that needed it says so, and the same call then gives the answer.
 
-use sci_history::{Last, Logs};
+use crate::readers::{MEMORY, again};
 use sci_text::*;
 use sci_words::{Act, Event, Extent, Op};
 use std::io;
@@ -18,48 +18,9 @@ const SCHEDULE: &[u8] =
 const LOG: &[u8] =
     b"log 2 2 1\nlast 0 @1 7 0 0 0 0 0 0 0\n0 0 store 0 0 7 = - @1\n1 0 load 0 0 = 7 @1\n";
 
-/// What a call says whose allocation was refused.
-const MEMORY: TextFault = TextFault {
-    line: 0,
-    kind: TextFaultKind::Memory,
-};
-
-/// The script of the text. It is read again if memory is refused.
-fn script(rt: &(impl Abort + AllocGlobal)) -> Result<Script, TextFault> {
-    match read_script(rt.alloc(), &mut Tap::new(SCRIPT)) {
-        Ok(script) => Ok(script),
-        Err(fault) => {
-            assert_eq!(rt; fault, MEMORY);
-            read_script(rt.alloc(), &mut Tap::new(SCRIPT))
-        }
-    }
-}
-
-/// The schedule of the text. It is read again if memory is refused.
-fn schedule(rt: &(impl Abort + AllocGlobal)) -> Result<Schedule, TextFault> {
-    match read_schedule(rt.alloc(), &mut Tap::new(SCHEDULE)) {
-        Ok(schedule) => Ok(schedule),
-        Err(fault) => {
-            assert_eq!(rt; fault, MEMORY);
-            read_schedule(rt.alloc(), &mut Tap::new(SCHEDULE))
-        }
-    }
-}
-
-/// The logs of the text. They are read again if memory is refused.
-fn logs(rt: &(impl Abort + AllocGlobal)) -> Result<(u8, Logs, Last), TextFault> {
-    match read_logs(rt.alloc(), &mut Tap::new(LOG)) {
-        Ok(read) => Ok(read),
-        Err(fault) => {
-            assert_eq!(rt; fault, MEMORY);
-            read_logs(rt.alloc(), &mut Tap::new(LOG))
-        }
-    }
-}
-
 #[test]
 fn memory_for_a_script(rt: HostRuntime) -> Result<(), Fail> {
-    let script = script(&rt)?;
+    let script = again!(rt; read_script(rt.alloc(), &mut Tap::new(SCRIPT)), MEMORY)?;
     assert_eq!(rt; Some(script.extent()), Extent::new(2, 1, 1));
     assert_eq!(rt; script.operations().len(), 9);
     Ok(())
@@ -105,7 +66,7 @@ fn expect_written(rt: &impl Abort, room: &Room, text: &[u8]) {
 // A refused writing has written nothing, so that the text is written once in the end.
 #[test]
 fn memory_for_writing_a_schedule(rt: HostRuntime) -> Result<(), Fail> {
-    let schedule = schedule(&rt)?;
+    let schedule = again!(rt; read_schedule(rt.alloc(), &mut Tap::new(SCHEDULE)), MEMORY)?;
     assert_eq!(rt; schedule.events().len(), 6);
     let mut room = Room::new();
     if let Err(fault) = write_schedule(rt.alloc(), &mut Tap::new(&mut room), &schedule) {
@@ -119,7 +80,7 @@ fn memory_for_writing_a_schedule(rt: HostRuntime) -> Result<(), Fail> {
 
 #[test]
 fn memory_for_writing_logs(rt: HostRuntime) -> Result<(), Fail> {
-    let (nodes, logs, last) = logs(&rt)?;
+    let (nodes, logs, last) = again!(rt; read_logs(rt.alloc(), &mut Tap::new(LOG)), MEMORY)?;
     let mut room = Room::new();
     if let Err(fault) = write_logs(rt.alloc(), &mut Tap::new(&mut room), nodes, &logs, &last) {
         assert_eq!(rt; fault, MEMORY);
