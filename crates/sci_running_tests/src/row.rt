@@ -1,6 +1,7 @@
 //! Rows of nodes that run by themselves, as texts.
 //!
-//! A row is a text of commands with `;` between them. N is a node, L a line:
+//! A row is a text of commands, on lines or with `;` between them. A line that begins with `//` is a comment. N is a node,
+//! L a line:
 //!
 //! - `submit N OPERATION serial S`: node N submits the operation, as a script has it, and it gets this serial.
 //! - `submit N OPERATION refused CAUSE`: it is refused, for a cause of `SubmitFault`.
@@ -25,19 +26,27 @@ const MOST_WORDS: usize = 20;
 
 /// Does what a row says, command by command. An error names the command that ends otherwise.
 pub(crate) fn play<N: Nodes>(alloc: Global, nodes: &mut N, row: &str) -> Result<(), Fail> {
-    for text in row.split(';') {
-        let mut command = Command {
-            text,
-            words: text.split_whitespace(),
-        };
-        match command.word()? {
-            "submit" => submit(nodes, &mut command)?,
-            "perform" => perform(alloc, nodes, &mut command)?,
-            "turn" => turn(nodes, &mut command)?,
-            _ => return Err(command.wrong("no such command")),
+    for line in row.trim().lines() {
+        if !line.trim().starts_with("//") {
+            for text in line.split(';') {
+                play_command(alloc, nodes, text)?;
+            }
         }
     }
     Ok(())
+}
+
+fn play_command<N: Nodes>(alloc: Global, nodes: &mut N, text: &str) -> Result<(), Fail> {
+    let mut command = Command {
+        text,
+        words: text.split_whitespace(),
+    };
+    match command.word()? {
+        "submit" => submit(nodes, &mut command),
+        "perform" => perform(alloc, nodes, &mut command),
+        "turn" => turn(nodes, &mut command),
+        _ => Err(command.wrong("no such command")),
+    }
 }
 
 /// A command of a row, and its words that are left.

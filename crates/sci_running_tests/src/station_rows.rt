@@ -12,8 +12,10 @@ use std::test::*;
 use std::thread;
 
 /// Node 0, which is the home, stores. Node 1 asks it for a copy.
-const UP_TO_THE_GRANT: &str =
-    "submit 0 store 0 0 7 serial 0; turn 0; turn 0; turn 0; perform 0 0 = 0 0 store 0 0 7 = - @1; submit 1 load 0 0 serial 0; turn 1; turn 0; turn 1";
+const UP_TO_THE_GRANT: &str = "
+    submit 0 store 0 0 7 serial 0; turn 0; turn 0; turn 0; perform 0 0 = 0 0 store 0 0 7 = - @1
+    submit 1 load 0 0 serial 0; turn 1; turn 0; turn 1
+";
 
 /// Node 0 grants the copy, and node 1 loads it.
 const THE_GRANT: &str = "turn 0; turn 1; perform 1 0 = 1 0 load 0 0 = 7 @1";
@@ -30,8 +32,10 @@ fn stations_by_hand(rt: HostRuntime) -> Result<(), Fail> {
 }
 
 /// Two transactions of one node at a time, on two lines. The later load is performed first.
-const TWO_TRANSACTIONS: &str =
-    "submit 1 load 0 0 serial 0; submit 1 load 2 0 serial 1; turn 1; turn 0 served 2; turn 1 accepted 2 ready 0; perform 1 2 = 1 1 load 2 0 = 0 @0; perform 1 0 = 1 0 load 0 0 = 0 @0";
+const TWO_TRANSACTIONS: &str = "
+    submit 1 load 0 0 serial 0; submit 1 load 2 0 serial 1; turn 1; turn 0 served 2; turn 1 accepted 2 ready 0
+    perform 1 2 = 1 1 load 2 0 = 0 @0; perform 1 0 = 1 0 load 0 0 = 0 @0
+";
 
 /// The log of node 1 after two transactions.
 const TWO_LOADS: &str =
@@ -101,12 +105,17 @@ fn a_station_moves_into_a_thread(rt: HostRuntime) -> Result<(), Fail> {
 }
 
 /// The causes for which a node refuses an operation, each with nothing changed: what is submitted next gets the next serial.
-const REFUSALS: &str =
-    "submit 0 load 64 0 refused NoSuchLine; submit 0 load 0 8 refused NoSuchWord; submit 0 load 0 0 serial 0; turn 0; turn 0; turn 0; perform 0 0 = 0 0 load 0 0 = 0 @0; submit 0 load 0 0 serial 1; submit 0 load 0 0 refused LineTaken; perform 0 0 = 0 1 load 0 0 = 0 @0";
+const REFUSALS: &str = "
+    submit 0 load 64 0 refused NoSuchLine; submit 0 load 0 8 refused NoSuchWord; submit 0 load 0 0 serial 0; turn 0
+    turn 0; turn 0; perform 0 0 = 0 0 load 0 0 = 0 @0; submit 0 load 0 0 serial 1
+    submit 0 load 0 0 refused LineTaken; perform 0 0 = 0 1 load 0 0 = 0 @0
+";
 
 /// The causes when as many operations were submitted as there may be. While the last one is pending, its line is taken first.
-const FULL: &str =
-    "submit 0 load 0 0 serial 65535; submit 0 load 0 0 refused LineTaken; submit 0 load 1 0 refused LogFull; perform 0 0 = 0 65535 load 0 0 = 65533 @65533; submit 0 load 0 0 refused LogFull";
+const FULL: &str = "
+    submit 0 load 0 0 serial 65535; submit 0 load 0 0 refused LineTaken; submit 0 load 1 0 refused LogFull
+    perform 0 0 = 0 65535 load 0 0 = 65533 @65533; submit 0 load 0 0 refused LogFull
+";
 
 /// Fills the log of node 0, of which two operations are done, but for the last one.
 fn fill<N: Nodes>(nodes: &mut N) -> Result<(), Fail> {
