@@ -4,7 +4,7 @@ ghost use Rattle.std.specs.Prelude.{IfSome};
 ghost use Rattle.sci_lanes.specs.Ends.{IsNextToTake};
 ghost use Rattle.sci_station.specs.Ends.{HasRead, IsStill};
 
-use sci_core::LaneKind;
+use sci_core::{LaneKind, node_of};
 use sci_history::{Last, Logs};
 use sci_lanes::{CellId, FinishFault, LaneEnd, Lanes};
 use sci_packets::{Body, Packet};
@@ -76,19 +76,6 @@ impl ByHand {
 ghost use Rattle.std.specs.Prelude.{◌≡◌};
 ghost use Rattle.sci_core.specs.Node.{is_setback};
 ghost use Rattle.sci_station.specs.Ends.{IsSameEnd};
-
-/// The node of an event.
-fn node_of(event: &Event) -> u8 {
-    match event {
-        Event::Issue { node, .. }
-        | Event::Perform { node, .. }
-        | Event::Ask { node, .. }
-        | Event::Serve { node, .. }
-        | Event::Refuse { node, .. }
-        | Event::Reply { node }
-        | Event::Accept { node, .. } => *node,
-    }
-}
 
 /// Makes an event of this node. An error if it can't be made, or there is no room for what it sends.
 pub(crate) fn make(end: &mut LaneEnd, event: &Event) -> Result<(), &'static str>
