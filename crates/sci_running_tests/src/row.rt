@@ -1,7 +1,7 @@
 //! Rows of nodes that run by themselves, as texts.
 //!
-//! A row is a text of commands, on lines or with `;` between them. A line that begins with `//` is a comment. N is a node,
-//! L a line:
+//! A row is a text of commands, on lines or with `;` between them. A line that begins with `//` is a comment. N is a
+//! node, L a line:
 //!
 //! - `submit N OPERATION serial S`: node N submits the operation, as a script has it, and it gets this serial.
 //! - `submit N OPERATION refused CAUSE`: it is refused, for a cause of `SubmitFault`.
@@ -29,7 +29,7 @@ pub(crate) fn play<N: Nodes>(alloc: Global, nodes: &mut N, row: &str) -> Result<
     for line in row.trim().lines() {
         if !line.trim().starts_with("//") {
             for text in line.split(';') {
-                play_command(alloc, nodes, text)?;
+                play_command(alloc, nodes, text.trim())?;
             }
         }
     }

@@ -5,8 +5,8 @@ use crate::running::Running;
 use sci_text::schedule_of;
 use std::test::*;
 
-/// Plays rows of stations, each of which may submit six operations, after these first commands. Each row begins with a line
-/// `row NAME` and the first line of a schedule, `machine NODES LINES SLOTS`. An error names the row.
+/// Plays rows of stations, each of which may submit six operations, after these first commands. Each row begins with a
+/// line `row NAME` and the first line of a schedule, `machine NODES LINES SLOTS`. An error names the row.
 fn stations(rt: &HostRuntime, first: &str, rows: &str) -> Result<(), Fail> {
     let alloc = rt.alloc();
     let (_blank, rows) = rows.split_once("row ").ok_or("no row")?;
