@@ -148,8 +148,8 @@ fn happened(counts: &Counts, each: &[Happening], least: u64) -> Result<(), Fail>
     Ok(())
 }
 
-/// An error if a walk of these goes wrong, or if in them all an operation or something else happens less often. The seed of
-/// a walk that goes wrong is printed.
+/// An error if a walk of these goes wrong, or if in them all an operation or something else happens less often. The
+/// seed of a walk that goes wrong is printed.
 fn walk_all(
     rt: &(impl Eprint + AllocGlobal),
     all: &[Walks],
