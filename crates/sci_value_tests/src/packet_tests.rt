@@ -182,19 +182,14 @@ fn packets(rt: HostRuntime) -> Result<(), Fail> {
 }
 
 #[test]
-fn mdata(rt: HostRuntime) -> Result<(), Fail> {
-    let body = Body::Mdata(Stamped {
+fn mdata_and_fdata(rt: HostRuntime) -> Result<(), Fail> {
+    let mdata = Body::Mdata(Stamped {
         line: Line::zero().with(0, 7),
         version: 1,
     });
     let words = one_seven(0x0001_0101_0000_FFFF, 0x0040_FFFF);
-    both_ways(&rt, packet(0, 1, 65535, 1, body)?, &words, 11);
-    Ok(())
-}
-
-#[test]
-fn fdata(rt: HostRuntime) -> Result<(), Fail> {
-    let body = Body::Fdata {
+    both_ways(&rt, packet(0, 1, 65535, 1, mdata)?, &words, 11);
+    let fdata = Body::Fdata {
         old_head: Some(node(0)?),
         contents: Stamped {
             line: Line::zero(),
@@ -202,7 +197,7 @@ fn fdata(rt: HostRuntime) -> Result<(), Fail> {
         },
     };
     let words = zeros(0x0001_010A_0000_0002, 0x00C0_0000);
-    both_ways(&rt, packet(0, 1, 2, 3, body)?, &words, 11);
+    both_ways(&rt, packet(0, 1, 2, 3, fdata)?, &words, 11);
     Ok(())
 }
 
@@ -320,7 +315,13 @@ fn every_short_length(rt: HostRuntime) -> Result<(), Fail> {
 
 #[test]
 fn answers_go_back(rt: HostRuntime) -> Result<(), Fail> {
-    let packet = packet(9, 4, 77, 4_398_046_511_103, Body::Claim)?;
+    let packet = Packet {
+        target: node(4)?,
+        source: node(9)?,
+        control: 77,
+        line: 4_398_046_511_103,
+        body: Body::Claim,
+    };
     let answer = packet.answer(Body::Wbno);
     assert_eq!(rt; answer.target, packet.source);
     assert_eq!(rt; answer.source, packet.target);

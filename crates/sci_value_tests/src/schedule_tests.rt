@@ -158,20 +158,16 @@ fn events_of_256_bytes(rt: HostRuntime) -> Result<(), Fail> {
 }
 
 #[test]
-fn too_many_events(rt: HostRuntime) -> Result<(), Fail> {
+fn too_many_events_or_bytes(rt: HostRuntime) -> Result<(), Fail> {
     let mut text = repeated(rt.alloc(), b"machine 2 1 1\n", b"reply 0\n", 500_000)?;
     assert_eq!(rt; read(rt.alloc(), &text)?.events().len(), 500_000);
     text.extend_from_slice(b"reply 2\n")?;
     refused::<Schedule>(&rt, &text, at(500_002, TextFaultKind::Range));
     let text = repeated(rt.alloc(), b"machine 2 1 1\n", b"reply 0\n", 500_001)?;
     refused::<Schedule>(&rt, &text, at(500_002, TextFaultKind::TooMany));
-    Ok(())
-}
-
-#[test]
-fn too_long_a_schedule(rt: HostRuntime) {
     let more = read_schedule(rt.alloc(), &mut Tap::new(Many(134_217_729)));
     assert_eq!(rt; more.err(), at(0, TextFaultKind::TooMany));
+    Ok(())
 }
 
 #[test]
