@@ -5,7 +5,7 @@ ghost use Rattle.sci_words.specs.declared.limits.TheConstants.{MAX_NODES};
 ghost use Rattle.sci_history.specs.Placed.{log_of};
 ghost use Rattle.sci_text.specs.LogValue.{IsSize};
 ghost use Rattle.sci_c_values.specs.declared.status.TheConstants.{SCI_FULL, SCI_MISUSE, SCI_NOT_ENABLED, SCI_NO_MEMORY, SCI_OK, SCI_RANGE};
-ghost use Rattle.sci_c_values.specs.Entry.{SaysNoEntry};
+ghost use Rattle.sci_c_values.specs.{Entry.{SaysEntry}, Saying.{SaysNone}};
 ghost use Rattle.sci_c.specs.{Closing.{IsClosed, IsOpened}, Journal.{FitsJournal, empty_journal}};
 ghost use Rattle.sci_c.specs.{Kinds.{OnLogs, logs_in}, Logs.{IsEntryAt, IsFull, IsLastOf, IsLastSet, IsPushed}};
 ghost use Rattle.sci_c.specs.declared.thing.Kind.TheVariants as kind;
@@ -54,7 +54,7 @@ pub extern "C" fn sci_logs_push(object: &mut SciObject, entry: &SciEntry) -> u32
     ensures pushed { result ≡ SCI_OK → IsPushed object.old.value entry.now object.new.value }
     ensures full { result ≡ SCI_FULL → OnLogs object.old.value (IsFull entry.now) }
     ensures range { result ≡ SCI_RANGE → OnLogs object.old.value
-        (λ journal. FitsJournal journal entry.now → SaysNoEntry entry.now) }
+        (λ journal. FitsJournal journal entry.now → SaysNone (SaysEntry entry.now)) }
     ensures memory { result ≡ SCI_NO_MEMORY → OnLogs object.old.value
         (λ journal. FitsJournal journal entry.now) }
     ensures misuse { result ≡ SCI_MISUSE → logs_in object.old.value ≡ None }

@@ -3,7 +3,7 @@
 ghost use Rattle.std.specs.Prelude.{◌≡◌, ◌≢◌, ◌≤◌, ◌⊎◌, Some, None, IsSome};
 ghost use Rattle.sci_core.specs.Size.{IsMachineSize};
 ghost use Rattle.sci_c_values.specs.declared.status.TheConstants.{SCI_MISUSE, SCI_NOT_ENABLED, SCI_NO_MEMORY, SCI_OK, SCI_RANGE};
-ghost use Rattle.sci_c_values.specs.Operation.{SaysNoEvent};
+ghost use Rattle.sci_c_values.specs.{Operation.{SaysEvent}, Saying.{SaysNone}};
 ghost use Rattle.sci_c.specs.{Closing.{IsClosed, IsOpened}, Kinds.{OnMachine, machine_in}};
 ghost use Rattle.sci_c.specs.Machine.{AreLogsOf, HasNoAuthority, IsAuthorityOf, IsMachineLast, IsNotEnabled, IsOpening, IsPartOfSettling, IsSending};
 ghost use Rattle.sci_c.specs.Machine.{IsSettling, IsStep, size};
@@ -55,7 +55,7 @@ pub extern "C" fn sci_machine_step(object: &mut SciObject, event: &SciEvent) -> 
     ensures done { result ≡ SCI_OK → IsStep object.old.value event.now object.new.value }
     ensures refused { result ≡ SCI_NOT_ENABLED → IsNotEnabled object.old.value event.now }
     ensures memory { result ≡ SCI_NO_MEMORY → IsSending object.old.value event.now }
-    ensures range { result ≡ SCI_RANGE → SaysNoEvent event.now }
+    ensures range { result ≡ SCI_RANGE → SaysNone (SaysEvent event.now) }
     ensures range_machine { result ≡ SCI_RANGE → IsSome (machine_in object.old.value) }
     ensures misuse { result ≡ SCI_MISUSE → machine_in object.old.value ≡ None }
     ensures status { result ≤ SCI_MISUSE }

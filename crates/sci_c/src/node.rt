@@ -5,7 +5,7 @@ ghost use Rattle.sci_home.specs.Serving.{current_of};
 ghost use Rattle.sci_core.specs.Node.{IsAtRest, home_of, lines_of, node_performing, node_replying, opening_node, pending_on};
 ghost use Rattle.sci_core.specs.Size.{IsMachineSize};
 ghost use Rattle.sci_c_values.specs.declared.status.TheConstants.{SCI_MISUSE, SCI_NOT_ENABLED, SCI_NO_MEMORY, SCI_OK, SCI_RANGE};
-ghost use Rattle.sci_c_values.specs.Operation.{SaysNoOp};
+ghost use Rattle.sci_c_values.specs.{Operation.{SaysOp}, Saying.{SaysNone}};
 ghost use Rattle.sci_words.specs.declared.event.TheConstants.AskKind.{ALL};
 ghost use Rattle.sci_c.specs.{Closing.{IsClosed, IsOpened}, Kinds.{OnNode, node_in}, Machine.{size}};
 ghost use Rattle.sci_c.specs.Node.{HasNoContents, IsAsk, IsHomeContents, IsIssue, IsNoAsk, IsNoIssue, IsPendingOf, IsPerformed, IsReply};
@@ -67,7 +67,7 @@ pub extern "C" fn sci_node_issue(object: &mut SciObject, op: &SciOp, serial: &mu
     ensures done { result ≡ SCI_OK
         → IsIssue object.old.value op.now serial.new object.new.value }
     ensures refused { result ≡ SCI_NOT_ENABLED → IsNoIssue object.old.value op.now }
-    ensures range { result ≡ SCI_RANGE → SaysNoOp op.now }
+    ensures range { result ≡ SCI_RANGE → SaysNone (SaysOp op.now) }
     ensures range_node { result ≡ SCI_RANGE → IsSome (node_in object.old.value) }
     ensures misuse { result ≡ SCI_MISUSE → node_in object.old.value ≡ None }
     ensures status { (result ≤ SCI_MISUSE) × (result ≢ SCI_NO_MEMORY) }

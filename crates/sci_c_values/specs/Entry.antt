@@ -30,9 +30,6 @@ abbrev pub SaysReply : SciEntry → Reply → Type 0
 SaysReply c Stored = c.has_word ≡ 0
 SaysReply c (Got word) = (c.has_word ≡ 1) × (c.word ≡ word)
 
-abbrev pub SaysNoReply : SciEntry → Type 0
-SaysNoReply c = (reply : Reply) → SaysReply c reply → ⊥
-
 -- a struct says this entry
 pub record SaysEntry (c : SciEntry) (entry : Entry) : Type 0 where
   pub node : c.node ≡ entry.node
@@ -40,6 +37,3 @@ pub record SaysEntry (c : SciEntry) (entry : Entry) : Type 0 where
   pub op : SaysOp c.op entry.op
   pub reply : SaysReply c entry.reply
   pub version : c.version ≡ entry.version
-
-abbrev pub SaysNoEntry : SciEntry → Type 0
-SaysNoEntry c = (entry : Entry) → SaysEntry c entry → ⊥

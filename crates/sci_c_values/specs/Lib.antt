@@ -2,5 +2,6 @@
 pub mod Entry
 pub mod Operation
 pub mod Packet
+pub mod Saying
 pub mod Stamped
 pub mod Verdict

@@ -41,28 +41,19 @@ op_struct op = record { act = act_number op.act; line = op.line; word = op.word;
 abbrev pub SaysOperands : SciOp → Act → Type 0
 SaysOperands c Load = Unit {0}
 SaysOperands c (Store datum) = c.datum ≡ datum
-SaysOperands c (Lock (MaskSwap arg datum)) = (c.arg ≡ arg) × (c.datum ≡ datum)
-SaysOperands c (Lock (CompareSwap arg datum)) = (c.arg ≡ arg) × (c.datum ≡ datum)
 SaysOperands c (Lock (FetchAdd datum)) = c.datum ≡ datum
-SaysOperands c (Lock (BoundedAdd arg datum)) = (c.arg ≡ arg) × (c.datum ≡ datum)
-SaysOperands c (Lock (WrapAdd arg datum)) = (c.arg ≡ arg) × (c.datum ≡ datum)
+SaysOperands c act = (c.arg ≡ arg_of act) × (c.datum ≡ datum_of act)
 
 -- a struct says this act
 pub record SaysAct (c : SciOp) (act : Act) : Type 0 where
   pub number : c.act ≡ act_number act
   pub operands : SaysOperands c act
 
-abbrev pub SaysNoAct : SciOp → Type 0
-SaysNoAct c = (act : Act) → SaysAct c act → ⊥
-
 -- a struct says this operation
 pub record SaysOp (c : SciOp) (op : Op) : Type 0 where
   pub act : SaysAct c op.act
   pub line : c.line ≡ op.line
   pub word : c.word ≡ op.word
-
-abbrev pub SaysNoOp : SciOp → Type 0
-SaysNoOp c = (op : Op) → SaysOp c op → ⊥
 
 abbrev pub event_number : Event → ℕ
 event_number (Issue n op) = 0
@@ -87,6 +78,3 @@ SaysParts c (Accept from n) = (c.from ≡ from) × (c.node ≡ n)
 pub record SaysEvent (c : SciEvent) (event : Event) : Type 0 where
   pub number : c.kind ≡ event_number event
   pub parts : SaysParts c event
-
-abbrev pub SaysNoEvent : SciEvent → Type 0
-SaysNoEvent c = (event : Event) → SaysEvent c event → ⊥

@@ -3,7 +3,7 @@ use Rattle.std.specs.Prelude.{◌≡◌, ℕ, ◌<◌, ◌≤◌, ◌+◌, ◌*�
 use Rattle.sci_packets.specs.declared.fault.PacketFault.{PacketFault}
 use Rattle.sci_packets.specs.declared.fault.PacketFault.TheVariants.{Short, UnknownCommand, BadOffset, BadIdentifier}
 use Rattle.sci_packets.specs.{declared.packet.Packet.{Packet}, Fault.{fault_of_words}, Spelling.{SpellsInWords}}
-use Rattle.sci_c_values.specs.declared.packet.{SciPacket.{SciPacket}, PacketRefusal.{PacketRefusal}}
+use Rattle.sci_c_values.specs.{declared.packet.{SciPacket.{SciPacket}, PacketRefusal.{PacketRefusal}}, Saying.{SaysNone}}
 use Rattle.sci_c_values.specs.declared.status.TheConstants.{SCI_SHORT, SCI_UNKNOWN_COMMAND, SCI_BAD_OFFSET, SCI_BAD_IDENTIFIER}
 use Rattle.sci_c_values.specs.declared.packet.PacketRefusal.TheVariants as refusal
 
@@ -35,9 +35,6 @@ pub record SaysPacket (c : SciPacket) (p : Packet) : Type 0 where
   pub within : IsInRange c
   pub words : SpellsInWords p (struct_words c)
 
-abbrev pub SaysNoPacket : SciPacket → Type 0
-SaysNoPacket c = (p : Packet) → SaysPacket c p → ⊥
-
 -- contents that the struct doesn't have are 0
 pub record IsPlain (c : SciPacket) : Type 0 where
   pub reserved : c.reserved ≡ 0
@@ -46,5 +43,5 @@ pub record IsPlain (c : SciPacket) : Type 0 where
 
 -- a struct that says no packet, and the first fault of its words, if it has one
 abbrev pub IsRefusalOf : SciPacket → PacketRefusal → Type 0
-IsRefusalOf c refusal.Range = SaysNoPacket c
-IsRefusalOf c (refusal.Fault fault) = SaysNoPacket c × IsInRange c × (fault_of_words (struct_words c) ≡ Some fault)
+IsRefusalOf c refusal.Range = SaysNone (SaysPacket c)
+IsRefusalOf c (refusal.Fault fault) = SaysNone (SaysPacket c) × IsInRange c × (fault_of_words (struct_words c) ≡ Some fault)

@@ -1,7 +1,7 @@
 //! Entries of logs.
 
 ghost use Rattle.std.specs.Prelude.{◌≡◌, MatchOption};
-ghost use Rattle.sci_c_values.specs.Entry.{SaysEntry, SaysNoEntry, SaysNoReply, SaysReply, entry_struct};
+ghost use Rattle.sci_c_values.specs.{Entry.{SaysEntry, SaysReply, entry_struct}, Saying.{SaysNone}};
 
 use crate::operation::{SciOp, op_in, op_out};
 use sci_history::Entry;
@@ -21,7 +21,7 @@ pub struct SciEntry {
 }
 
 fn reply_in(entry: &SciEntry) -> Option<Reply>
-    ensures { MatchOption result (SaysNoReply entry.now) (SaysReply entry.now) }
+    ensures { MatchOption result (SaysNone (SaysReply entry.now)) (SaysReply entry.now) }
 {
     match entry.has_word {
         0 => Some(Reply::Stored),
@@ -32,18 +32,15 @@ fn reply_in(entry: &SciEntry) -> Option<Reply>
 
 /// The entry that the struct says, or None if it says none.
 pub fn entry_in(entry: &SciEntry) -> Option<Entry>
-    ensures { MatchOption result (SaysNoEntry entry.now) (SaysEntry entry.now) }
+    ensures { MatchOption result (SaysNone (SaysEntry entry.now)) (SaysEntry entry.now) }
 {
-    match (op_in(&entry.op), reply_in(entry)) {
-        (Some(op), Some(reply)) => Some(Entry {
-            node: entry.node,
-            serial: entry.serial,
-            op,
-            reply,
-            version: entry.version,
-        }),
-        _ => None,
-    }
+    Some(Entry {
+        node: entry.node,
+        serial: entry.serial,
+        op: op_in(&entry.op)?,
+        reply: reply_in(entry)?,
+        version: entry.version,
+    })
 }
 
 /// The struct of an entry. A word that it doesn't have is 0.

@@ -1,7 +1,7 @@
 //! Operations and events.
 
 ghost use Rattle.std.specs.Prelude.{◌≡◌, MatchOption};
-ghost use Rattle.sci_c_values.specs.Operation.{SaysAct, SaysEvent, SaysNoAct, SaysNoEvent, SaysNoOp, SaysOp, op_struct};
+ghost use Rattle.sci_c_values.specs.{Operation.{SaysAct, SaysEvent, SaysOp, op_struct}, Saying.{SaysNone}};
 
 use sci_words::{Act, AskKind, Event, LockOp, Op};
 
@@ -33,10 +33,10 @@ pub struct SciEvent {
 
 /// The act that an operation says, or None if it says none.
 fn act_in(op: &SciOp) -> Option<Act>
-    ensures { MatchOption result (SaysNoAct op.now) (SaysAct op.now) }
+    ensures { MatchOption result (SaysNone (SaysAct op.now)) (SaysAct op.now) }
 {
     let SciOp { arg, datum, .. } = *op;
-    let act = match op.act {
+    Some(match op.act {
         0 => Act::Load,
         1 => Act::Store(datum),
         2 => Act::Lock(LockOp::MaskSwap { arg, datum }),
@@ -45,22 +45,18 @@ fn act_in(op: &SciOp) -> Option<Act>
         5 => Act::Lock(LockOp::BoundedAdd { arg, datum }),
         6 => Act::Lock(LockOp::WrapAdd { arg, datum }),
         _ => return None,
-    };
-    Some(act)
+    })
 }
 
 /// The operation that the struct says, or None if it says none.
 pub fn op_in(op: &SciOp) -> Option<Op>
-    ensures { MatchOption result (SaysNoOp op.now) (SaysOp op.now) }
+    ensures { MatchOption result (SaysNone (SaysOp op.now)) (SaysOp op.now) }
 {
-    match act_in(op) {
-        Some(act) => Some(Op {
-            act,
-            line: op.line,
-            word: op.word,
-        }),
-        None => None,
-    }
+    Some(Op {
+        act: act_in(op)?,
+        line: op.line,
+        word: op.word,
+    })
 }
 
 /// The struct of an operation. An operand that the act doesn't have is 0.
@@ -88,7 +84,7 @@ pub fn op_out(op: &Op) -> SciOp
 
 /// The event that the struct says, or None if it says none.
 pub fn event_in(event: &SciEvent) -> Option<Event>
-    ensures { MatchOption result (SaysNoEvent event.now) (SaysEvent event.now) }
+    ensures { MatchOption result (SaysNone (SaysEvent event.now)) (SaysEvent event.now) }
 {
     let SciEvent {
         kind,
@@ -98,20 +94,21 @@ pub fn event_in(event: &SciEvent) -> Option<Event>
         ask,
         ..
     } = *event;
-    match kind {
-        0 => match op_in(&event.op) {
-            Some(op) => Some(Event::Issue { node, op }),
-            None => None,
+    Some(match kind {
+        0 => Event::Issue {
+            node,
+            op: op_in(&event.op)?,
         },
-        1 => Some(Event::Perform { node, line }),
-        2 => match AskKind::with_number(ask) {
-            Some(kind) => Some(Event::Ask { node, line, kind }),
-            None => None,
+        1 => Event::Perform { node, line },
+        2 => Event::Ask {
+            node,
+            line,
+            kind: AskKind::with_number(ask)?,
         },
-        3 => Some(Event::Serve { from, node }),
-        4 => Some(Event::Refuse { from, node }),
-        5 => Some(Event::Reply { node }),
-        6 => Some(Event::Accept { from, node }),
-        _ => None,
-    }
+        3 => Event::Serve { from, node },
+        4 => Event::Refuse { from, node },
+        5 => Event::Reply { node },
+        6 => Event::Accept { from, node },
+        _ => return None,
+    })
 }
