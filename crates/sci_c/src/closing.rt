@@ -29,10 +29,10 @@ pub(crate) fn opened(alloc: Global, object: &mut SciObject, thing: Thing) -> u32
 pub(crate) fn closed(alloc: Global, object: &mut SciObject, kind: Kind) -> u32
     ensures { IsClosed kind object.old.value result object.new.value }
 {
-    if object.live() == 0 {
+    let Some(thing) = object.thing() else {
         return SCI_OK;
-    }
-    if object.as_mut().kind() != kind {
+    };
+    if thing.kind() != kind {
         return SCI_MISUSE;
     }
     drop(object.take(alloc));

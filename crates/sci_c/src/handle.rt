@@ -4,8 +4,10 @@ ghost use Rattle.std.specs.Prelude.{◌≡◌, Option, Some, None};
 ghost use types.Logic.{sem};
 ghost use Rattle.sci_c.specs.declared.thing.Thing.{Thing};
 
+use crate::journal::Journal;
 use crate::loose::{Loose, loosened};
 use crate::thing::Thing;
+use sci_core::{Machine, Node};
 use std::alloc::Global;
 use std::marker::Model;
 
@@ -30,9 +32,11 @@ impl Model for SciObject {
 }
 
 impl SciObject {
-    ghost use Rattle.std.specs.{Borrow.{Lends}, Prelude.{IsSome}};
-    ghost use Rattle.sci_c.specs.contracts.{handle.SciObject.{the_row}, thing.Thing.{the_row as thing_row}};
-    ghost use Rattle.sci_c.specs.{Lending.{with_thing}, Object.{live_of}};
+    ghost use Rattle.std.specs.{Borrow.{Lends, LendsIf}, Prelude.{IsSome, MatchOption, option_map}};
+    ghost use Rattle.sci_core.specs.contracts.{machine.Machine.{the_row as machine_row}, node.Node.{the_row as node_row}};
+    ghost use Rattle.sci_c.specs.contracts.{handle.SciObject.{the_row}, journal.Journal.{the_row as journal_row}, thing.Thing.{the_row as thing_row}};
+    ghost use Rattle.sci_c.specs.{Kinds.{logs_in, machine_in, node_in}, Lending.{LendsKept, with_thing}, Object.{live_of}};
+    ghost use Rattle.sci_c.specs.declared.thing.Thing.TheVariants as thing;
 
     /// 1 if there is a thing, and else 0.
     pub(crate) fn live(&mut self) -> u32
@@ -69,11 +73,55 @@ impl SciObject {
         unsafe { Box::from_raw(alloc, self.at as *mut Thing) }
     }
 
+    /// The machine, if it keeps one.
+    pub(crate) fn machine(&mut self) -> Option<&mut Machine>
+        ensures* writes_back { sem 𝓛 (LendsKept machine_row thing.Machine self.entry result) }
+        ensures value { machine_in self.old.value ≡ option_map (λ machine. machine.now) result }
+    {
+        match self.thing()? {
+            Thing::Machine(machine) => Some(machine),
+            _ => None,
+        }
+    }
+
+    /// The node, if it keeps one.
+    pub(crate) fn node(&mut self) -> Option<&mut Node>
+        ensures* writes_back { sem 𝓛 (LendsKept node_row thing.Node self.entry result) }
+        ensures value { node_in self.old.value ≡ option_map (λ node. node.now) result }
+    {
+        match self.thing()? {
+            Thing::Node(node) => Some(node),
+            _ => None,
+        }
+    }
+
+    /// The logs, if it keeps them.
+    pub(crate) fn logs(&mut self) -> Option<&mut Journal>
+        ensures* writes_back { sem 𝓛 (LendsKept journal_row thing.Logs self.entry result) }
+        ensures value { logs_in self.old.value ≡ option_map (λ journal. journal.now) result }
+    {
+        match self.thing()? {
+            Thing::Logs(journal) => Some(journal),
+            _ => None,
+        }
+    }
+
+    /// The thing, if there is one.
+    pub(crate) fn thing(&mut self) -> Option<&mut Thing>
+        ensures* writes_back { sem 𝓛 (LendsIf the_row thing_row self.entry result (with_thing self.old) self.old) }
+        ensures value { MatchOption result (self.old.value ≡ None) (λ lent. with_thing self.old lent.now ≡ self.old) }
+    {
+        if self.live() == 0 {
+            return None;
+        }
+        Some(self.as_mut())
+    }
+
     /// The thing. Requires that there is one.
-    pub(crate) fn as_mut(&mut self) -> &mut Thing
+    fn as_mut(&mut self) -> &mut Thing
         requires { IsSome self.old.value }
         ensures* writes_back { sem 𝓛 (Lends the_row thing_row self.entry result (with_thing self.old)) }
-        ensures value { self.old.value ≡ Some result.now }
+        ensures value { with_thing self.old result.now ≡ self.old }
     {
         unsafe { &mut *(self.at as *mut Thing) }
     }

@@ -61,20 +61,15 @@ pub extern "C" fn sci_logs_push(object: &mut SciObject, entry: &SciEntry) -> u32
     ensures status { (result ≤ SCI_FULL) × (result ≢ SCI_NOT_ENABLED) }
     ensures same { result ≢ SCI_OK → object.new.value ≡ object.old.value }
 {
-    if object.live() == 0 {
+    let Some(journal) = object.logs() else {
         return SCI_MISUSE;
+    };
+    if !journal.takes(entry) {
+        return SCI_RANGE;
     }
-    match object.as_mut() {
-        Thing::Logs(journal) => {
-            if !journal.takes(entry) {
-                return SCI_RANGE;
-            }
-            match entry_in(entry) {
-                Some(said) => journal.push(said),
-                None => SCI_RANGE,
-            }
-        }
-        _ => SCI_MISUSE,
+    match entry_in(entry) {
+        Some(said) => journal.push(said),
+        None => SCI_RANGE,
     }
 }
 
@@ -89,19 +84,14 @@ pub extern "C" fn sci_logs_set_last(object: &mut SciObject, line: u8, contents: 
     ensures status { (result ≡ SCI_OK) ⊎ ((result ≡ SCI_RANGE) ⊎ (result ≡ SCI_MISUSE)) }
     ensures same { result ≢ SCI_OK → object.new.value ≡ object.old.value }
 {
-    if object.live() == 0 {
+    let Some(journal) = object.logs() else {
         return SCI_MISUSE;
+    };
+    if line >= journal.last().lines() {
+        return SCI_RANGE;
     }
-    match object.as_mut() {
-        Thing::Logs(journal) => {
-            if line >= journal.last().lines() {
-                return SCI_RANGE;
-            }
-            journal.set_last(line, stamped_in(contents));
-            SCI_OK
-        }
-        _ => SCI_MISUSE,
-    }
+    journal.set_last(line, stamped_in(contents));
+    SCI_OK
 }
 
 /// Reads the last contents of a line.
@@ -115,19 +105,14 @@ pub extern "C" fn sci_logs_last(object: &mut SciObject, line: u8, contents: &mut
     ensures same { result ≢ SCI_OK → contents.new ≡ contents.old }
     ensures kept { object.new.value ≡ object.old.value }
 {
-    if object.live() == 0 {
+    let Some(journal) = object.logs() else {
         return SCI_MISUSE;
+    };
+    if line >= journal.last().lines() {
+        return SCI_RANGE;
     }
-    match object.as_mut() {
-        Thing::Logs(journal) => {
-            if line >= journal.last().lines() {
-                return SCI_RANGE;
-            }
-            *contents = stamped_out(&journal.last().get(line));
-            SCI_OK
-        }
-        _ => SCI_MISUSE,
-    }
+    *contents = stamped_out(&journal.last().get(line));
+    SCI_OK
 }
 
 /// Tells how many nodes and lines logs have.
@@ -143,17 +128,12 @@ pub extern "C" fn sci_logs_size(object: &mut SciObject, nodes: &mut u8, lines: &
     ensures same_lines { result ≢ SCI_OK → lines.new ≡ lines.old }
     ensures kept { object.new.value ≡ object.old.value }
 {
-    if object.live() == 0 {
+    let Some(journal) = object.logs() else {
         return SCI_MISUSE;
-    }
-    match object.as_mut() {
-        Thing::Logs(journal) => {
-            *nodes = journal.nodes();
-            *lines = journal.last().lines();
-            SCI_OK
-        }
-        _ => SCI_MISUSE,
-    }
+    };
+    *nodes = journal.nodes();
+    *lines = journal.last().lines();
+    SCI_OK
 }
 
 /// Counts the entries of a node.
@@ -168,19 +148,14 @@ pub extern "C" fn sci_logs_count(object: &mut SciObject, node: u8, count: &mut u
     ensures same { result ≢ SCI_OK → count.new ≡ count.old }
     ensures kept { object.new.value ≡ object.old.value }
 {
-    if object.live() == 0 {
+    let Some(journal) = object.logs() else {
         return SCI_MISUSE;
+    };
+    if node >= MAX_NODES {
+        return SCI_RANGE;
     }
-    match object.as_mut() {
-        Thing::Logs(journal) => {
-            if node >= MAX_NODES {
-                return SCI_RANGE;
-            }
-            *count = journal.logs().of(node).len();
-            SCI_OK
-        }
-        _ => SCI_MISUSE,
-    }
+    *count = journal.logs().of(node).len();
+    SCI_OK
 }
 
 /// Reads the entry at a place of a node's log.
@@ -199,22 +174,17 @@ pub extern "C" fn sci_logs_entry(
     ensures same { result ≢ SCI_OK → entry.new ≡ entry.old }
     ensures kept { object.new.value ≡ object.old.value }
 {
-    if object.live() == 0 {
+    let Some(journal) = object.logs() else {
         return SCI_MISUSE;
+    };
+    if node >= MAX_NODES {
+        return SCI_RANGE;
     }
-    match object.as_mut() {
-        Thing::Logs(journal) => {
-            if node >= MAX_NODES {
-                return SCI_RANGE;
-            }
-            match journal.logs().of(node).get(place) {
-                Some(found) => {
-                    *entry = entry_out(found);
-                    SCI_OK
-                }
-                None => SCI_RANGE,
-            }
+    match journal.logs().of(node).get(place) {
+        Some(found) => {
+            *entry = entry_out(found);
+            SCI_OK
         }
-        _ => SCI_MISUSE,
+        None => SCI_RANGE,
     }
 }

@@ -61,19 +61,16 @@ pub extern "C" fn sci_machine_step(object: &mut SciObject, event: &SciEvent) -> 
     ensures status { result ≤ SCI_MISUSE }
     ensures same { result ≢ SCI_OK → object.new.value ≡ object.old.value }
 {
-    if object.live() == 0 {
+    let Some(machine) = object.machine() else {
         return SCI_MISUSE;
-    }
-    match object.as_mut() {
-        Thing::Machine(machine) => match event_in(event) {
-            Some(event) => match machine.apply(&event) {
-                Ok(()) => SCI_OK,
-                Err(ApplyFault::NotEnabled) => SCI_NOT_ENABLED,
-                Err(ApplyFault::Memory(_)) => SCI_NO_MEMORY,
-            },
-            None => SCI_RANGE,
-        },
-        _ => SCI_MISUSE,
+    };
+    let Some(event) = event_in(event) else {
+        return SCI_RANGE;
+    };
+    match machine.apply(&event) {
+        Ok(()) => SCI_OK,
+        Err(ApplyFault::NotEnabled) => SCI_NOT_ENABLED,
+        Err(ApplyFault::Memory(_)) => SCI_NO_MEMORY,
     }
 }
 
@@ -98,18 +95,15 @@ pub extern "C" fn sci_machine_settle(object: &mut SciObject, events: &mut u32) -
     ensures same { result ≡ SCI_MISUSE → object.new.value ≡ object.old.value }
     ensures same_events { result ≢ SCI_OK → events.new ≡ events.old }
 {
-    if object.live() == 0 {
+    let Some(machine) = object.machine() else {
         return SCI_MISUSE;
-    }
-    match object.as_mut() {
-        Thing::Machine(machine) => match machine.settle() {
-            Ok(count) => {
-                *events = count;
-                SCI_OK
-            }
-            Err(_) => SCI_NO_MEMORY,
-        },
-        _ => SCI_MISUSE,
+    };
+    match machine.settle() {
+        Ok(count) => {
+            *events = count;
+            SCI_OK
+        }
+        Err(_) => SCI_NO_MEMORY,
     }
 }
 
@@ -129,19 +123,14 @@ pub extern "C" fn sci_machine_last(
     ensures same { result ≢ SCI_OK → contents.new ≡ contents.old }
     ensures kept { object.new.value ≡ object.old.value }
 {
-    if object.live() == 0 {
+    let Some(machine) = object.machine() else {
         return SCI_MISUSE;
+    };
+    if line >= machine.extent().lines {
+        return SCI_RANGE;
     }
-    match object.as_mut() {
-        Thing::Machine(machine) => {
-            if line >= machine.extent().lines {
-                return SCI_RANGE;
-            }
-            *contents = stamped_out(&machine.last_contents(line));
-            SCI_OK
-        }
-        _ => SCI_MISUSE,
-    }
+    *contents = stamped_out(&machine.last_contents(line));
+    SCI_OK
 }
 
 /// Tells the one node that may change a line or is about to. Not enabled if the home has the line alone.
@@ -156,23 +145,18 @@ pub extern "C" fn sci_machine_authority(object: &mut SciObject, line: u8, node: 
     ensures same { result ≢ SCI_OK → node.new ≡ node.old }
     ensures kept { object.new.value ≡ object.old.value }
 {
-    if object.live() == 0 {
+    let Some(machine) = object.machine() else {
         return SCI_MISUSE;
+    };
+    if line >= machine.extent().lines {
+        return SCI_RANGE;
     }
-    match object.as_mut() {
-        Thing::Machine(machine) => {
-            if line >= machine.extent().lines {
-                return SCI_RANGE;
-            }
-            match machine.authority(line) {
-                Some(found) => {
-                    *node = found;
-                    SCI_OK
-                }
-                None => SCI_NOT_ENABLED,
-            }
+    match machine.authority(line) {
+        Some(found) => {
+            *node = found;
+            SCI_OK
         }
-        _ => SCI_MISUSE,
+        None => SCI_NOT_ENABLED,
     }
 }
 
@@ -193,17 +177,17 @@ pub extern "C" fn sci_machine_logs(
     ensures same { result ≢ SCI_OK → logs.new.value ≡ logs.old.value }
     ensures kept { object.new.value ≡ object.old.value }
 {
-    if object.live() == 0 || logs.live() != 0 {
+    if logs.live() != 0 {
         return SCI_MISUSE;
     }
-    match object.as_mut() {
-        Thing::Machine(machine) => match machine.logs(alloc) {
-            Ok(made) => {
-                let journal = Journal::of(machine.extent().nodes, made, machine.last());
-                opened(alloc, logs, Thing::Logs(journal))
-            }
-            Err(_) => SCI_NO_MEMORY,
-        },
-        _ => SCI_MISUSE,
+    let Some(machine) = object.machine() else {
+        return SCI_MISUSE;
+    };
+    match machine.logs(alloc) {
+        Ok(made) => {
+            let journal = Journal::of(machine.extent().nodes, made, machine.last());
+            opened(alloc, logs, Thing::Logs(journal))
+        }
+        Err(_) => SCI_NO_MEMORY,
     }
 }

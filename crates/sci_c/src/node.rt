@@ -74,21 +74,18 @@ pub extern "C" fn sci_node_issue(object: &mut SciObject, op: &SciOp, serial: &mu
     ensures same { result ≢ SCI_OK → object.new.value ≡ object.old.value }
     ensures same_serial { result ≢ SCI_OK → serial.new ≡ serial.old }
 {
-    if object.live() == 0 {
+    let Some(node) = object.node() else {
         return SCI_MISUSE;
-    }
-    match object.as_mut() {
-        Thing::Node(node) => match op_in(op) {
-            Some(said) => match node.issue(said) {
-                Some(number) => {
-                    *serial = number;
-                    SCI_OK
-                }
-                None => SCI_NOT_ENABLED,
-            },
-            None => SCI_RANGE,
-        },
-        _ => SCI_MISUSE,
+    };
+    let Some(said) = op_in(op) else {
+        return SCI_RANGE;
+    };
+    match node.issue(said) {
+        Some(number) => {
+            *serial = number;
+            SCI_OK
+        }
+        None => SCI_NOT_ENABLED,
     }
 }
 
@@ -104,18 +101,15 @@ pub extern "C" fn sci_node_perform(object: &mut SciObject, line: u8, entry: &mut
     ensures same { result ≢ SCI_OK → object.new.value ≡ object.old.value }
     ensures same_entry { result ≢ SCI_OK → entry.new ≡ entry.old }
 {
-    if object.live() == 0 {
+    let Some(node) = object.node() else {
         return SCI_MISUSE;
-    }
-    match object.as_mut() {
-        Thing::Node(node) => match node.perform(line) {
-            Some(done) => {
-                *entry = entry_out(&done);
-                SCI_OK
-            }
-            None => SCI_NOT_ENABLED,
-        },
-        _ => SCI_MISUSE,
+    };
+    match node.perform(line) {
+        Some(done) => {
+            *entry = entry_out(&done);
+            SCI_OK
+        }
+        None => SCI_NOT_ENABLED,
     }
 }
 
@@ -139,21 +133,18 @@ pub extern "C" fn sci_node_ask(
     ensures same_bytes { result ≢ SCI_OK → bytes.new ≡ bytes.old }
     ensures same_used { result ≢ SCI_OK → used.new ≡ used.old }
 {
-    if object.live() == 0 {
+    let Some(node) = object.node() else {
         return SCI_MISUSE;
-    }
-    match object.as_mut() {
-        Thing::Node(node) => match AskKind::with_number(ask) {
-            Some(kind) => match node.ask(line, kind) {
-                Some(packet) => {
-                    *used = encode(&packet, bytes);
-                    SCI_OK
-                }
-                None => SCI_NOT_ENABLED,
-            },
-            None => SCI_RANGE,
-        },
-        _ => SCI_MISUSE,
+    };
+    let Some(kind) = AskKind::with_number(ask) else {
+        return SCI_RANGE;
+    };
+    match node.ask(line, kind) {
+        Some(packet) => {
+            *used = encode(&packet, bytes);
+            SCI_OK
+        }
+        None => SCI_NOT_ENABLED,
     }
 }
 
@@ -174,18 +165,15 @@ pub extern "C" fn sci_node_take_answer(
     ensures same_bytes { result ≢ SCI_OK → bytes.new ≡ bytes.old }
     ensures same_used { result ≢ SCI_OK → used.new ≡ used.old }
 {
-    if object.live() == 0 {
+    let Some(node) = object.node() else {
         return SCI_MISUSE;
-    }
-    match object.as_mut() {
-        Thing::Node(node) => match node.take_answer() {
-            Some(packet) => {
-                *used = encode(&packet, bytes);
-                SCI_OK
-            }
-            None => SCI_NOT_ENABLED,
-        },
-        _ => SCI_MISUSE,
+    };
+    match node.take_answer() {
+        Some(packet) => {
+            *used = encode(&packet, bytes);
+            SCI_OK
+        }
+        None => SCI_NOT_ENABLED,
     }
 }
 
@@ -207,19 +195,16 @@ pub extern "C" fn sci_node_pending(
     ensures same_serial { result ≢ SCI_OK → serial.new ≡ serial.old }
     ensures kept { object.new.value ≡ object.old.value }
 {
-    if object.live() == 0 {
+    let Some(node) = object.node() else {
         return SCI_MISUSE;
-    }
-    match object.as_mut() {
-        Thing::Node(node) => match node.pending(line) {
-            Some(pending) => {
-                *op = op_out(&pending.op);
-                *serial = pending.serial;
-                SCI_OK
-            }
-            None => SCI_NOT_ENABLED,
-        },
-        _ => SCI_MISUSE,
+    };
+    match node.pending(line) {
+        Some(pending) => {
+            *op = op_out(&pending.op);
+            *serial = pending.serial;
+            SCI_OK
+        }
+        None => SCI_NOT_ENABLED,
     }
 }
 
@@ -234,16 +219,11 @@ pub extern "C" fn sci_node_is_at_rest(object: &mut SciObject, at_rest: &mut u32)
     ensures same { result ≢ SCI_OK → at_rest.new ≡ at_rest.old }
     ensures kept { object.new.value ≡ object.old.value }
 {
-    if object.live() == 0 {
+    let Some(node) = object.node() else {
         return SCI_MISUSE;
-    }
-    match object.as_mut() {
-        Thing::Node(node) => {
-            *at_rest = if node.is_at_rest() { 1 } else { 0 };
-            SCI_OK
-        }
-        _ => SCI_MISUSE,
-    }
+    };
+    *at_rest = if node.is_at_rest() { 1 } else { 0 };
+    SCI_OK
 }
 
 /// Reads the contents of a line whose home is at the node, if the home has them.
@@ -257,23 +237,18 @@ pub extern "C" fn sci_node_home(object: &mut SciObject, line: u8, contents: &mut
     ensures same { result ≢ SCI_OK → contents.new ≡ contents.old }
     ensures kept { object.new.value ≡ object.old.value }
 {
-    if object.live() == 0 {
+    let Some(node) = object.node() else {
         return SCI_MISUSE;
+    };
+    if line >= node.extent().lines {
+        return SCI_RANGE;
     }
-    match object.as_mut() {
-        Thing::Node(node) => {
-            if line >= node.extent().lines {
-                return SCI_RANGE;
-            }
-            match home_contents(node, line) {
-                Some(found) => {
-                    *contents = stamped_out(&found);
-                    SCI_OK
-                }
-                None => SCI_NOT_ENABLED,
-            }
+    match home_contents(node, line) {
+        Some(found) => {
+            *contents = stamped_out(&found);
+            SCI_OK
         }
-        _ => SCI_MISUSE,
+        None => SCI_NOT_ENABLED,
     }
 }
 

@@ -7,7 +7,6 @@ ghost use Rattle.sci_c.specs.Order.{IsOrdering, ref_struct, step_struct};
 
 use crate::handle::SciObject;
 use crate::journal::Journal;
-use crate::thing::Thing;
 use sci_c_values::{SCI_FULL, SCI_MISUSE, SCI_NO_MEMORY, SCI_OK, SciEntry, entry_out};
 use sci_history::{Entry, OrderVerdict, Step, sequential_order};
 use std::alloc::{AllocError, Global};
@@ -114,11 +113,8 @@ pub extern "C" fn sci_logs_order(
     ensures same_misuse { result ≡ SCI_MISUSE → used.new ≡ used.old }
     ensures kept { object.new.value ≡ object.old.value }
 {
-    if object.live() == 0 {
+    let Some(journal) = object.logs() else {
         return SCI_MISUSE;
-    }
-    match object.as_mut() {
-        Thing::Logs(journal) => found_order(alloc, journal, kind, entries, used),
-        _ => SCI_MISUSE,
-    }
+    };
+    found_order(alloc, journal, kind, entries, used)
 }

@@ -6,7 +6,6 @@ ghost use Rattle.sci_core.specs.Node.{IsForNode, IsServable, node_accepting, nod
 ghost use Rattle.sci_c.specs.Taking.{IsGiving, IsTakable, node_taking};
 
 use crate::handle::SciObject;
-use crate::thing::Thing;
 use sci_c_values::{SCI_MISUSE, SCI_NOT_ENABLED, SCI_OK, SCI_RANGE, status_of_fault};
 use sci_core::Node;
 use sci_home::is_for_home;
@@ -93,23 +92,20 @@ pub extern "C" fn sci_node_accept(object: &mut SciObject, bytes: &[u8]) -> u32
 fn take(object: &mut SciObject, taking: Taking, bytes: &[u8]) -> u32
     ensures { IsGiving (IsTakable taking) (node_taking taking) bytes.now object.old.value result object.new.value }
 {
-    if object.live() == 0 {
+    let Some(node) = object.node() else {
         return SCI_MISUSE;
-    }
-    match object.as_mut() {
-        Thing::Node(node) => match decode(bytes) {
-            Ok((packet, _)) => {
-                if !taking.may(node, &packet) {
-                    return SCI_RANGE;
-                }
-                if taking.give(node, &packet) {
-                    SCI_OK
-                } else {
-                    SCI_NOT_ENABLED
-                }
+    };
+    match decode(bytes) {
+        Ok((packet, _)) => {
+            if !taking.may(node, &packet) {
+                return SCI_RANGE;
             }
-            Err(fault) => status_of_fault(fault),
-        },
-        _ => SCI_MISUSE,
+            if taking.give(node, &packet) {
+                SCI_OK
+            } else {
+                SCI_NOT_ENABLED
+            }
+        }
+        Err(fault) => status_of_fault(fault),
     }
 }

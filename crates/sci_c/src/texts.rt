@@ -33,18 +33,15 @@ pub extern "C" fn sci_logs_audit(
     ensures same { result ≢ SCI_OK → verdict.new ≡ verdict.old }
     ensures kept { object.new.value ≡ object.old.value }
 {
-    if object.live() == 0 {
+    let Some(journal) = object.logs() else {
         return SCI_MISUSE;
-    }
-    match object.as_mut() {
-        Thing::Logs(journal) => match audit(alloc, journal.logs(), journal.last()) {
-            Ok(found) => {
-                *verdict = verdict_out(&found);
-                SCI_OK
-            }
-            Err(_) => SCI_NO_MEMORY,
-        },
-        _ => SCI_MISUSE,
+    };
+    match audit(alloc, journal.logs(), journal.last()) {
+        Ok(found) => {
+            *verdict = verdict_out(&found);
+            SCI_OK
+        }
+        Err(_) => SCI_NO_MEMORY,
     }
 }
 
@@ -102,23 +99,18 @@ pub extern "C" fn sci_logs_write(
     ensures same_misuse { result ≡ SCI_MISUSE → used.new ≡ used.old }
     ensures kept { object.new.value ≡ object.old.value }
 {
-    if object.live() == 0 {
+    let Some(journal) = object.logs() else {
         return SCI_MISUSE;
-    }
-    match object.as_mut() {
-        Thing::Logs(journal) => {
-            match logs_text(alloc, journal.nodes(), journal.logs(), journal.last()) {
-                Ok(made) => {
-                    *used = made.len();
-                    if made.len() > text.len() {
-                        return SCI_FULL;
-                    }
-                    text[..made.len()].copy_from_slice(&made);
-                    SCI_OK
-                }
-                Err(_) => SCI_NO_MEMORY,
+    };
+    match logs_text(alloc, journal.nodes(), journal.logs(), journal.last()) {
+        Ok(made) => {
+            *used = made.len();
+            if made.len() > text.len() {
+                return SCI_FULL;
             }
+            text[..made.len()].copy_from_slice(&made);
+            SCI_OK
         }
-        _ => SCI_MISUSE,
+        Err(_) => SCI_NO_MEMORY,
     }
 }

@@ -1,14 +1,14 @@
 use Rattle.std.proofs.Common.{rules, refl}
 use Rattle.sci_c.proofs.logs.sci_logs_push.Goals as goal
 
-pub returns-in-Some-clause-pushed : goal.returns-in-Some-clause-pushed
-returns-in-Some-clause-pushed c = λ ok. record {
-  before = c.in-Logs.journal;
+pub returns-in-Some-entry_in-clause-pushed : goal.returns-in-Some-entry_in-clause-pushed
+returns-in-Some-entry_in-clause-pushed c = λ ok. record {
+  before = c.in-Some.journal.now;
   after = c.push.new.self;
-  entry = c.in-Some.said;
+  entry = c.in-Some-entry_in.said;
   was = search rules;
   is_now = refl;
-  says = c.in-Some.ensures;
+  says = c.in-Some-entry_in.ensures;
   fits = search rules;
   ends = c.push.ensures.done ok;
 }

@@ -1,10 +1,9 @@
-use Rattle.std.proofs.Common.{◌≡◌, sym, ap, ◌∙◌, subst}
+use Rattle.std.proofs.Common.{◌≡◌, ap, ◌∙◌, subst}
 use Rattle.std.specs.Prelude.{ℕ, List, Some}
 use Rattle.sci_words.specs.declared.stamped.Stamped.{Stamped}
 use Rattle.sci_history.specs.{declared.entry.Entry.{Entry}, Lawful.{Lawful}, Sequential.{IsSequentiallyConsistent}}
 use Rattle.sci_core.specs.Outcome.{logs_of}
-use Rattle.sci_c.specs.{declared.{handle.SciObject.{SciObject}, thing.Thing.{Thing}}, Journal.{JournalOf, journal_of}}
-use Rattle.sci_c.specs.Kinds.{logs_in, machine_in}
+use Rattle.sci_c.specs.{Journal.{JournalOf, journal_of}, Kinds.{logs_in}}
 use Rattle.sci_c.proofs.machine.sci_machine_logs.Goals as goal
 
 same_journal : {n m : ℕ} {logs others : List (List Entry)} {last ends : List Stamped} → n ≡ m → logs ≡ others → last ≡ ends
@@ -15,10 +14,9 @@ pub returns-in-Ok-clause-done : goal.returns-in-Ok-clause-done
 returns-in-Ok-clause-done c = λ ok.
     let made = same_journal c.extent.ensures.nodes c.in-Ok.ensures.logs c.last.ensures.last in
     record {
-      machine = c.in-Machine.machine;
-      was = ap (λ (object : SciObject). machine_in object.value) (sym c.live.ensures.same)
-          ∙ ap machine_in c.as_mut.ensures.value ∙ ap (λ (thing : Thing). machine_in (Some thing)) c.in-Machine.is;
+      machine = c.in-Some.machine.now;
+      was = c.in-Some.ensures.value;
       are = ap logs_in (c.opened.ensures.opened ok) ∙ ap (λ (journal : JournalOf). Some journal) (c.of-journal.ensures ∙ made);
-      lawful = subst (Lawful (logs_of c.in-Machine.machine)) c.last.ensures.last c.last.ensures.lawful;
-      consistent = subst (IsSequentiallyConsistent (logs_of c.in-Machine.machine)) c.last.ensures.last c.last.ensures.consistent;
+      lawful = subst (Lawful (logs_of c.in-Some.machine.now)) c.last.ensures.last c.last.ensures.lawful;
+      consistent = subst (IsSequentiallyConsistent (logs_of c.in-Some.machine.now)) c.last.ensures.last c.last.ensures.consistent;
     }

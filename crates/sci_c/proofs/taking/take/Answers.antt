@@ -7,7 +7,7 @@ use Rattle.sci_c.proofs.taking.take.Goals as goal
 pub returns-then-not-may : goal.returns-then-not-may
 returns-then-not-may c =
     let refused : IsNotForIt (IsTakable c.args.taking) c.args.bytes.now c.args.object.now.value = record {
-      node = c.in-Node.node;
+      node = c.in-Some.node.now;
       packet = c.in-Ok.packet;
       used = c.in-Ok.field-0-1;
       was = search rules;
@@ -20,7 +20,7 @@ pub returns-then-give : goal.returns-then-give
 returns-then-give c =
     let taken : IsTaken (IsTakable c.args.taking) (node_taking c.args.taking) c.args.bytes.now c.args.object.now.value
     (Some (Node c.give.new.node)) = record {
-      before = c.in-Node.node;
+      before = c.in-Some.node.now;
       after = c.give.new.node;
       packet = c.in-Ok.packet;
       used = c.in-Ok.field-0-1;
@@ -35,7 +35,7 @@ returns-then-give c =
 pub returns-else-give : goal.returns-else-give
 returns-else-give c =
     let refused : IsNotTaken (IsTakable c.args.taking) (node_taking c.args.taking) c.args.bytes.now c.args.object.now.value = record {
-      node = c.in-Node.node;
+      node = c.in-Some.node.now;
       packet = c.in-Ok.packet;
       used = c.in-Ok.field-0-1;
       was = search rules;
