@@ -18,21 +18,11 @@ abbrev pub logs_in : Option Thing → Option JournalOf
 logs_in (Some (Logs journal)) = Some journal
 logs_in _ = None
 
--- it keeps a machine, a node or logs, of which this holds
-pub record OnMachine (value : Option Thing) (P : Core → Type 0) : Type 0 where
-  pub machine : Core
-  pub is_in : machine_in value ≡ Some machine
-  pub holds : P machine
-
-pub record OnNode (value : Option Thing) (P : NodeOf → Type 0) : Type 0 where
-  pub node : NodeOf
-  pub is_in : node_in value ≡ Some node
-  pub holds : P node
-
-pub record OnLogs (value : Option Thing) (P : JournalOf → Type 0) : Type 0 where
-  pub journal : JournalOf
-  pub is_in : logs_in value ≡ Some journal
-  pub holds : P journal
+-- it keeps one, of which this holds
+pub record On {A : Type 0} (kept : Option A) (P : A → Type 0) : Type 0 where
+  pub thing : A
+  pub is_in : kept ≡ Some thing
+  pub holds : P thing
 
 abbrev pub kind_of : Thing → Kind
 kind_of (Machine machine) = kind.Machine

@@ -1,4 +1,5 @@
 -- What the C interface says.
+pub mod Calls
 pub mod Closing
 pub mod Journal
 pub mod Kinds

@@ -1,13 +1,13 @@
 //! Logs with last contents.
 
-ghost use Rattle.std.specs.Prelude.{◌≡◌, ◌≢◌, ◌≤◌, ◌⊎◌, Some, None, IsSome, length};
+ghost use Rattle.std.specs.Prelude.{◌≡◌, ◌≢◌, ◌≤◌, ◌⊎◌, ◌∷◌, [], Some, length};
 ghost use Rattle.sci_words.specs.declared.limits.TheConstants.{MAX_NODES};
 ghost use Rattle.sci_history.specs.Placed.{log_of};
 ghost use Rattle.sci_text.specs.LogValue.{IsSize};
-ghost use Rattle.sci_c_values.specs.declared.status.TheConstants.{SCI_FULL, SCI_MISUSE, SCI_NOT_ENABLED, SCI_NO_MEMORY, SCI_OK, SCI_RANGE};
+ghost use Rattle.sci_c_values.specs.declared.status.TheConstants.{SCI_FULL, SCI_NO_MEMORY, SCI_OK, SCI_RANGE};
 ghost use Rattle.sci_c_values.specs.{Entry.{SaysEntry}, Saying.{SaysNone}};
-ghost use Rattle.sci_c.specs.{Closing.{IsClosed, IsOpened}, Journal.{FitsJournal, empty_journal}};
-ghost use Rattle.sci_c.specs.{Kinds.{OnLogs, logs_in}, Logs.{IsEntryAt, IsFull, IsLastOf, IsLastSet, IsPushed}};
+ghost use Rattle.sci_c.specs.{Calls.{IsChange, IsLook}, Closing.{IsClosed, IsOpened}, Journal.{FitsJournal, empty_journal}};
+ghost use Rattle.sci_c.specs.{Kinds.{On, logs_in}, Logs.{IsEntryAt, IsFull, IsLastOf, IsLastSet, IsPushed}};
 ghost use Rattle.sci_c.specs.declared.thing.Kind.TheVariants as kind;
 
 use crate::closing::{closed, opened};
@@ -52,14 +52,13 @@ pub extern "C" fn sci_logs_close(alloc: Global, object: &mut SciObject) -> u32
 #[unsafe(no_mangle)]
 pub extern "C" fn sci_logs_push(object: &mut SciObject, entry: &SciEntry) -> u32
     ensures pushed { result ≡ SCI_OK → IsPushed object.old.value entry.now object.new.value }
-    ensures full { result ≡ SCI_FULL → OnLogs object.old.value (IsFull entry.now) }
-    ensures range { result ≡ SCI_RANGE → OnLogs object.old.value
+    ensures full { result ≡ SCI_FULL → On (logs_in object.old.value) (IsFull entry.now) }
+    ensures range { result ≡ SCI_RANGE → On (logs_in object.old.value)
         (λ journal. FitsJournal journal entry.now → SaysNone (SaysEntry entry.now)) }
-    ensures memory { result ≡ SCI_NO_MEMORY → OnLogs object.old.value
+    ensures memory { result ≡ SCI_NO_MEMORY → On (logs_in object.old.value)
         (λ journal. FitsJournal journal entry.now) }
-    ensures misuse { result ≡ SCI_MISUSE → logs_in object.old.value ≡ None }
-    ensures status { (result ≤ SCI_FULL) × (result ≢ SCI_NOT_ENABLED) }
-    ensures same { result ≢ SCI_OK → object.new.value ≡ object.old.value }
+    ensures change { IsChange logs_in (SCI_NO_MEMORY ∷ SCI_RANGE ∷ SCI_FULL ∷ [])
+        object.old.value result object.new.value }
 {
     let Some(journal) = object.logs() else {
         return SCI_MISUSE;
@@ -76,13 +75,9 @@ pub extern "C" fn sci_logs_push(object: &mut SciObject, entry: &SciEntry) -> u32
 /// Replaces the last contents of a line.
 #[unsafe(no_mangle)]
 pub extern "C" fn sci_logs_set_last(object: &mut SciObject, line: u8, contents: &SciStamped) -> u32
-    ensures done { result ≡ SCI_OK
-        → IsLastSet object.old.value line contents.now object.new.value }
-    ensures range { result ≡ SCI_RANGE → OnLogs object.old.value
-        (λ journal. length journal.last ≤ line) }
-    ensures misuse { result ≡ SCI_MISUSE → logs_in object.old.value ≡ None }
-    ensures status { (result ≡ SCI_OK) ⊎ ((result ≡ SCI_RANGE) ⊎ (result ≡ SCI_MISUSE)) }
-    ensures same { result ≢ SCI_OK → object.new.value ≡ object.old.value }
+    ensures done { result ≡ SCI_OK → IsLastSet object.old.value line contents.now object.new.value }
+    ensures range { result ≡ SCI_RANGE → On (logs_in object.old.value) (λ journal. length journal.last ≤ line) }
+    ensures change { IsChange logs_in (SCI_RANGE ∷ []) object.old.value result object.new.value }
 {
     let Some(journal) = object.logs() else {
         return SCI_MISUSE;
@@ -97,13 +92,10 @@ pub extern "C" fn sci_logs_set_last(object: &mut SciObject, line: u8, contents: 
 /// Reads the last contents of a line.
 #[unsafe(no_mangle)]
 pub extern "C" fn sci_logs_last(object: &mut SciObject, line: u8, contents: &mut SciStamped) -> u32
-    ensures found { result ≡ SCI_OK → OnLogs object.old.value (IsLastOf line contents.new) }
-    ensures range { result ≡ SCI_RANGE → OnLogs object.old.value
-        (λ journal. length journal.last ≤ line) }
-    ensures misuse { result ≡ SCI_MISUSE → logs_in object.old.value ≡ None }
-    ensures status { (result ≡ SCI_OK) ⊎ ((result ≡ SCI_RANGE) ⊎ (result ≡ SCI_MISUSE)) }
+    ensures found { result ≡ SCI_OK → On (logs_in object.old.value) (IsLastOf line contents.new) }
+    ensures range { result ≡ SCI_RANGE → On (logs_in object.old.value) (λ journal. length journal.last ≤ line) }
     ensures same { result ≢ SCI_OK → contents.new ≡ contents.old }
-    ensures kept { object.new.value ≡ object.old.value }
+    ensures kept { IsLook logs_in (SCI_RANGE ∷ []) object.old.value result object.new.value }
 {
     let Some(journal) = object.logs() else {
         return SCI_MISUSE;
@@ -118,15 +110,11 @@ pub extern "C" fn sci_logs_last(object: &mut SciObject, line: u8, contents: &mut
 /// Tells how many nodes and lines logs have.
 #[unsafe(no_mangle)]
 pub extern "C" fn sci_logs_size(object: &mut SciObject, nodes: &mut u8, lines: &mut u8) -> u32
-    ensures nodes { result ≡ SCI_OK → OnLogs object.old.value
-        (λ journal. nodes.new ≡ journal.nodes) }
-    ensures lines { result ≡ SCI_OK → OnLogs object.old.value
-        (λ journal. lines.new ≡ length journal.last) }
-    ensures misuse { result ≡ SCI_MISUSE → logs_in object.old.value ≡ None }
-    ensures status { (result ≡ SCI_OK) ⊎ (result ≡ SCI_MISUSE) }
+    ensures nodes { result ≡ SCI_OK → On (logs_in object.old.value) (λ journal. nodes.new ≡ journal.nodes) }
+    ensures lines { result ≡ SCI_OK → On (logs_in object.old.value) (λ journal. lines.new ≡ length journal.last) }
     ensures same_nodes { result ≢ SCI_OK → nodes.new ≡ nodes.old }
     ensures same_lines { result ≢ SCI_OK → lines.new ≡ lines.old }
-    ensures kept { object.new.value ≡ object.old.value }
+    ensures kept { IsLook logs_in [] object.old.value result object.new.value }
 {
     let Some(journal) = object.logs() else {
         return SCI_MISUSE;
@@ -139,14 +127,11 @@ pub extern "C" fn sci_logs_size(object: &mut SciObject, nodes: &mut u8, lines: &
 /// Counts the entries of a node.
 #[unsafe(no_mangle)]
 pub extern "C" fn sci_logs_count(object: &mut SciObject, node: u8, count: &mut usize) -> u32
-    ensures counted { result ≡ SCI_OK → OnLogs object.old.value
+    ensures counted { result ≡ SCI_OK → On (logs_in object.old.value)
         (λ journal. count.new ≡ length (log_of journal.logs node)) }
     ensures range { result ≡ SCI_RANGE → MAX_NODES ≤ node }
-    ensures range_logs { result ≡ SCI_RANGE → IsSome (logs_in object.old.value) }
-    ensures misuse { result ≡ SCI_MISUSE → logs_in object.old.value ≡ None }
-    ensures status { (result ≡ SCI_OK) ⊎ ((result ≡ SCI_RANGE) ⊎ (result ≡ SCI_MISUSE)) }
     ensures same { result ≢ SCI_OK → count.new ≡ count.old }
-    ensures kept { object.new.value ≡ object.old.value }
+    ensures kept { IsLook logs_in (SCI_RANGE ∷ []) object.old.value result object.new.value }
 {
     let Some(journal) = object.logs() else {
         return SCI_MISUSE;
@@ -166,13 +151,11 @@ pub extern "C" fn sci_logs_entry(
     place: usize,
     entry: &mut SciEntry,
 ) -> u32
-    ensures found { result ≡ SCI_OK → OnLogs object.old.value (IsEntryAt node place entry.new) }
-    ensures range { result ≡ SCI_RANGE → OnLogs object.old.value
+    ensures found { result ≡ SCI_OK → On (logs_in object.old.value) (IsEntryAt node place entry.new) }
+    ensures range { result ≡ SCI_RANGE → On (logs_in object.old.value)
         (λ journal. (MAX_NODES ≤ node) ⊎ (length (log_of journal.logs node) ≤ place)) }
-    ensures misuse { result ≡ SCI_MISUSE → logs_in object.old.value ≡ None }
-    ensures status { (result ≡ SCI_OK) ⊎ ((result ≡ SCI_RANGE) ⊎ (result ≡ SCI_MISUSE)) }
     ensures same { result ≢ SCI_OK → entry.new ≡ entry.old }
-    ensures kept { object.new.value ≡ object.old.value }
+    ensures kept { IsLook logs_in (SCI_RANGE ∷ []) object.old.value result object.new.value }
 {
     let Some(journal) = object.logs() else {
         return SCI_MISUSE;

@@ -1,10 +1,10 @@
 //! Machines.
 
-ghost use Rattle.std.specs.Prelude.{◌≡◌, ◌≢◌, ◌≤◌, ◌⊎◌, Some, None, IsSome};
+ghost use Rattle.std.specs.Prelude.{◌≡◌, ◌≢◌, ◌≤◌, ◌⊎◌, ◌∷◌, [], None, IsSome};
 ghost use Rattle.sci_core.specs.Size.{IsMachineSize};
 ghost use Rattle.sci_c_values.specs.declared.status.TheConstants.{SCI_MISUSE, SCI_NOT_ENABLED, SCI_NO_MEMORY, SCI_OK, SCI_RANGE};
 ghost use Rattle.sci_c_values.specs.{Operation.{SaysEvent}, Saying.{SaysNone}};
-ghost use Rattle.sci_c.specs.{Closing.{IsClosed, IsOpened}, Kinds.{OnMachine, machine_in}};
+ghost use Rattle.sci_c.specs.{Calls.{IsAnswer, IsChange, IsLook}, Closing.{IsClosed, IsOpened}, Kinds.{On, machine_in}};
 ghost use Rattle.sci_c.specs.Machine.{AreLogsOf, HasNoAuthority, IsAuthorityOf, IsMachineLast, IsNotEnabled, IsOpening, IsPartOfSettling, IsSending};
 ghost use Rattle.sci_c.specs.Machine.{IsSettling, IsStep, size};
 ghost use Rattle.sci_c.specs.declared.thing.Kind.TheVariants as kind;
@@ -56,10 +56,8 @@ pub extern "C" fn sci_machine_step(object: &mut SciObject, event: &SciEvent) -> 
     ensures refused { result ≡ SCI_NOT_ENABLED → IsNotEnabled object.old.value event.now }
     ensures memory { result ≡ SCI_NO_MEMORY → IsSending object.old.value event.now }
     ensures range { result ≡ SCI_RANGE → SaysNone (SaysEvent event.now) }
-    ensures range_machine { result ≡ SCI_RANGE → IsSome (machine_in object.old.value) }
-    ensures misuse { result ≡ SCI_MISUSE → machine_in object.old.value ≡ None }
-    ensures status { result ≤ SCI_MISUSE }
-    ensures same { result ≢ SCI_OK → object.new.value ≡ object.old.value }
+    ensures change { IsChange machine_in (SCI_NO_MEMORY ∷ SCI_NOT_ENABLED ∷ SCI_RANGE ∷ [])
+        object.old.value result object.new.value }
 {
     let Some(machine) = object.machine() else {
         return SCI_MISUSE;
@@ -86,12 +84,9 @@ pub extern "C" fn sci_machine_close(alloc: Global, object: &mut SciObject) -> u3
 /// so far lead.
 #[unsafe(no_mangle)]
 pub extern "C" fn sci_machine_settle(object: &mut SciObject, events: &mut u32) -> u32
-    ensures settled { result ≡ SCI_OK
-        → IsSettling object.old.value events.new object.new.value }
-    ensures memory { result ≡ SCI_NO_MEMORY
-        → IsPartOfSettling object.old.value object.new.value }
-    ensures misuse { result ≡ SCI_MISUSE → machine_in object.old.value ≡ None }
-    ensures status { (result ≡ SCI_OK) ⊎ ((result ≡ SCI_NO_MEMORY) ⊎ (result ≡ SCI_MISUSE)) }
+    ensures settled { result ≡ SCI_OK → IsSettling object.old.value events.new object.new.value }
+    ensures memory { result ≡ SCI_NO_MEMORY → IsPartOfSettling object.old.value object.new.value }
+    ensures answer { IsAnswer (SCI_NO_MEMORY ∷ []) (machine_in object.old.value) result }
     ensures same { result ≡ SCI_MISUSE → object.new.value ≡ object.old.value }
     ensures same_events { result ≢ SCI_OK → events.new ≡ events.old }
 {
@@ -114,14 +109,10 @@ pub extern "C" fn sci_machine_last(
     line: u8,
     contents: &mut SciStamped,
 ) -> u32
-    ensures found { result ≡ SCI_OK
-        → OnMachine object.old.value (IsMachineLast line contents.new) }
-    ensures range { result ≡ SCI_RANGE → OnMachine object.old.value
-        (λ machine. machine.size.lines ≤ line) }
-    ensures misuse { result ≡ SCI_MISUSE → machine_in object.old.value ≡ None }
-    ensures status { (result ≡ SCI_OK) ⊎ ((result ≡ SCI_RANGE) ⊎ (result ≡ SCI_MISUSE)) }
+    ensures found { result ≡ SCI_OK → On (machine_in object.old.value) (IsMachineLast line contents.new) }
+    ensures range { result ≡ SCI_RANGE → On (machine_in object.old.value) (λ machine. machine.size.lines ≤ line) }
     ensures same { result ≢ SCI_OK → contents.new ≡ contents.old }
-    ensures kept { object.new.value ≡ object.old.value }
+    ensures kept { IsLook machine_in (SCI_RANGE ∷ []) object.old.value result object.new.value }
 {
     let Some(machine) = object.machine() else {
         return SCI_MISUSE;
@@ -136,14 +127,11 @@ pub extern "C" fn sci_machine_last(
 /// Tells the one node that may change a line or is about to. Not enabled if the home has the line alone.
 #[unsafe(no_mangle)]
 pub extern "C" fn sci_machine_authority(object: &mut SciObject, line: u8, node: &mut u8) -> u32
-    ensures found { result ≡ SCI_OK → OnMachine object.old.value (IsAuthorityOf line node.new) }
-    ensures none { result ≡ SCI_NOT_ENABLED → OnMachine object.old.value (HasNoAuthority line) }
-    ensures range { result ≡ SCI_RANGE → OnMachine object.old.value
-        (λ machine. machine.size.lines ≤ line) }
-    ensures misuse { result ≡ SCI_MISUSE → machine_in object.old.value ≡ None }
-    ensures status { (result ≤ SCI_MISUSE) × (result ≢ SCI_NO_MEMORY) }
+    ensures found { result ≡ SCI_OK → On (machine_in object.old.value) (IsAuthorityOf line node.new) }
+    ensures none { result ≡ SCI_NOT_ENABLED → On (machine_in object.old.value) (HasNoAuthority line) }
+    ensures range { result ≡ SCI_RANGE → On (machine_in object.old.value) (λ machine. machine.size.lines ≤ line) }
     ensures same { result ≢ SCI_OK → node.new ≡ node.old }
-    ensures kept { object.new.value ≡ object.old.value }
+    ensures kept { IsLook machine_in (SCI_NOT_ENABLED ∷ SCI_RANGE ∷ []) object.old.value result object.new.value }
 {
     let Some(machine) = object.machine() else {
         return SCI_MISUSE;
@@ -171,8 +159,7 @@ pub extern "C" fn sci_machine_logs(
     ensures empty { result ≡ SCI_OK → logs.old.value ≡ None }
     ensures memory { result ≡ SCI_NO_MEMORY → IsSome (machine_in object.old.value) }
     ensures memory_empty { result ≡ SCI_NO_MEMORY → logs.old.value ≡ None }
-    ensures misuse { result ≡ SCI_MISUSE
-        → (machine_in object.old.value ≡ None) ⊎ IsSome logs.old.value }
+    ensures misuse { result ≡ SCI_MISUSE → (machine_in object.old.value ≡ None) ⊎ IsSome logs.old.value }
     ensures status { (result ≡ SCI_OK) ⊎ ((result ≡ SCI_NO_MEMORY) ⊎ (result ≡ SCI_MISUSE)) }
     ensures same { result ≢ SCI_OK → logs.new.value ≡ logs.old.value }
     ensures kept { object.new.value ≡ object.old.value }

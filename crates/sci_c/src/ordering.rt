@@ -1,8 +1,8 @@
 //! One order of all entries of logs.
 
-ghost use Rattle.std.specs.Prelude.{◌≡◌, ◌≢◌, ◌<◌, ◌⊎◌, ◌++◌, None, IfOk, drop, length, map};
+ghost use Rattle.std.specs.Prelude.{◌≡◌, ◌≢◌, ◌<◌, ◌⊎◌, ◌∷◌, [], ◌++◌, IfOk, drop, length, map};
 ghost use Rattle.sci_c_values.specs.declared.status.TheConstants.{SCI_FULL, SCI_MISUSE, SCI_NO_MEMORY, SCI_OK};
-ghost use Rattle.sci_c.specs.{declared.ordering.TheConstants.{CYCLE, ORDER, UNLAWFUL}, Kinds.{OnLogs, logs_in}};
+ghost use Rattle.sci_c.specs.{Calls.{IsLook}, declared.ordering.TheConstants.{CYCLE, ORDER, UNLAWFUL}, Kinds.{On, logs_in}};
 ghost use Rattle.sci_c.specs.Order.{IsOrdering, ref_struct, step_struct};
 
 use crate::handle::SciObject;
@@ -103,15 +103,12 @@ pub extern "C" fn sci_logs_order(
     entries: &mut [SciEntry],
     used: &mut usize,
 ) -> u32
-    ensures answer { result ≢ SCI_MISUSE → OnLogs object.old.value
+    ensures answer { result ≢ SCI_MISUSE → On (logs_in object.old.value)
         (IsOrdering entries.old entries.new kind.new used.new result) }
-    ensures misuse { result ≡ SCI_MISUSE → logs_in object.old.value ≡ None }
-    ensures status { (result ≡ SCI_OK) ⊎ ((result ≡ SCI_FULL) ⊎ ((result ≡ SCI_NO_MEMORY) ⊎ (result ≡ SCI_MISUSE))) }
     ensures same { result ≢ SCI_OK → entries.new ≡ entries.old }
     ensures same_kind { result ≢ SCI_OK → kind.new ≡ kind.old }
-    ensures same_memory { result ≡ SCI_NO_MEMORY → used.new ≡ used.old }
-    ensures same_misuse { result ≡ SCI_MISUSE → used.new ≡ used.old }
-    ensures kept { object.new.value ≡ object.old.value }
+    ensures same_used { result ≢ SCI_OK → result ≢ SCI_FULL → used.new ≡ used.old }
+    ensures kept { IsLook logs_in (SCI_NO_MEMORY ∷ SCI_FULL ∷ []) object.old.value result object.new.value }
 {
     let Some(journal) = object.logs() else {
         return SCI_MISUSE;

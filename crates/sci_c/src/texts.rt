@@ -1,9 +1,9 @@
 //! Audits of logs, and logs as text.
 
-ghost use Rattle.std.specs.Prelude.{◌≡◌, ◌≢◌, ◌⊎◌, ◌↔◌, None, IsSome};
+ghost use Rattle.std.specs.Prelude.{◌≡◌, ◌≢◌, ◌⊎◌, ◌↔◌, ◌∷◌, [], None, IsSome};
 ghost use Rattle.sci_history.specs.Lawful.{Lawful};
 ghost use Rattle.sci_c_values.specs.declared.status.TheConstants.{SCI_FULL, SCI_MISUSE, SCI_NO_MEMORY, SCI_OK, SCI_TEXT};
-ghost use Rattle.sci_c.specs.{Kinds.{OnLogs, logs_in}, Logs.{AreRead, AreTooLong, AreWritten, IsFound, IsTextFault}};
+ghost use Rattle.sci_c.specs.{Calls.{IsLook}, Kinds.{On, logs_in}, Logs.{AreRead, AreTooLong, AreWritten, IsFound, IsTextFault}};
 
 use crate::closing::opened;
 use crate::handle::SciObject;
@@ -24,14 +24,11 @@ pub extern "C" fn sci_logs_audit(
     object: &mut SciObject,
     verdict: &mut SciVerdict,
 ) -> u32
-    ensures found { result ≡ SCI_OK → OnLogs object.old.value (IsFound verdict.new) }
-    ensures lawful { result ≡ SCI_OK → OnLogs object.old.value
+    ensures found { result ≡ SCI_OK → On (logs_in object.old.value) (IsFound verdict.new) }
+    ensures lawful { result ≡ SCI_OK → On (logs_in object.old.value)
         (λ journal. (verdict.new.kind ≡ 0) ↔ Lawful journal.logs journal.last) }
-    ensures memory { result ≡ SCI_NO_MEMORY → IsSome (logs_in object.old.value) }
-    ensures misuse { result ≡ SCI_MISUSE → logs_in object.old.value ≡ None }
-    ensures status { (result ≡ SCI_OK) ⊎ ((result ≡ SCI_NO_MEMORY) ⊎ (result ≡ SCI_MISUSE)) }
     ensures same { result ≢ SCI_OK → verdict.new ≡ verdict.old }
-    ensures kept { object.new.value ≡ object.old.value }
+    ensures kept { IsLook logs_in (SCI_NO_MEMORY ∷ []) object.old.value result object.new.value }
 {
     let Some(journal) = object.logs() else {
         return SCI_MISUSE;
@@ -53,7 +50,7 @@ pub extern "C" fn sci_logs_read(
     text: &[u8],
     fault: &mut SciTextFault,
 ) -> u32
-    ensures read { result ≡ SCI_OK → OnLogs object.new.value (AreRead text.now) }
+    ensures read { result ≡ SCI_OK → On (logs_in object.new.value) (AreRead text.now) }
     ensures empty { result ≡ SCI_OK → object.old.value ≡ None }
     ensures fault { result ≡ SCI_TEXT → IsTextFault text.now fault.new }
     ensures misuse { result ≡ SCI_MISUSE → IsSome object.old.value }
@@ -88,16 +85,11 @@ pub extern "C" fn sci_logs_write(
     text: &mut [u8],
     used: &mut usize,
 ) -> u32
-    ensures written { result ≡ SCI_OK
-        → OnLogs object.old.value (AreWritten text.old text.new used.new) }
-    ensures full { result ≡ SCI_FULL → OnLogs object.old.value (AreTooLong text.old used.new) }
-    ensures memory { result ≡ SCI_NO_MEMORY → IsSome (logs_in object.old.value) }
-    ensures misuse { result ≡ SCI_MISUSE → logs_in object.old.value ≡ None }
-    ensures status { (result ≡ SCI_OK) ⊎ ((result ≡ SCI_FULL) ⊎ ((result ≡ SCI_NO_MEMORY) ⊎ (result ≡ SCI_MISUSE))) }
+    ensures written { result ≡ SCI_OK → On (logs_in object.old.value) (AreWritten text.old text.new used.new) }
+    ensures full { result ≡ SCI_FULL → On (logs_in object.old.value) (AreTooLong text.old used.new) }
     ensures same { result ≢ SCI_OK → text.new ≡ text.old }
-    ensures same_memory { result ≡ SCI_NO_MEMORY → used.new ≡ used.old }
-    ensures same_misuse { result ≡ SCI_MISUSE → used.new ≡ used.old }
-    ensures kept { object.new.value ≡ object.old.value }
+    ensures same_used { result ≢ SCI_OK → result ≢ SCI_FULL → used.new ≡ used.old }
+    ensures kept { IsLook logs_in (SCI_NO_MEMORY ∷ SCI_FULL ∷ []) object.old.value result object.new.value }
 {
     let Some(journal) = object.logs() else {
         return SCI_MISUSE;
