@@ -18,11 +18,19 @@ abbrev pub logs_in : Option Thing → Option JournalOf
 logs_in (Some (Logs journal)) = Some journal
 logs_in _ = None
 
--- it keeps one, of which this holds
-pub record On {A : Type 0} (kept : Option A) (P : A → Type 0) : Type 0 where
+-- it keeps a thing of a kind, of which this holds
+pub record On {A : Type 0} (kind : Option Thing → Option A) (value : Option Thing) (P : A → Type 0) : Type 0 where
   pub thing : A
-  pub is_in : kept ≡ Some thing
+  pub is_in : kind value ≡ Some thing
   pub holds : P thing
+
+-- it keeps one before and one after, and this leads from one to the other
+pub record Goes {A : Type 0} (kind : Option Thing → Option A) (old new : Option Thing) (leads : A → A → Type 0) : Type 0 where
+  pub before : A
+  pub after : A
+  pub was : kind old ≡ Some before
+  pub is_now : kind new ≡ Some after
+  pub goes : leads before after
 
 abbrev pub kind_of : Thing → Kind
 kind_of (Machine machine) = kind.Machine

@@ -1,5 +1,5 @@
 -- What the calls for logs answer.
-use Rattle.std.specs.Prelude.{◌≡◌, ℕ, ◌<◌, ◌≤◌, ◌++◌, List, length, slice_get, drop, Option, Some}
+use Rattle.std.specs.Prelude.{◌≡◌, ℕ, ◌<◌, ◌≤◌, ◌++◌, List, length, slice_get, drop, Some}
 use Rattle.sci_words.specs.declared.limits.TheConstants.{MAX_OPERATIONS}
 use Rattle.sci_history.specs.{declared.{entry.Entry.{Entry}, verdict.Verdict.{Verdict}}, Audit.{IsVerdict}}
 use Rattle.sci_history.specs.{Memory.{stamped_at}, Placed.{log_of}}
@@ -9,16 +9,11 @@ use Rattle.sci_c_values.specs.declared.{entry.SciEntry.{SciEntry}, stamped.SciSt
 use Rattle.sci_c_values.specs.declared.verdict.{SciTextFault.{SciTextFault}, SciVerdict.{SciVerdict}}
 use Rattle.sci_c_values.specs.{Entry.{SaysEntry, entry_struct}, Stamped.{stamped_of, stamped_struct}}
 use Rattle.sci_c_values.specs.Verdict.{text_fault_struct, verdict_struct}
-use Rattle.sci_c.specs.{declared.thing.Thing.{Thing}, Journal.{JournalOf, FitsJournal, with_entry, with_last}}
-use Rattle.sci_c.specs.Kinds.{logs_in}
+use Rattle.sci_c.specs.Journal.{JournalOf, FitsJournal, with_entry, with_last}
 
 -- the entry that the struct says ends its node's log
-pub record IsPushed (old : Option Thing) (c : SciEntry) (new : Option Thing) : Type 0 where
-  pub before : JournalOf
-  pub after : JournalOf
+pub record IsPushed (c : SciEntry) (before after : JournalOf) : Type 0 where
   pub entry : Entry
-  pub was : logs_in old ≡ Some before
-  pub is_now : logs_in new ≡ Some after
   pub says : SaysEntry c entry
   pub fits : FitsJournal before c
   pub ends : after ≡ with_entry before entry
@@ -28,11 +23,7 @@ abbrev pub IsFull : SciEntry → JournalOf → Type 0
 IsFull c journal = MAX_OPERATIONS ≤ length (log_of journal.logs c.node)
 
 -- the line has the contents that the struct says
-pub record IsLastSet (old : Option Thing) (line : ℕ) (c : SciStamped) (new : Option Thing) : Type 0 where
-  pub before : JournalOf
-  pub after : JournalOf
-  pub was : logs_in old ≡ Some before
-  pub is_now : logs_in new ≡ Some after
+pub record IsLastSet (line : ℕ) (c : SciStamped) (before after : JournalOf) : Type 0 where
   pub here : line < length before.last
   pub set : after ≡ with_last before line (stamped_of c)
 

@@ -18,50 +18,34 @@ pub record IsOpening (size : Size) (new : Option Thing) : Type 0 where
   pub coherent : IsCoherent (opening size)
 
 -- the machine made the event that the struct says
-pub record IsStep (old : Option Thing) (c : SciEvent) (new : Option Thing) : Type 0 where
-  pub before : Core
-  pub after : Core
+pub record IsStep (c : SciEvent) (before after : Core) : Type 0 where
   pub event : Event
-  pub was : machine_in old ≡ Some before
-  pub is_now : machine_in new ≡ Some after
   pub says : SaysEvent c event
   pub stepping : stepping before event ≡ Some after
   pub coherent : IsCoherent after
 
 -- the event that the struct says is not enabled
-pub record IsNotEnabled (old : Option Thing) (c : SciEvent) : Type 0 where
-  pub machine : Core
+pub record IsNotEnabled (c : SciEvent) (machine : Core) : Type 0 where
   pub event : Event
-  pub was : machine_in old ≡ Some machine
   pub says : SaysEvent c event
   pub none : stepping machine event ≡ None
 
 -- it is enabled, and sends a packet, which takes memory
-pub record IsSending (old : Option Thing) (c : SciEvent) : Type 0 where
-  pub machine : Core
+pub record IsSending (c : SciEvent) (machine : Core) : Type 0 where
   pub event : Event
-  pub was : machine_in old ≡ Some machine
   pub says : SaysEvent c event
   pub enabled : IsSome (stepping machine event)
   pub sends : IsTrue (is_sending event)
 
 -- the machine has come to rest by so many events
-pub record IsSettling (old : Option Thing) (count : ℕ) (new : Option Thing) : Type 0 where
-  pub before : Core
-  pub after : Core
-  pub was : machine_in old ≡ Some before
-  pub is_now : machine_in new ≡ Some after
+pub record IsSettling (count : ℕ) (before after : Core) : Type 0 where
   pub settled : IsSettled after
   pub leads : Leads settles before after count
   pub within : IsWithin before count
   pub coherent : IsCoherent after
 
 -- the machine has made some of the events that bring it to rest
-pub record IsPartOfSettling (old new : Option Thing) : Type 0 where
-  pub before : Core
-  pub after : Core
-  pub was : machine_in old ≡ Some before
-  pub is_now : machine_in new ≡ Some after
+pub record IsPartOfSettling (before after : Core) : Type 0 where
   pub leads : LeadsOn settles before after
   pub coherent : IsCoherent after
 

@@ -1,5 +1,5 @@
 -- What the calls for nodes answer.
-use Rattle.std.specs.Prelude.{◌≡◌, ℕ, ◌++◌, List, drop, length, Option, Some, None, ◌<◌, ◌%◌, slice_get}
+use Rattle.std.specs.Prelude.{◌≡◌, ℕ, ◌++◌, List, drop, length, Some, None, ◌<◌, ◌%◌, slice_get}
 use Rattle.sci_words.specs.declared.{event.{AskKind.{AskKind}, TheConstants.AskKind.{ALL}}, operation.Op.{Op}}
 use Rattle.sci_words.specs.declared.stamped.Stamped.{Stamped}
 use Rattle.sci_packets.specs.{declared.packet.Packet.{Packet}, Spelling.{spelling}}
@@ -11,34 +11,23 @@ use Rattle.sci_home.specs.Serving.{current_of}
 use Rattle.sci_c_values.specs.declared.{entry.SciEntry.{SciEntry}, operation.SciOp.{SciOp}}
 use Rattle.sci_c_values.specs.{declared.stamped.SciStamped.{SciStamped}, Entry.{entry_struct}}
 use Rattle.sci_c_values.specs.{Operation.{SaysOp, op_struct}, Stamped.{stamped_struct}}
-use Rattle.sci_c.specs.{declared.thing.Thing.{Thing}, Kinds.{node_in}}
 
 -- the operation that the struct says is pending, with this serial
-pub record IsIssue (old : Option Thing) (c : SciOp) (serial : ℕ) (new : Option Thing) : Type 0 where
-  pub before : NodeOf
-  pub after : NodeOf
+pub record IsIssue (c : SciOp) (serial : ℕ) (before after : NodeOf) : Type 0 where
   pub op : Op
-  pub was : node_in old ≡ Some before
-  pub is_now : node_in new ≡ Some after
   pub says : SaysOp c op
   pub issued : node_issuing before op ≡ Some after
   pub serial_is : serial ≡ before.issued
 
 -- the operation may not be issued
-pub record IsNoIssue (old : Option Thing) (c : SciOp) : Type 0 where
-  pub node : NodeOf
+pub record IsNoIssue (c : SciOp) (node : NodeOf) : Type 0 where
   pub op : Op
-  pub was : node_in old ≡ Some node
   pub says : SaysOp c op
   pub none : node_issuing node op ≡ None
 
 -- the operation that was pending on the line is performed, and its entry ends the log
-pub record IsPerformed (old : Option Thing) (line : ℕ) (c : SciEntry) (new : Option Thing) : Type 0 where
-  pub before : NodeOf
-  pub after : NodeOf
+pub record IsPerformed (line : ℕ) (c : SciEntry) (before after : NodeOf) : Type 0 where
   pub entry : Entry
-  pub was : node_in old ≡ Some before
-  pub is_now : node_in new ≡ Some after
   pub performed : node_performing before line ≡ Some (after, entry)
   pub struct_is : c ≡ entry_struct entry
 
@@ -50,32 +39,22 @@ pub record IsSpelled (letter : Letter) (old new : List ℕ) (used : ℕ) : Type 
   pub length_is : used ≡ length (spelling packet)
 
 -- the node has asked, and the request stands over the first bytes
-pub record IsAsk (old : Option Thing) (line ask : ℕ) (bytes written : List ℕ) (used : ℕ) (new : Option Thing) : Type 0 where
-  pub before : NodeOf
-  pub after : NodeOf
+pub record IsAsk (line ask : ℕ) (bytes written : List ℕ) (used : ℕ) (before after : NodeOf) : Type 0 where
   pub kind : AskKind
   pub letter : Letter
-  pub was : node_in old ≡ Some before
-  pub is_now : node_in new ≡ Some after
   pub number : slice_get ALL ask ≡ Some kind
   pub asked : node_asking before line kind ≡ Some (after, letter)
   pub spelled : IsSpelled letter bytes written used
 
 -- the node may not ask that
-pub record IsNoAsk (old : Option Thing) (line ask : ℕ) : Type 0 where
-  pub node : NodeOf
+pub record IsNoAsk (line ask : ℕ) (node : NodeOf) : Type 0 where
   pub kind : AskKind
-  pub was : node_in old ≡ Some node
   pub number : slice_get ALL ask ≡ Some kind
   pub none : node_asking node line kind ≡ None
 
 -- the answer that waited is taken, and stands over the first bytes
-pub record IsReply (old : Option Thing) (bytes written : List ℕ) (used : ℕ) (new : Option Thing) : Type 0 where
-  pub before : NodeOf
-  pub after : NodeOf
+pub record IsReply (bytes written : List ℕ) (used : ℕ) (before after : NodeOf) : Type 0 where
   pub letter : Letter
-  pub was : node_in old ≡ Some before
-  pub is_now : node_in new ≡ Some after
   pub replied : node_replying before ≡ Some (after, letter)
   pub spelled : IsSpelled letter bytes written used
 

@@ -7,7 +7,7 @@ ghost use Rattle.sci_text.specs.LogValue.{IsSize};
 ghost use Rattle.sci_c_values.specs.declared.status.TheConstants.{SCI_FULL, SCI_NO_MEMORY, SCI_OK, SCI_RANGE};
 ghost use Rattle.sci_c_values.specs.{Entry.{SaysEntry}, Saying.{SaysNone}};
 ghost use Rattle.sci_c.specs.{Calls.{IsChange, IsLook}, Closing.{IsClosed, IsOpened}, Journal.{FitsJournal, empty_journal}};
-ghost use Rattle.sci_c.specs.{Kinds.{On, logs_in}, Logs.{IsEntryAt, IsFull, IsLastOf, IsLastSet, IsPushed}};
+ghost use Rattle.sci_c.specs.{Kinds.{Goes, On, logs_in}, Logs.{IsEntryAt, IsFull, IsLastOf, IsLastSet, IsPushed}};
 ghost use Rattle.sci_c.specs.declared.thing.Kind.TheVariants as kind;
 
 use crate::closing::{closed, opened};
@@ -51,12 +51,11 @@ pub extern "C" fn sci_logs_close(alloc: Global, object: &mut SciObject) -> u32
 /// Ends the log of the entry's node with the entry.
 #[unsafe(no_mangle)]
 pub extern "C" fn sci_logs_push(object: &mut SciObject, entry: &SciEntry) -> u32
-    ensures pushed { result ≡ SCI_OK → IsPushed object.old.value entry.now object.new.value }
-    ensures full { result ≡ SCI_FULL → On (logs_in object.old.value) (IsFull entry.now) }
-    ensures range { result ≡ SCI_RANGE → On (logs_in object.old.value)
+    ensures pushed { result ≡ SCI_OK → Goes logs_in object.old.value object.new.value (IsPushed entry.now) }
+    ensures full { result ≡ SCI_FULL → On logs_in object.old.value (IsFull entry.now) }
+    ensures range { result ≡ SCI_RANGE → On logs_in object.old.value
         (λ journal. FitsJournal journal entry.now → SaysNone (SaysEntry entry.now)) }
-    ensures memory { result ≡ SCI_NO_MEMORY → On (logs_in object.old.value)
-        (λ journal. FitsJournal journal entry.now) }
+    ensures memory { result ≡ SCI_NO_MEMORY → On logs_in object.old.value (λ journal. FitsJournal journal entry.now) }
     ensures change { IsChange logs_in (SCI_NO_MEMORY ∷ SCI_RANGE ∷ SCI_FULL ∷ [])
         object.old.value result object.new.value }
 {
@@ -75,8 +74,8 @@ pub extern "C" fn sci_logs_push(object: &mut SciObject, entry: &SciEntry) -> u32
 /// Replaces the last contents of a line.
 #[unsafe(no_mangle)]
 pub extern "C" fn sci_logs_set_last(object: &mut SciObject, line: u8, contents: &SciStamped) -> u32
-    ensures done { result ≡ SCI_OK → IsLastSet object.old.value line contents.now object.new.value }
-    ensures range { result ≡ SCI_RANGE → On (logs_in object.old.value) (λ journal. length journal.last ≤ line) }
+    ensures done { result ≡ SCI_OK → Goes logs_in object.old.value object.new.value (IsLastSet line contents.now) }
+    ensures range { result ≡ SCI_RANGE → On logs_in object.old.value (λ journal. length journal.last ≤ line) }
     ensures change { IsChange logs_in (SCI_RANGE ∷ []) object.old.value result object.new.value }
 {
     let Some(journal) = object.logs() else {
@@ -92,8 +91,8 @@ pub extern "C" fn sci_logs_set_last(object: &mut SciObject, line: u8, contents: 
 /// Reads the last contents of a line.
 #[unsafe(no_mangle)]
 pub extern "C" fn sci_logs_last(object: &mut SciObject, line: u8, contents: &mut SciStamped) -> u32
-    ensures found { result ≡ SCI_OK → On (logs_in object.old.value) (IsLastOf line contents.new) }
-    ensures range { result ≡ SCI_RANGE → On (logs_in object.old.value) (λ journal. length journal.last ≤ line) }
+    ensures found { result ≡ SCI_OK → On logs_in object.old.value (IsLastOf line contents.new) }
+    ensures range { result ≡ SCI_RANGE → On logs_in object.old.value (λ journal. length journal.last ≤ line) }
     ensures same { result ≢ SCI_OK → contents.new ≡ contents.old }
     ensures kept { IsLook logs_in (SCI_RANGE ∷ []) object.old.value result object.new.value }
 {
@@ -110,8 +109,8 @@ pub extern "C" fn sci_logs_last(object: &mut SciObject, line: u8, contents: &mut
 /// Tells how many nodes and lines logs have.
 #[unsafe(no_mangle)]
 pub extern "C" fn sci_logs_size(object: &mut SciObject, nodes: &mut u8, lines: &mut u8) -> u32
-    ensures nodes { result ≡ SCI_OK → On (logs_in object.old.value) (λ journal. nodes.new ≡ journal.nodes) }
-    ensures lines { result ≡ SCI_OK → On (logs_in object.old.value) (λ journal. lines.new ≡ length journal.last) }
+    ensures nodes { result ≡ SCI_OK → On logs_in object.old.value (λ journal. nodes.new ≡ journal.nodes) }
+    ensures lines { result ≡ SCI_OK → On logs_in object.old.value (λ journal. lines.new ≡ length journal.last) }
     ensures same_nodes { result ≢ SCI_OK → nodes.new ≡ nodes.old }
     ensures same_lines { result ≢ SCI_OK → lines.new ≡ lines.old }
     ensures kept { IsLook logs_in [] object.old.value result object.new.value }
@@ -127,7 +126,7 @@ pub extern "C" fn sci_logs_size(object: &mut SciObject, nodes: &mut u8, lines: &
 /// Counts the entries of a node.
 #[unsafe(no_mangle)]
 pub extern "C" fn sci_logs_count(object: &mut SciObject, node: u8, count: &mut usize) -> u32
-    ensures counted { result ≡ SCI_OK → On (logs_in object.old.value)
+    ensures counted { result ≡ SCI_OK → On logs_in object.old.value
         (λ journal. count.new ≡ length (log_of journal.logs node)) }
     ensures range { result ≡ SCI_RANGE → MAX_NODES ≤ node }
     ensures same { result ≢ SCI_OK → count.new ≡ count.old }
@@ -151,8 +150,8 @@ pub extern "C" fn sci_logs_entry(
     place: usize,
     entry: &mut SciEntry,
 ) -> u32
-    ensures found { result ≡ SCI_OK → On (logs_in object.old.value) (IsEntryAt node place entry.new) }
-    ensures range { result ≡ SCI_RANGE → On (logs_in object.old.value)
+    ensures found { result ≡ SCI_OK → On logs_in object.old.value (IsEntryAt node place entry.new) }
+    ensures range { result ≡ SCI_RANGE → On logs_in object.old.value
         (λ journal. (MAX_NODES ≤ node) ⊎ (length (log_of journal.logs node) ≤ place)) }
     ensures same { result ≢ SCI_OK → entry.new ≡ entry.old }
     ensures kept { IsLook logs_in (SCI_RANGE ∷ []) object.old.value result object.new.value }

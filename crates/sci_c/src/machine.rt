@@ -4,7 +4,7 @@ ghost use Rattle.std.specs.Prelude.{◌≡◌, ◌≢◌, ◌≤◌, ◌⊎◌, 
 ghost use Rattle.sci_core.specs.Size.{IsMachineSize};
 ghost use Rattle.sci_c_values.specs.declared.status.TheConstants.{SCI_MISUSE, SCI_NOT_ENABLED, SCI_NO_MEMORY, SCI_OK, SCI_RANGE};
 ghost use Rattle.sci_c_values.specs.{Operation.{SaysEvent}, Saying.{SaysNone}};
-ghost use Rattle.sci_c.specs.{Calls.{IsAnswer, IsChange, IsLook}, Closing.{IsClosed, IsOpened}, Kinds.{On, machine_in}};
+ghost use Rattle.sci_c.specs.{Calls.{IsAnswer, IsChange, IsLook}, Closing.{IsClosed, IsOpened}, Kinds.{Goes, On, machine_in}};
 ghost use Rattle.sci_c.specs.Machine.{AreLogsOf, HasNoAuthority, IsAuthorityOf, IsMachineLast, IsNotEnabled, IsOpening, IsPartOfSettling, IsSending};
 ghost use Rattle.sci_c.specs.Machine.{IsSettling, IsStep, size};
 ghost use Rattle.sci_c.specs.declared.thing.Kind.TheVariants as kind;
@@ -52,9 +52,9 @@ pub extern "C" fn sci_machine_open(
 /// Applies the event to the machine.
 #[unsafe(no_mangle)]
 pub extern "C" fn sci_machine_step(object: &mut SciObject, event: &SciEvent) -> u32
-    ensures done { result ≡ SCI_OK → IsStep object.old.value event.now object.new.value }
-    ensures refused { result ≡ SCI_NOT_ENABLED → IsNotEnabled object.old.value event.now }
-    ensures memory { result ≡ SCI_NO_MEMORY → IsSending object.old.value event.now }
+    ensures done { result ≡ SCI_OK → Goes machine_in object.old.value object.new.value (IsStep event.now) }
+    ensures refused { result ≡ SCI_NOT_ENABLED → On machine_in object.old.value (IsNotEnabled event.now) }
+    ensures memory { result ≡ SCI_NO_MEMORY → On machine_in object.old.value (IsSending event.now) }
     ensures range { result ≡ SCI_RANGE → SaysNone (SaysEvent event.now) }
     ensures change { IsChange machine_in (SCI_NO_MEMORY ∷ SCI_NOT_ENABLED ∷ SCI_RANGE ∷ [])
         object.old.value result object.new.value }
@@ -84,9 +84,9 @@ pub extern "C" fn sci_machine_close(alloc: Global, object: &mut SciObject) -> u3
 /// so far lead.
 #[unsafe(no_mangle)]
 pub extern "C" fn sci_machine_settle(object: &mut SciObject, events: &mut u32) -> u32
-    ensures settled { result ≡ SCI_OK → IsSettling object.old.value events.new object.new.value }
-    ensures memory { result ≡ SCI_NO_MEMORY → IsPartOfSettling object.old.value object.new.value }
-    ensures answer { IsAnswer (SCI_NO_MEMORY ∷ []) (machine_in object.old.value) result }
+    ensures settled { result ≡ SCI_OK → Goes machine_in object.old.value object.new.value (IsSettling events.new) }
+    ensures memory { result ≡ SCI_NO_MEMORY → Goes machine_in object.old.value object.new.value IsPartOfSettling }
+    ensures answer { IsAnswer machine_in (SCI_NO_MEMORY ∷ []) object.old.value result }
     ensures same { result ≡ SCI_MISUSE → object.new.value ≡ object.old.value }
     ensures same_events { result ≢ SCI_OK → events.new ≡ events.old }
 {
@@ -109,8 +109,8 @@ pub extern "C" fn sci_machine_last(
     line: u8,
     contents: &mut SciStamped,
 ) -> u32
-    ensures found { result ≡ SCI_OK → On (machine_in object.old.value) (IsMachineLast line contents.new) }
-    ensures range { result ≡ SCI_RANGE → On (machine_in object.old.value) (λ machine. machine.size.lines ≤ line) }
+    ensures found { result ≡ SCI_OK → On machine_in object.old.value (IsMachineLast line contents.new) }
+    ensures range { result ≡ SCI_RANGE → On machine_in object.old.value (λ machine. machine.size.lines ≤ line) }
     ensures same { result ≢ SCI_OK → contents.new ≡ contents.old }
     ensures kept { IsLook machine_in (SCI_RANGE ∷ []) object.old.value result object.new.value }
 {
@@ -127,9 +127,9 @@ pub extern "C" fn sci_machine_last(
 /// Tells the one node that may change a line or is about to. Not enabled if the home has the line alone.
 #[unsafe(no_mangle)]
 pub extern "C" fn sci_machine_authority(object: &mut SciObject, line: u8, node: &mut u8) -> u32
-    ensures found { result ≡ SCI_OK → On (machine_in object.old.value) (IsAuthorityOf line node.new) }
-    ensures none { result ≡ SCI_NOT_ENABLED → On (machine_in object.old.value) (HasNoAuthority line) }
-    ensures range { result ≡ SCI_RANGE → On (machine_in object.old.value) (λ machine. machine.size.lines ≤ line) }
+    ensures found { result ≡ SCI_OK → On machine_in object.old.value (IsAuthorityOf line node.new) }
+    ensures none { result ≡ SCI_NOT_ENABLED → On machine_in object.old.value (HasNoAuthority line) }
+    ensures range { result ≡ SCI_RANGE → On machine_in object.old.value (λ machine. machine.size.lines ≤ line) }
     ensures same { result ≢ SCI_OK → node.new ≡ node.old }
     ensures kept { IsLook machine_in (SCI_NOT_ENABLED ∷ SCI_RANGE ∷ []) object.old.value result object.new.value }
 {

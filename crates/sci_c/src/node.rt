@@ -7,7 +7,7 @@ ghost use Rattle.sci_core.specs.Size.{IsMachineSize};
 ghost use Rattle.sci_c_values.specs.declared.status.TheConstants.{SCI_NOT_ENABLED, SCI_OK, SCI_RANGE};
 ghost use Rattle.sci_c_values.specs.{Operation.{SaysOp}, Saying.{SaysNone}};
 ghost use Rattle.sci_words.specs.declared.event.TheConstants.AskKind.{ALL};
-ghost use Rattle.sci_c.specs.{Calls.{IsChange, IsLook}, Closing.{IsClosed, IsOpened}, Kinds.{On, node_in}, Machine.{size}};
+ghost use Rattle.sci_c.specs.{Calls.{IsChange, IsLook}, Closing.{IsClosed, IsOpened}, Kinds.{Goes, On, node_in}, Machine.{size}};
 ghost use Rattle.sci_c.specs.Node.{HasNoContents, IsAsk, IsHomeContents, IsIssue, IsNoAsk, IsNoIssue, IsPendingOf, IsPerformed, IsReply};
 ghost use Rattle.sci_c.specs.declared.thing.Kind.TheVariants as kind;
 
@@ -64,8 +64,8 @@ pub extern "C" fn sci_node_close(alloc: Global, object: &mut SciObject) -> u32
 /// Issues an operation, and gives its serial.
 #[unsafe(no_mangle)]
 pub extern "C" fn sci_node_issue(object: &mut SciObject, op: &SciOp, serial: &mut u32) -> u32
-    ensures done { result ≡ SCI_OK → IsIssue object.old.value op.now serial.new object.new.value }
-    ensures refused { result ≡ SCI_NOT_ENABLED → IsNoIssue object.old.value op.now }
+    ensures done { result ≡ SCI_OK → Goes node_in object.old.value object.new.value (IsIssue op.now serial.new) }
+    ensures refused { result ≡ SCI_NOT_ENABLED → On node_in object.old.value (IsNoIssue op.now) }
     ensures range { result ≡ SCI_RANGE → SaysNone (SaysOp op.now) }
     ensures change { IsChange node_in (SCI_NOT_ENABLED ∷ SCI_RANGE ∷ []) object.old.value result object.new.value }
     ensures same_serial { result ≢ SCI_OK → serial.new ≡ serial.old }
@@ -88,8 +88,8 @@ pub extern "C" fn sci_node_issue(object: &mut SciObject, op: &SciOp, serial: &mu
 /// Performs the operation that is pending on a line, and gives its entry.
 #[unsafe(no_mangle)]
 pub extern "C" fn sci_node_perform(object: &mut SciObject, line: u8, entry: &mut SciEntry) -> u32
-    ensures done { result ≡ SCI_OK → IsPerformed object.old.value line entry.new object.new.value }
-    ensures refused { result ≡ SCI_NOT_ENABLED → On (node_in object.old.value)
+    ensures done { result ≡ SCI_OK → Goes node_in object.old.value object.new.value (IsPerformed line entry.new) }
+    ensures refused { result ≡ SCI_NOT_ENABLED → On node_in object.old.value
         (λ node. node_performing node line ≡ None) }
     ensures change { IsChange node_in (SCI_NOT_ENABLED ∷ []) object.old.value result object.new.value }
     ensures same_entry { result ≢ SCI_OK → entry.new ≡ entry.old }
@@ -115,8 +115,9 @@ pub extern "C" fn sci_node_ask(
     bytes: &mut [u8; 88],
     used: &mut usize,
 ) -> u32
-    ensures done { result ≡ SCI_OK → IsAsk object.old.value line ask bytes.old bytes.new used.new object.new.value }
-    ensures refused { result ≡ SCI_NOT_ENABLED → IsNoAsk object.old.value line ask }
+    ensures done { result ≡ SCI_OK → Goes node_in object.old.value object.new.value
+        (IsAsk line ask bytes.old bytes.new used.new) }
+    ensures refused { result ≡ SCI_NOT_ENABLED → On node_in object.old.value (IsNoAsk line ask) }
     ensures range { result ≡ SCI_RANGE → slice_get ALL ask ≡ None }
     ensures change { IsChange node_in (SCI_NOT_ENABLED ∷ SCI_RANGE ∷ []) object.old.value result object.new.value }
     ensures same_bytes { result ≢ SCI_OK → bytes.new ≡ bytes.old }
@@ -144,8 +145,9 @@ pub extern "C" fn sci_node_take_answer(
     bytes: &mut [u8; 88],
     used: &mut usize,
 ) -> u32
-    ensures done { result ≡ SCI_OK → IsReply object.old.value bytes.old bytes.new used.new object.new.value }
-    ensures refused { result ≡ SCI_NOT_ENABLED → On (node_in object.old.value) (λ node. node_replying node ≡ None) }
+    ensures done { result ≡ SCI_OK → Goes node_in object.old.value object.new.value
+        (IsReply bytes.old bytes.new used.new) }
+    ensures refused { result ≡ SCI_NOT_ENABLED → On node_in object.old.value (λ node. node_replying node ≡ None) }
     ensures change { IsChange node_in (SCI_NOT_ENABLED ∷ []) object.old.value result object.new.value }
     ensures same_bytes { result ≢ SCI_OK → bytes.new ≡ bytes.old }
     ensures same_used { result ≢ SCI_OK → used.new ≡ used.old }
@@ -170,8 +172,8 @@ pub extern "C" fn sci_node_pending(
     op: &mut SciOp,
     serial: &mut u32,
 ) -> u32
-    ensures found { result ≡ SCI_OK → On (node_in object.old.value) (IsPendingOf line serial.new op.new) }
-    ensures none { result ≡ SCI_NOT_ENABLED → On (node_in object.old.value) (λ node. pending_on node line ≡ None) }
+    ensures found { result ≡ SCI_OK → On node_in object.old.value (IsPendingOf line serial.new op.new) }
+    ensures none { result ≡ SCI_NOT_ENABLED → On node_in object.old.value (λ node. pending_on node line ≡ None) }
     ensures same_op { result ≢ SCI_OK → op.new ≡ op.old }
     ensures same_serial { result ≢ SCI_OK → serial.new ≡ serial.old }
     ensures kept { IsLook node_in (SCI_NOT_ENABLED ∷ []) object.old.value result object.new.value }
@@ -192,7 +194,7 @@ pub extern "C" fn sci_node_pending(
 /// Tells whether no operation is pending and no line has an entry: 1, and else 0.
 #[unsafe(no_mangle)]
 pub extern "C" fn sci_node_is_at_rest(object: &mut SciObject, at_rest: &mut u32) -> u32
-    ensures rest { result ≡ SCI_OK → On (node_in object.old.value) (λ node. (at_rest.new ≡ 1) ↔ IsAtRest node) }
+    ensures rest { result ≡ SCI_OK → On node_in object.old.value (λ node. (at_rest.new ≡ 1) ↔ IsAtRest node) }
     ensures flag { result ≡ SCI_OK → at_rest.new ≤ 1 }
     ensures same { result ≢ SCI_OK → at_rest.new ≡ at_rest.old }
     ensures kept { IsLook node_in [] object.old.value result object.new.value }
@@ -207,9 +209,9 @@ pub extern "C" fn sci_node_is_at_rest(object: &mut SciObject, at_rest: &mut u32)
 /// Reads the contents of a line whose home is at the node, if the home has them.
 #[unsafe(no_mangle)]
 pub extern "C" fn sci_node_home(object: &mut SciObject, line: u8, contents: &mut SciStamped) -> u32
-    ensures found { result ≡ SCI_OK → On (node_in object.old.value) (IsHomeContents line contents.new) }
-    ensures none { result ≡ SCI_NOT_ENABLED → On (node_in object.old.value) (HasNoContents line) }
-    ensures range { result ≡ SCI_RANGE → On (node_in object.old.value) (λ node. lines_of node ≤ line) }
+    ensures found { result ≡ SCI_OK → On node_in object.old.value (IsHomeContents line contents.new) }
+    ensures none { result ≡ SCI_NOT_ENABLED → On node_in object.old.value (HasNoContents line) }
+    ensures range { result ≡ SCI_RANGE → On node_in object.old.value (λ node. lines_of node ≤ line) }
     ensures same { result ≢ SCI_OK → contents.new ≡ contents.old }
     ensures kept { IsLook node_in (SCI_NOT_ENABLED ∷ SCI_RANGE ∷ []) object.old.value result object.new.value }
 {

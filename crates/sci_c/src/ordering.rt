@@ -103,7 +103,7 @@ pub extern "C" fn sci_logs_order(
     entries: &mut [SciEntry],
     used: &mut usize,
 ) -> u32
-    ensures answer { result ≢ SCI_MISUSE → On (logs_in object.old.value)
+    ensures answer { result ≢ SCI_MISUSE → On logs_in object.old.value
         (IsOrdering entries.old entries.new kind.new used.new result) }
     ensures same { result ≢ SCI_OK → entries.new ≡ entries.old }
     ensures same_kind { result ≢ SCI_OK → kind.new ≡ kind.old }

@@ -24,8 +24,8 @@ pub extern "C" fn sci_logs_audit(
     object: &mut SciObject,
     verdict: &mut SciVerdict,
 ) -> u32
-    ensures found { result ≡ SCI_OK → On (logs_in object.old.value) (IsFound verdict.new) }
-    ensures lawful { result ≡ SCI_OK → On (logs_in object.old.value)
+    ensures found { result ≡ SCI_OK → On logs_in object.old.value (IsFound verdict.new) }
+    ensures lawful { result ≡ SCI_OK → On logs_in object.old.value
         (λ journal. (verdict.new.kind ≡ 0) ↔ Lawful journal.logs journal.last) }
     ensures same { result ≢ SCI_OK → verdict.new ≡ verdict.old }
     ensures kept { IsLook logs_in (SCI_NO_MEMORY ∷ []) object.old.value result object.new.value }
@@ -50,7 +50,7 @@ pub extern "C" fn sci_logs_read(
     text: &[u8],
     fault: &mut SciTextFault,
 ) -> u32
-    ensures read { result ≡ SCI_OK → On (logs_in object.new.value) (AreRead text.now) }
+    ensures read { result ≡ SCI_OK → On logs_in object.new.value (AreRead text.now) }
     ensures empty { result ≡ SCI_OK → object.old.value ≡ None }
     ensures fault { result ≡ SCI_TEXT → IsTextFault text.now fault.new }
     ensures misuse { result ≡ SCI_MISUSE → IsSome object.old.value }
@@ -85,8 +85,8 @@ pub extern "C" fn sci_logs_write(
     text: &mut [u8],
     used: &mut usize,
 ) -> u32
-    ensures written { result ≡ SCI_OK → On (logs_in object.old.value) (AreWritten text.old text.new used.new) }
-    ensures full { result ≡ SCI_FULL → On (logs_in object.old.value) (AreTooLong text.old used.new) }
+    ensures written { result ≡ SCI_OK → On logs_in object.old.value (AreWritten text.old text.new used.new) }
+    ensures full { result ≡ SCI_FULL → On logs_in object.old.value (AreTooLong text.old used.new) }
     ensures same { result ≢ SCI_OK → text.new ≡ text.old }
     ensures same_used { result ≢ SCI_OK → result ≢ SCI_FULL → used.new ≡ used.old }
     ensures kept { IsLook logs_in (SCI_NO_MEMORY ∷ SCI_FULL ∷ []) object.old.value result object.new.value }

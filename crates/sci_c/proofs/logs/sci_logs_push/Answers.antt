@@ -5,10 +5,7 @@ pub returns-in-Some-entry_in-clause-pushed : goal.returns-in-Some-entry_in-claus
 returns-in-Some-entry_in-clause-pushed c = λ ok. record {
   before = c.in-Some.journal.now;
   after = c.push.new.self;
-  entry = c.in-Some-entry_in.said;
   was = search rules;
   is_now = refl;
-  says = c.in-Some-entry_in.ensures;
-  fits = search rules;
-  ends = c.push.ensures.done ok;
+  goes = record { entry = c.in-Some-entry_in.said; says = c.in-Some-entry_in.ensures; fits = search rules; ends = c.push.ensures.done ok };
 }

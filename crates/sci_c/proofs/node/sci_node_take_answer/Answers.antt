@@ -6,9 +6,11 @@ pub returns-in-Some-take_answer-clause-done : goal.returns-in-Some-take_answer-c
 returns-in-Some-take_answer-clause-done c = λ status. record {
   before = c.in-Some.node.now;
   after = c.take_answer.new.self;
-  letter = letter_of c.in-Some-take_answer.packet;
   was = search rules;
   is_now = refl;
-  replied = c.in-Some-take_answer.ensures.taken;
-  spelled = record { packet = c.in-Some-take_answer.packet; letter_is = refl; bytes = c.encode.ensures.bytes; length_is = c.encode.ensures.length };
+  goes = record {
+    letter = letter_of c.in-Some-take_answer.packet;
+    replied = c.in-Some-take_answer.ensures.taken;
+    spelled = record { packet = c.in-Some-take_answer.packet; letter_is = refl; bytes = c.encode.ensures.bytes; length_is = c.encode.ensures.length };
+  };
 }
