@@ -11,3 +11,4 @@ pub mod Object
 pub mod Order
 pub mod Packet
 pub mod Taking
+pub mod Written

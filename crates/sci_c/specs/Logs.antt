@@ -1,5 +1,5 @@
 -- What the calls for logs answer.
-use Rattle.std.specs.Prelude.{◌≡◌, ℕ, ◌<◌, ◌≤◌, ◌++◌, List, length, slice_get, drop, Some}
+use Rattle.std.specs.Prelude.{◌≡◌, ℕ, ◌<◌, ◌≤◌, List, length, slice_get, Some}
 use Rattle.sci_words.specs.declared.limits.TheConstants.{MAX_OPERATIONS}
 use Rattle.sci_history.specs.{declared.{entry.Entry.{Entry}, verdict.Verdict.{Verdict}}, Audit.{IsVerdict}}
 use Rattle.sci_history.specs.{Memory.{stamped_at}, Placed.{log_of}}
@@ -9,7 +9,7 @@ use Rattle.sci_c_values.specs.declared.{entry.SciEntry.{SciEntry}, stamped.SciSt
 use Rattle.sci_c_values.specs.declared.verdict.{SciTextFault.{SciTextFault}, SciVerdict.{SciVerdict}}
 use Rattle.sci_c_values.specs.{Entry.{SaysEntry, entry_struct}, Stamped.{stamped_of, stamped_struct}}
 use Rattle.sci_c_values.specs.Verdict.{text_fault_struct, verdict_struct}
-use Rattle.sci_c.specs.Journal.{JournalOf, FitsJournal, with_entry, with_last}
+use Rattle.sci_c.specs.{Journal.{JournalOf, FitsJournal, with_entry, with_last}, Written.{StandOver}}
 
 -- the entry that the struct says ends its node's log
 pub record IsPushed (c : SciEntry) (before after : JournalOf) : Type 0 where
@@ -61,8 +61,7 @@ text_of journal = log_text journal.nodes journal.logs journal.last
 
 -- the text of the logs stands over the first bytes, and is read back if the logs are within the limits of a text
 pub record AreWritten (old new : List ℕ) (used : ℕ) (journal : JournalOf) : Type 0 where
-  pub bytes : new ≡ text_of journal ++ drop used old
-  pub length_is : used ≡ length (text_of journal)
+  pub stand : StandOver (text_of journal) old new used
   pub text_is : AreLogs journal.nodes journal.logs journal.last → IsLogs (text_of journal) journal.nodes journal.logs journal.last
 
 -- the text has more bytes than there is room

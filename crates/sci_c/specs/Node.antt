@@ -1,16 +1,17 @@
 -- What the calls for nodes answer.
-use Rattle.std.specs.Prelude.{◌≡◌, ℕ, ◌++◌, List, drop, length, Some, None, ◌<◌, ◌%◌, slice_get}
+use Rattle.std.specs.Prelude.{◌≡◌, ℕ, List, Some, None, ◌<◌, ◌%◌, slice_get}
 use Rattle.sci_words.specs.declared.{event.{AskKind.{AskKind}, TheConstants.AskKind.{ALL}}, operation.Op.{Op}}
 use Rattle.sci_words.specs.declared.stamped.Stamped.{Stamped}
 use Rattle.sci_packets.specs.{declared.packet.Packet.{Packet}, Spelling.{spelling}}
 use Rattle.sci_history.specs.declared.entry.Entry.{Entry}
-use Rattle.sci_cache.specs.Cache.{Letter, letter_of}
+use Rattle.sci_cache.specs.Cache.{letter_of}
 use Rattle.sci_core.specs.declared.pending.Pending.{Pending}
 use Rattle.sci_core.specs.Node.{NodeOf, node_issuing, node_performing, node_asking, node_replying, pending_on, home_of, lines_of}
 use Rattle.sci_home.specs.Serving.{current_of}
 use Rattle.sci_c_values.specs.declared.{entry.SciEntry.{SciEntry}, operation.SciOp.{SciOp}}
 use Rattle.sci_c_values.specs.{declared.stamped.SciStamped.{SciStamped}, Entry.{entry_struct}}
 use Rattle.sci_c_values.specs.{Operation.{SaysOp, op_struct}, Stamped.{stamped_struct}}
+use Rattle.sci_c.specs.Written.{StandOver}
 
 -- the operation that the struct says is pending, with this serial
 pub record IsIssue (c : SciOp) (serial : ℕ) (before after : NodeOf) : Type 0 where
@@ -31,20 +32,13 @@ pub record IsPerformed (line : ℕ) (c : SciEntry) (before after : NodeOf) : Typ
   pub performed : node_performing before line ≡ Some (after, entry)
   pub struct_is : c ≡ entry_struct entry
 
--- the bytes of a packet stand over the first bytes
-pub record IsSpelled (letter : Letter) (old new : List ℕ) (used : ℕ) : Type 0 where
-  pub packet : Packet
-  pub letter_is : letter_of packet ≡ letter
-  pub bytes : new ≡ spelling packet ++ drop used old
-  pub length_is : used ≡ length (spelling packet)
-
 -- the node has asked, and the request stands over the first bytes
 pub record IsAsk (line ask : ℕ) (bytes written : List ℕ) (used : ℕ) (before after : NodeOf) : Type 0 where
   pub kind : AskKind
-  pub letter : Letter
+  pub packet : Packet
   pub number : slice_get ALL ask ≡ Some kind
-  pub asked : node_asking before line kind ≡ Some (after, letter)
-  pub spelled : IsSpelled letter bytes written used
+  pub asked : node_asking before line kind ≡ Some (after, letter_of packet)
+  pub stand : StandOver (spelling packet) bytes written used
 
 -- the node may not ask that
 pub record IsNoAsk (line ask : ℕ) (node : NodeOf) : Type 0 where
@@ -54,9 +48,9 @@ pub record IsNoAsk (line ask : ℕ) (node : NodeOf) : Type 0 where
 
 -- the answer that waited is taken, and stands over the first bytes
 pub record IsReply (bytes written : List ℕ) (used : ℕ) (before after : NodeOf) : Type 0 where
-  pub letter : Letter
-  pub replied : node_replying before ≡ Some (after, letter)
-  pub spelled : IsSpelled letter bytes written used
+  pub packet : Packet
+  pub replied : node_replying before ≡ Some (after, letter_of packet)
+  pub stand : StandOver (spelling packet) bytes written used
 
 -- the operation that is pending on a line
 pub record IsPendingOf (line : ℕ) (serial : ℕ) (c : SciOp) (node : NodeOf) : Type 0 where

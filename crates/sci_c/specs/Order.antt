@@ -1,11 +1,11 @@
 -- What a look for one order of all entries answers.
-use Rattle.std.specs.Prelude.{◌≡◌, ℕ, ◌<◌, ◌≤◌, ◌⊎◌, ◌↔◌, List, ◌++◌, drop, length, map}
+use Rattle.std.specs.Prelude.{◌≡◌, ℕ, ◌<◌, ◌≤◌, ◌⊎◌, ◌↔◌, List, length, map}
 use denote.Ref.{Bor}
 use Rattle.sci_history.specs.{declared.{entry.Entry.{Entry}, order_verdict.Step.{Step}}, Cycle.{HasNoShortcut, IsCycle}}
 use Rattle.sci_history.specs.{Lawful.{Lawful}, Sequential.{IsSequentialOrder, IsSequentiallyConsistent}}
 use Rattle.sci_c_values.specs.declared.{entry.SciEntry.{SciEntry}, status.TheConstants.{SCI_FULL, SCI_OK}}
 use Rattle.sci_c_values.specs.Entry.{entry_struct}
-use Rattle.sci_c.specs.{declared.ordering.TheConstants.{CYCLE, ORDER, UNLAWFUL}, Journal.{JournalOf}}
+use Rattle.sci_c.specs.{declared.ordering.TheConstants.{CYCLE, ORDER, UNLAWFUL}, Journal.{JournalOf}, Written.{StandOver}}
 
 -- the struct of an entry behind a reference, and of that of a step
 abbrev pub ref_struct : Bor Entry → SciEntry
@@ -18,16 +18,14 @@ step_struct step = entry_struct step.entry
 pub record IsOrderIn (old new : List SciEntry) (used : ℕ) (journal : JournalOf) : Type 0 where
   pub order : List Entry
   pub is_order : IsSequentialOrder journal.logs journal.last order
-  pub entries : new ≡ map entry_struct order ++ drop used old
-  pub length_is : used ≡ length order
+  pub stand : StandOver (map entry_struct order) old new used
 
 -- a cycle of entries, of which none can be left out, stands there
 pub record IsCycleIn (old new : List SciEntry) (used : ℕ) (journal : JournalOf) : Type 0 where
   pub steps : List Step
   pub is_cycle : IsCycle journal.logs steps
   pub no_shortcut : HasNoShortcut steps
-  pub entries : new ≡ map step_struct steps ++ drop used old
-  pub length_is : used ≡ length steps
+  pub stand : StandOver (map step_struct steps) old new used
 
 -- so many entries have an order, or are such a cycle
 pub record IsOrderOf (used : ℕ) (journal : JournalOf) : Type 0 where

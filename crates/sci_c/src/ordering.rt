@@ -1,9 +1,9 @@
 //! One order of all entries of logs.
 
-ghost use Rattle.std.specs.Prelude.{◌≡◌, ◌≢◌, ◌<◌, ◌⊎◌, ◌∷◌, [], ◌++◌, IfOk, drop, length, map};
+ghost use Rattle.std.specs.Prelude.{◌≡◌, ◌≢◌, ◌<◌, ◌⊎◌, ◌∷◌, [], IfOk, length, map};
 ghost use Rattle.sci_c_values.specs.declared.status.TheConstants.{SCI_FULL, SCI_MISUSE, SCI_NO_MEMORY, SCI_OK};
 ghost use Rattle.sci_c.specs.{Calls.{IsLook}, declared.ordering.TheConstants.{CYCLE, ORDER, UNLAWFUL}, Kinds.{On, logs_in}};
-ghost use Rattle.sci_c.specs.Order.{IsOrdering, ref_struct, step_struct};
+ghost use Rattle.sci_c.specs.{Order.{IsOrdering, ref_struct, step_struct}, Written.{StandOver}};
 
 use crate::handle::SciObject;
 use crate::journal::Journal;
@@ -45,7 +45,7 @@ fn put(
     entries: &mut [SciEntry],
     used: &mut usize,
 ) -> u32
-    ensures written { result ≡ SCI_OK → entries.new ≡ made.now ++ drop used.new entries.old }
+    ensures written { result ≡ SCI_OK → StandOver made.now entries.old entries.new used.new }
     ensures kind { result ≡ SCI_OK → kind.new ≡ found }
     ensures full { result ≡ SCI_FULL → length entries.old < used.new }
     ensures used { used.new ≡ length made.now }

@@ -1,9 +1,10 @@
 //! Packets as bytes and as words.
 
-ghost use Rattle.std.specs.Prelude.{◌≡◌, ◌≢◌, ◌≤◌, length, take};
-ghost use Rattle.sci_packets.specs.{Fault.{fault_of, fault_of_words}, Spelling.{NoneSpells, NoneSpellsInWords}};
-ghost use Rattle.sci_c_values.specs.{Packet.{IsPlain}, declared.status.TheConstants.{SCI_OK}};
-ghost use Rattle.sci_c.specs.Packet.{IsPacketRefusal, IsRead, IsReadOfWords, IsWritten, IsWrittenInWords, fault_status, refusal_number};
+ghost use Rattle.std.specs.Prelude.{◌≡◌, ◌≢◌};
+ghost use Rattle.sci_packets.specs.Fault.{fault_of, fault_of_words};
+ghost use Rattle.sci_packets.specs.Spelling.{NoneSpells, NoneSpellsInWords, Spells, SpellsInWords, spelling, words_of};
+ghost use Rattle.sci_c_values.specs.declared.status.TheConstants.{SCI_OK};
+ghost use Rattle.sci_c.specs.Packet.{IsPacketRefusal, IsRead, IsWritten, fault_status, refusal_number};
 
 use sci_c_values::{
     PacketRefusal, SCI_OK, SCI_RANGE, SciPacket, packet_in, packet_out, status_of_fault,
@@ -23,9 +24,7 @@ fn status_of_refusal(refusal: PacketRefusal) -> u32
 #[unsafe(no_mangle)]
 pub extern "C" fn sci_packet_decode(bytes: &[u8], packet: &mut SciPacket, used: &mut usize) -> u32
     ensures status { result ≡ fault_status (fault_of bytes.now) }
-    ensures found { result ≡ SCI_OK → IsRead (take used.new bytes.now) packet.new }
-    ensures length { result ≡ SCI_OK → used.new ≤ length bytes.now }
-    ensures plain { result ≡ SCI_OK → IsPlain packet.new }
+    ensures found { result ≡ SCI_OK → IsRead Spells bytes.now used.new packet.new }
     ensures refused { result ≢ SCI_OK → NoneSpells bytes.now }
     ensures same { result ≢ SCI_OK → packet.new ≡ packet.old }
     ensures same_used { result ≢ SCI_OK → used.new ≡ used.old }
@@ -47,7 +46,7 @@ pub extern "C" fn sci_packet_encode(
     bytes: &mut [u8; 88],
     used: &mut usize,
 ) -> u32
-    ensures written { result ≡ SCI_OK → IsWritten packet.now bytes.old bytes.new used.new }
+    ensures written { result ≡ SCI_OK → IsWritten spelling packet.now bytes.old bytes.new used.new }
     ensures refused { result ≢ SCI_OK → IsPacketRefusal packet.now result }
     ensures same { result ≢ SCI_OK → bytes.new ≡ bytes.old }
     ensures same_used { result ≢ SCI_OK → used.new ≡ used.old }
@@ -69,9 +68,7 @@ pub extern "C" fn sci_packet_from_words(
     used: &mut usize,
 ) -> u32
     ensures status { result ≡ fault_status (fault_of_words words.now) }
-    ensures found { result ≡ SCI_OK → IsReadOfWords (take used.new words.now) packet.new }
-    ensures length { result ≡ SCI_OK → used.new ≤ length words.now }
-    ensures plain { result ≡ SCI_OK → IsPlain packet.new }
+    ensures found { result ≡ SCI_OK → IsRead SpellsInWords words.now used.new packet.new }
     ensures refused { result ≢ SCI_OK → NoneSpellsInWords words.now }
     ensures same { result ≢ SCI_OK → packet.new ≡ packet.old }
     ensures same_used { result ≢ SCI_OK → used.new ≡ used.old }
@@ -93,7 +90,7 @@ pub extern "C" fn sci_packet_to_words(
     words: &mut [u64; 11],
     used: &mut usize,
 ) -> u32
-    ensures written { result ≡ SCI_OK → IsWrittenInWords packet.now words.old words.new used.new }
+    ensures written { result ≡ SCI_OK → IsWritten words_of packet.now words.old words.new used.new }
     ensures refused { result ≢ SCI_OK → IsPacketRefusal packet.now result }
     ensures same { result ≢ SCI_OK → words.new ≡ words.old }
     ensures same_used { result ≢ SCI_OK → used.new ≡ used.old }

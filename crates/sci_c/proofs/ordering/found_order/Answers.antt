@@ -1,5 +1,5 @@
-use Rattle.std.proofs.Common.{rules, arith, ◌≡◌, ◌++◌, ◌∙◌, ℕ, List, Option, drop, length, map, sym, ap, subst}
-use Rattle.std.proofs.lemmas.{Grind.{common_steps}, Simd.{map-map}, List.{length-map}}
+use Rattle.std.proofs.Common.{rules, arith, ◌≡◌, ◌∙◌, ℕ, List, Option, length, map, sym, ap, subst}
+use Rattle.std.proofs.lemmas.{Grind.{common_steps}, Simd.{map-map}}
 use denote.Ref.{Bor}
 use Rattle.std.specs.Global.{Vec}
 use Rattle.sci_words.specs.declared.{limits.TheConstants.{MAX_NODES}, stamped.Stamped.{Stamped}}
@@ -8,7 +8,7 @@ use Rattle.sci_history.specs.{declared.order_verdict.OrderVerdict.{OrderVerdict}
 use Rattle.sci_history.specs.{Cycle.{IsOrderVerdict}, Lawful.{Lawful}, Placed.{AreOwn}, Sequential.{IsSequentialOrder}}
 use Rattle.sci_history.proofs.AuditLines.{verdict_is}
 use Rattle.sci_c_values.specs.{declared.entry.SciEntry.{SciEntry}, Entry.{entry_struct}}
-use Rattle.sci_c.specs.Order.{ref_struct}
+use Rattle.sci_c.specs.{Order.{ref_struct}, Written.{StandOver}}
 use Rattle.sci_history.specs.declared.verdict.Verdict.TheVariants as verdict
 use Rattle.sci_history.specs.declared.order_verdict.OrderVerdict.TheVariants as order_verdict
 use Rattle.sci_c.proofs.ordering.found_order.Goals as goal
@@ -46,8 +46,7 @@ returns-in-Ok-clause-answer c =
         order = entries_of order.items;
         is_order = ordered_for c.args.journal.now.logs c.logs-logs.result.now c.args.journal.now.last c.last.result.now c.in-Ok-Order.field-0 order
             c.logs-logs.ensures.logs c.last.ensures c.in-Ok-Order.field-0-is c.in-Ok-Order.ensures.verdict;
-        entries = c.put.ensures.written ok ∙ ap (λ (structs : List SciEntry). structs ++ drop c.put.new.used c.args.entries.now) made;
-        length_is = c.put.ensures.used ∙ ap length made ∙ length-map (entries_of order.items) entry_struct;
+        stand = subst (λ (structs : List SciEntry). StandOver structs c.args.entries.now c.put.new.entries c.put.new.used) made (c.put.ensures.written ok);
       };
       cycle = search rules;
       unlawful = search rules;
