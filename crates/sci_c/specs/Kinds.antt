@@ -1,9 +1,8 @@
 -- What an object keeps.
 use Rattle.std.specs.Prelude.{◌≡◌, Option, Some, None}
 use Rattle.sci_core.specs.{Core.{Core}, Node.{NodeOf}}
-use Rattle.sci_c.specs.{Journal.{JournalOf}, declared.thing.{Kind.{Kind}, Thing.{Thing}}}
+use Rattle.sci_c.specs.{Journal.{JournalOf}, declared.thing.Thing.{Thing}}
 use Rattle.sci_c.specs.declared.thing.Thing.TheVariants.{Machine, Node, Logs}
-use Rattle.sci_c.specs.declared.thing.Kind.TheVariants as kind
 
 -- the machine, the node or the logs, if that is what it keeps
 abbrev pub machine_in : Option Thing → Option Core
@@ -31,13 +30,3 @@ pub record Goes {A : Type 0} (kind : Option Thing → Option A) (old new : Optio
   pub was : kind old ≡ Some before
   pub is_now : kind new ≡ Some after
   pub goes : leads before after
-
-abbrev pub kind_of : Thing → Kind
-kind_of (Machine machine) = kind.Machine
-kind_of (Node node) = kind.Node
-kind_of (Logs journal) = kind.Logs
-
--- it keeps a thing of this kind
-abbrev pub IsOf : Kind → Option Thing → Type 0
-IsOf kind None = ⊥
-IsOf kind (Some thing) = kind_of thing ≡ kind

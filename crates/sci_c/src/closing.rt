@@ -1,11 +1,10 @@
 //! Opening and closing of objects.
 
-ghost use Rattle.std.specs.Prelude.{◌≡◌, ◌≢◌, ◌⊎◌, Some, None};
+ghost use Rattle.std.specs.Prelude.{◌≡◌, ◌≢◌, ◌⊎◌, Some, None, IsSome, IsTrue, false};
 ghost use Rattle.sci_c_values.specs.declared.status.TheConstants.{SCI_MISUSE, SCI_NO_MEMORY, SCI_OK};
-ghost use Rattle.sci_c.specs.Closing.{IsClosed};
 
 use crate::handle::SciObject;
-use crate::thing::{Kind, Thing};
+use crate::thing::Thing;
 use sci_c_values::{SCI_MISUSE, SCI_NO_MEMORY, SCI_OK};
 use std::alloc::Global;
 
@@ -25,14 +24,18 @@ pub(crate) fn opened(alloc: Global, object: &mut SciObject, thing: Thing) -> u32
     }
 }
 
-/// Lets a thing of this kind go, and leaves the object empty, as it may be already.
-pub(crate) fn closed(alloc: Global, object: &mut SciObject, kind: Kind) -> u32
-    ensures { IsClosed kind object.old.value result object.new.value }
+/// Lets the thing go if it is of the kind that is wanted, and leaves the object empty, as it may be already.
+pub(crate) fn closed(alloc: Global, object: &mut SciObject, is_of_kind: bool) -> u32
+    ensures done { result ≡ SCI_OK → object.new.value ≡ None }
+    ensures was { result ≡ SCI_OK → (object.old.value ≡ None) ⊎ IsTrue is_of_kind }
+    ensures misuse { result ≡ SCI_MISUSE → IsSome object.old.value × (is_of_kind ≡ false) }
+    ensures status { (result ≡ SCI_OK) ⊎ (result ≡ SCI_MISUSE) }
+    ensures same { result ≢ SCI_OK → object.new.value ≡ object.old.value }
 {
-    let Some(thing) = object.thing() else {
+    if object.live() == 0 {
         return SCI_OK;
-    };
-    if thing.kind() != kind {
+    }
+    if !is_of_kind {
         return SCI_MISUSE;
     }
     drop(object.take(alloc));

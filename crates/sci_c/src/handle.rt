@@ -107,7 +107,7 @@ impl SciObject {
     }
 
     /// The thing, if there is one.
-    pub(crate) fn thing(&mut self) -> Option<&mut Thing>
+    fn thing(&mut self) -> Option<&mut Thing>
         ensures* writes_back { sem 𝓛 (LendsIf the_row thing_row self.entry result (with_thing self.old) self.old) }
         ensures value { MatchOption result (self.old.value ≡ None) (λ lent. with_thing self.old lent.now ≡ self.old) }
     {

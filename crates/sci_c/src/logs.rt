@@ -8,12 +8,11 @@ ghost use Rattle.sci_c_values.specs.declared.status.TheConstants.{SCI_FULL, SCI_
 ghost use Rattle.sci_c_values.specs.{Entry.{SaysEntry}, Saying.{SaysNone}};
 ghost use Rattle.sci_c.specs.{Calls.{IsChange, IsLook}, Closing.{IsClosed, IsOpened}, Journal.{FitsJournal, empty_journal}};
 ghost use Rattle.sci_c.specs.{Kinds.{Goes, On, logs_in}, Logs.{IsEntryAt, IsFull, IsLastOf, IsLastSet, IsPushed}};
-ghost use Rattle.sci_c.specs.declared.thing.Kind.TheVariants as kind;
 
 use crate::closing::{closed, opened};
 use crate::handle::SciObject;
 use crate::journal::Journal;
-use crate::thing::{Kind, Thing};
+use crate::thing::Thing;
 use sci_c_values::{
     SCI_MISUSE, SCI_OK, SCI_RANGE, SciEntry, SciStamped, entry_in, entry_out, stamped_in,
     stamped_out,
@@ -43,9 +42,10 @@ pub extern "C" fn sci_logs_open(alloc: Global, object: &mut SciObject, nodes: u8
 /// Lets logs go, and leaves the object empty.
 #[unsafe(no_mangle)]
 pub extern "C" fn sci_logs_close(alloc: Global, object: &mut SciObject) -> u32
-    ensures { IsClosed kind.Logs object.old.value result object.new.value }
+    ensures { IsClosed logs_in object.old.value result object.new.value }
 {
-    closed(alloc, object, Kind::Logs)
+    let is_of_kind = object.logs().is_some();
+    closed(alloc, object, is_of_kind)
 }
 
 /// Ends the log of the entry's node with the entry.

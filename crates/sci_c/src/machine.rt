@@ -7,12 +7,11 @@ ghost use Rattle.sci_c_values.specs.{Operation.{SaysEvent}, Saying.{SaysNone}};
 ghost use Rattle.sci_c.specs.{Calls.{IsAnswer, IsChange, IsLook}, Closing.{IsClosed, IsOpened}, Kinds.{Goes, On, machine_in}};
 ghost use Rattle.sci_c.specs.Machine.{AreLogsOf, HasNoAuthority, IsAuthorityOf, IsMachineLast, IsNotEnabled, IsOpening, IsPartOfSettling, IsSending};
 ghost use Rattle.sci_c.specs.Machine.{IsSettling, IsStep, size};
-ghost use Rattle.sci_c.specs.declared.thing.Kind.TheVariants as kind;
 
 use crate::closing::{closed, opened};
 use crate::handle::SciObject;
 use crate::journal::Journal;
-use crate::thing::{Kind, Thing};
+use crate::thing::Thing;
 use sci_c_values::{
     SCI_MISUSE, SCI_NO_MEMORY, SCI_NOT_ENABLED, SCI_OK, SCI_RANGE, SciEvent, SciStamped, event_in,
     stamped_out,
@@ -75,9 +74,10 @@ pub extern "C" fn sci_machine_step(object: &mut SciObject, event: &SciEvent) -> 
 /// Lets a machine go, and leaves the object empty.
 #[unsafe(no_mangle)]
 pub extern "C" fn sci_machine_close(alloc: Global, object: &mut SciObject) -> u32
-    ensures { IsClosed kind.Machine object.old.value result object.new.value }
+    ensures { IsClosed machine_in object.old.value result object.new.value }
 {
-    closed(alloc, object, Kind::Machine)
+    let is_of_kind = object.machine().is_some();
+    closed(alloc, object, is_of_kind)
 }
 
 /// Brings the machine to rest, and gives the number of events. If memory is refused, the machine stands where the events made

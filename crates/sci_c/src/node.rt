@@ -9,11 +9,10 @@ ghost use Rattle.sci_c_values.specs.{Operation.{SaysOp}, Saying.{SaysNone}};
 ghost use Rattle.sci_words.specs.declared.event.TheConstants.AskKind.{ALL};
 ghost use Rattle.sci_c.specs.{Calls.{IsChange, IsLook}, Closing.{IsClosed, IsOpened}, Kinds.{Goes, On, node_in}, Machine.{size}};
 ghost use Rattle.sci_c.specs.Node.{HasNoContents, IsAsk, IsHomeContents, IsIssue, IsNoAsk, IsNoIssue, IsPendingOf, IsPerformed, IsReply};
-ghost use Rattle.sci_c.specs.declared.thing.Kind.TheVariants as kind;
 
 use crate::closing::{closed, opened};
 use crate::handle::SciObject;
-use crate::thing::{Kind, Thing};
+use crate::thing::Thing;
 use sci_c_values::{
     SCI_MISUSE, SCI_NO_MEMORY, SCI_NOT_ENABLED, SCI_OK, SCI_RANGE, SciEntry, SciOp, SciStamped,
     entry_out, op_in, op_out, stamped_out,
@@ -56,9 +55,10 @@ pub extern "C" fn sci_node_open(
 /// Lets a node's controller go, and leaves the object empty.
 #[unsafe(no_mangle)]
 pub extern "C" fn sci_node_close(alloc: Global, object: &mut SciObject) -> u32
-    ensures { IsClosed kind.Node object.old.value result object.new.value }
+    ensures { IsClosed node_in object.old.value result object.new.value }
 {
-    closed(alloc, object, Kind::Node)
+    let is_of_kind = object.node().is_some();
+    closed(alloc, object, is_of_kind)
 }
 
 /// Issues an operation, and gives its serial.
