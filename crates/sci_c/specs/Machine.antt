@@ -66,9 +66,7 @@ pub record HasNoAuthority (line : ℕ) (machine : Core) : Type 0 where
   pub none : (n : ℕ) → n < machine.size.nodes → IsAuthority machine line n → ⊥
 
 -- the logs and the last contents of a machine
-pub record AreLogsOf (old new : Option Thing) : Type 0 where
-  pub machine : Core
-  pub was : machine_in old ≡ Some machine
+pub record AreLogsOf (new : Option Thing) (machine : Core) : Type 0 where
   pub are : logs_in new ≡ Some (journal_of machine.size.nodes (logs_of machine) (last_of machine))
   pub lawful : Lawful (logs_of machine) (last_of machine)
   pub consistent : IsSequentiallyConsistent (logs_of machine) (last_of machine)

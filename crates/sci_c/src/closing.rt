@@ -1,6 +1,6 @@
 //! Opening and closing of objects.
 
-ghost use Rattle.std.specs.Prelude.{◌≡◌, ◌≢◌, ◌⊎◌, Some, None, IsSome, IsTrue, false};
+ghost use Rattle.std.specs.Prelude.{◌≡◌, ◌≢◌, ◌↔◌, ◌⊎◌, Some, None, IsSome, false};
 ghost use Rattle.sci_c_values.specs.declared.status.TheConstants.{SCI_MISUSE, SCI_NO_MEMORY, SCI_OK};
 
 use crate::handle::SciObject;
@@ -27,8 +27,7 @@ pub(crate) fn opened(alloc: Global, object: &mut SciObject, thing: Thing) -> u32
 /// Lets the thing go if it is of the kind that is wanted, and leaves the object empty, as it may be already.
 pub(crate) fn closed(alloc: Global, object: &mut SciObject, is_of_kind: bool) -> u32
     ensures done { result ≡ SCI_OK → object.new.value ≡ None }
-    ensures was { result ≡ SCI_OK → (object.old.value ≡ None) ⊎ IsTrue is_of_kind }
-    ensures misuse { result ≡ SCI_MISUSE → IsSome object.old.value × (is_of_kind ≡ false) }
+    ensures misuse { (result ≡ SCI_MISUSE) ↔ (IsSome object.old.value × (is_of_kind ≡ false)) }
     ensures status { (result ≡ SCI_OK) ⊎ (result ≡ SCI_MISUSE) }
     ensures same { result ≢ SCI_OK → object.new.value ≡ object.old.value }
 {

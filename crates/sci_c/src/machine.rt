@@ -1,6 +1,6 @@
 //! Machines.
 
-ghost use Rattle.std.specs.Prelude.{◌≡◌, ◌≢◌, ◌≤◌, ◌⊎◌, ◌∷◌, [], None, IsSome};
+ghost use Rattle.std.specs.Prelude.{◌≡◌, ◌≢◌, ◌≤◌, ◌↔◌, ◌⊎◌, ◌∷◌, [], None, IsSome};
 ghost use Rattle.sci_core.specs.Size.{IsMachineSize};
 ghost use Rattle.sci_c_values.specs.declared.status.TheConstants.{SCI_MISUSE, SCI_NOT_ENABLED, SCI_NO_MEMORY, SCI_OK, SCI_RANGE};
 ghost use Rattle.sci_c_values.specs.{Operation.{SaysEvent}, Saying.{SaysNone}};
@@ -80,8 +80,8 @@ pub extern "C" fn sci_machine_close(alloc: Global, object: &mut SciObject) -> u3
     closed(alloc, object, is_of_kind)
 }
 
-/// Brings the machine to rest, and gives the number of events. If memory is refused, the machine stands where the events made
-/// so far lead.
+/// Brings the machine to rest, and gives the number of events. If memory is refused, the machine stands where the events
+/// made so far lead.
 #[unsafe(no_mangle)]
 pub extern "C" fn sci_machine_settle(object: &mut SciObject, events: &mut u32) -> u32
     ensures settled { result ≡ SCI_OK → Goes machine_in object.old.value object.new.value (IsSettling events.new) }
@@ -155,11 +155,8 @@ pub extern "C" fn sci_machine_logs(
     object: &mut SciObject,
     logs: &mut SciObject,
 ) -> u32
-    ensures done { result ≡ SCI_OK → AreLogsOf object.old.value logs.new.value }
-    ensures empty { result ≡ SCI_OK → logs.old.value ≡ None }
-    ensures memory { result ≡ SCI_NO_MEMORY → IsSome (machine_in object.old.value) }
-    ensures memory_empty { result ≡ SCI_NO_MEMORY → logs.old.value ≡ None }
-    ensures misuse { result ≡ SCI_MISUSE → (machine_in object.old.value ≡ None) ⊎ IsSome logs.old.value }
+    ensures done { result ≡ SCI_OK → On machine_in object.old.value (AreLogsOf logs.new.value) }
+    ensures misuse { (result ≡ SCI_MISUSE) ↔ ((machine_in object.old.value ≡ None) ⊎ IsSome logs.old.value) }
     ensures status { (result ≡ SCI_OK) ⊎ ((result ≡ SCI_NO_MEMORY) ⊎ (result ≡ SCI_MISUSE)) }
     ensures same { result ≢ SCI_OK → logs.new.value ≡ logs.old.value }
     ensures kept { object.new.value ≡ object.old.value }

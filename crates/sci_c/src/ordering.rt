@@ -93,8 +93,8 @@ fn found_order(
     }
 }
 
-/// Looks for one order of all entries that makes logs sequentially consistent, and writes it over the first entries, or a cycle
-/// that shows that there is none.
+/// Looks for one order of all entries that makes logs sequentially consistent, and writes it over the first entries, or a
+/// cycle that shows that there is none.
 #[unsafe(no_mangle)]
 pub extern "C" fn sci_logs_order(
     alloc: Global,

@@ -1,6 +1,6 @@
 //! Audits of logs, and logs as text.
 
-ghost use Rattle.std.specs.Prelude.{◌≡◌, ◌≢◌, ◌⊎◌, ◌↔◌, ◌∷◌, [], None, IsSome};
+ghost use Rattle.std.specs.Prelude.{◌≡◌, ◌≢◌, ◌⊎◌, ◌↔◌, ◌∷◌, [], IsSome};
 ghost use Rattle.sci_history.specs.Lawful.{Lawful};
 ghost use Rattle.sci_c_values.specs.declared.status.TheConstants.{SCI_FULL, SCI_MISUSE, SCI_NO_MEMORY, SCI_OK, SCI_TEXT};
 ghost use Rattle.sci_c.specs.{Calls.{IsLook}, Kinds.{On, logs_in}, Logs.{AreRead, AreTooLong, AreWritten, IsFound, IsTextFault}};
@@ -51,11 +51,8 @@ pub extern "C" fn sci_logs_read(
     fault: &mut SciTextFault,
 ) -> u32
     ensures read { result ≡ SCI_OK → On logs_in object.new.value (AreRead text.now) }
-    ensures empty { result ≡ SCI_OK → object.old.value ≡ None }
     ensures fault { result ≡ SCI_TEXT → IsTextFault text.now fault.new }
-    ensures misuse { result ≡ SCI_MISUSE → IsSome object.old.value }
-    ensures empty_fault { result ≡ SCI_TEXT → object.old.value ≡ None }
-    ensures memory { result ≡ SCI_NO_MEMORY → object.old.value ≡ None }
+    ensures misuse { (result ≡ SCI_MISUSE) ↔ IsSome object.old.value }
     ensures status { (result ≡ SCI_OK) ⊎ ((result ≡ SCI_TEXT) ⊎ ((result ≡ SCI_NO_MEMORY) ⊎ (result ≡ SCI_MISUSE))) }
     ensures same { result ≢ SCI_OK → object.new.value ≡ object.old.value }
     ensures same_fault { result ≢ SCI_TEXT → fault.new ≡ fault.old }

@@ -14,9 +14,11 @@ pub returns-in-Ok-clause-done : goal.returns-in-Ok-clause-done
 returns-in-Ok-clause-done c = λ ok.
     let made = same_journal c.extent.ensures.nodes c.in-Ok.ensures.logs c.last.ensures.last in
     record {
-      machine = c.in-Some.machine.now;
-      was = c.in-Some.ensures.value;
-      are = ap logs_in (c.opened.ensures.opened ok) ∙ ap (λ (journal : JournalOf). Some journal) (c.of-journal.ensures ∙ made);
-      lawful = subst (Lawful (logs_of c.in-Some.machine.now)) c.last.ensures.last c.last.ensures.lawful;
-      consistent = subst (IsSequentiallyConsistent (logs_of c.in-Some.machine.now)) c.last.ensures.last c.last.ensures.consistent;
+      thing = c.in-Some.machine.now;
+      is_in = c.in-Some.ensures.value;
+      holds = record {
+        are = ap logs_in (c.opened.ensures.opened ok) ∙ ap (λ (journal : JournalOf). Some journal) (c.of-journal.ensures ∙ made);
+        lawful = subst (Lawful (logs_of c.in-Some.machine.now)) c.last.ensures.last c.last.ensures.lawful;
+        consistent = subst (IsSequentiallyConsistent (logs_of c.in-Some.machine.now)) c.last.ensures.last c.last.ensures.consistent;
+      };
     }
