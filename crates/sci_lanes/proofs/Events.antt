@@ -363,10 +363,10 @@ frees size slots id lane number part event next number_is may =
 -- ---- beat
 
 pub beats : (size : Size) (slots id : ℕ) (part : Part) (event : Event) (next : NodeOf) → IsBeating part event next
-    → Allows (IsKept size) slots id (single part, []) (own_place size.nodes (me_of part)) (λ n. (n + 1) % 2 ^ 64)
-    (Beats event next (step slots (own_place size.nodes (me_of part)) 1 0 none) (single part, []))
+    → Allows (IsKept size) slots id (single part, []) (own_place size.nodes (me_of part)) (λ n. n)
+    (Beats event next (step slots (own_place size.nodes (me_of part)) 0 0 none) (single part, []))
 beats size slots id part event next may =
-    allows size slots id place part (λ n. (n + 1) % 2 ^ 64) (Beats event next (step slots place 1 0 none) (single part, [])) owes
+    allows size slots id place part (λ n. n) (Beats event next (step slots place 0 0 none) (single part, [])) owes
   where
     me : ℕ
     me = me_of part
@@ -374,7 +374,7 @@ beats size slots id part event next may =
     place : ℕ
     place = own_place size.nodes me
 
-    owes : Owes size id place part (λ n. (n + 1) % 2 ^ 64) (Beats event next (step slots place 1 0 none) (single part, []))
+    owes : Owes size id place part (λ n. n) (Beats event next (step slots place 0 0 none) (single part, []))
     owes s kept here k = (
       informed (x.schedule ++ event ∷ []) (with_node_known next part),
       went,
@@ -385,7 +385,7 @@ beats size slots id part event next may =
         x = kept.whole
 
         value : ℕ
-        value = (get_or s.words place 0 + 1) % 2 ^ 64
+        value = get_or s.words place 0
 
         core : Core
         core = with_node x.core me next

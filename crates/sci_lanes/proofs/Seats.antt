@@ -240,7 +240,7 @@ module _ (key : Extent × ℕ) (table seat : TableId) (id : ℕ) (knows : Me (Un
 pub beat_asks : (key : Extent × ℕ) (table seat : TableId) (id : ℕ) (knows : Me (Unit {0}) View) (me nodes place : ℕ) (event : Event) (next : NodeOf)
     → IsSeated key table seat knows → (now : EndOf) → record { table = seat; part = part_of knows.0 } ≡ now
     → me ≡ me_of now.part → nodes ≡ nodes_in now.part → IsBeating now.part event next → place ≡ own_place nodes me
-    → Asks key table seat id knows place (λ n. (n + 1) % 2 ^ 64) (Beats event next (step table.slots place 1 0 none) knows)
+    → Asks key table seat id knows place (λ n. n) (Beats event next (step table.slots place 0 0 none) knows)
 beat_asks key table seat id knows me nodes place event next s now view me_is nodes_are may is =
     let part = part_of knows.0 in
     let part_is : part ≡ now.part = ap (λ (e : EndOf). e.part) view in
@@ -252,7 +252,7 @@ beat_asks key table seat id knows me nodes place event next s now view me_is nod
     let long = s.long in (
       s.same,
       omega arith,
-      allowed_seated key table.slots id place (own_place key.0.nodes (me_of part)) knows part (λ n. (n + 1) % 2 ^ 64)
-          (λ p k. Beats event next (step table.slots p 1 0 none) k) s.seated at
+      allowed_seated key table.slots id place (own_place key.0.nodes (me_of part)) knows part (λ n. n)
+          (λ p k. Beats event next (step table.slots p 0 0 none) k) s.seated at
           (beats (size_of key.0 key.1) table.slots id part event next (subst (λ (p : Part). IsBeating p event next) (sym part_is) may)),
     )

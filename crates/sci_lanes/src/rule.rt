@@ -118,7 +118,7 @@ impl<B: Becomes> Play<(), View> for Free<B> {
     ghost then = { Frees B.event B.next };
 }
 
-/// An addition of 1 to a node's own word.
+/// A load of a node's own word.
 pub(crate) struct Beat<B> {
     becomes: PhantomData<B>,
 }

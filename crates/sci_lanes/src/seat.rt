@@ -132,7 +132,8 @@ impl NodeSeat {
         shared.store::<Free<B>>(&mut self.seat, place, 0);
     }
 
-    /// Adds 1 to the own word of the node `me`, which is the seat's: the node becomes `after`.
+    /// Loads the own word of the node `me`, which is the seat's: the node becomes `after`. No store is needed, since no
+    /// other node has to see it; a load of a word that no node stores costs next to nothing.
     pub(crate) fn beat<B: Becomes>(&mut self, me: u8, nodes: u8, event: &Event, after: &Node)
         requires event { event.now ≡ B.event }
         requires after { after.now ≡ B.next }
@@ -146,8 +147,9 @@ impl NodeSeat {
     {
         let place = own_word(nodes, me);
         let shared = &self.table.shared;
-        shared.fetch_add::<Beat<B>>(&mut self.seat, place, 1);
+        let _word = shared.load::<Beat<B>>(&mut self.seat, place);
     }
+
     /// Gives the node to a seat of the same table that has read no word.
     pub(crate) fn join(self, root: &mut Seat<(), View>)
         requires same { root.old.table_id ≡ self.table }
