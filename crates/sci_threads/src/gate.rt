@@ -1,17 +1,25 @@
 //! The gate of nodes that only wait for each other's end.
 
+use crossbeam_utils::CachePadded;
 use sci_drive::Gate;
 use sci_history::Entry;
 use std::alloc::{AllocError, Global};
 use std::sync::atomic::{AtomicU64, Ordering};
-use std::thread;
+use std::{hint, thread};
+
+/// So many rests after an answer are spins, each of as many pauses. All further rests are yields.
+const SPINS: u32 = 4;
 
 /// Lets a node submit each operation as soon as it can, counts the nodes that are done, and yields the thread where
-/// nothing moves.
+/// nothing moves. After an answer it spins a few times first: a yield is a call of the kernel, and the answer to a request
+/// is often there before it returns.
 #[derive(Drop)]
 pub struct YieldingGate<'a> {
     done: &'a AtomicU64,
     nodes: u8,
+    /// How often it has rested since an operation was answered, at most `SPINS`. Padded, since the gate stands beside what
+    /// other threads store to.
+    rests: CachePadded<u32>,
 }
 
 impl<'a> YieldingGate<'a> {
@@ -28,7 +36,11 @@ impl<'a> YieldingGate<'a> {
     {
         let mut gates = Vec::with_capacity(alloc, nodes as usize)?;
         for _node in 0..nodes {
-            gates.push(YieldingGate { done, nodes })?;
+            gates.push(YieldingGate {
+                done,
+                nodes,
+                rests: CachePadded::new(0),
+            })?;
         }
         Ok(gates)
     }
@@ -41,7 +53,9 @@ impl<'a> Gate for YieldingGate<'a> {
         true
     }
 
-    fn answered(&mut self, _entry: &Entry) {}
+    fn answered(&mut self, _entry: &Entry) {
+        *self.rests = 0;
+    }
 
     fn done(&mut self) {
         let _before = self.done.fetch_add(1, Ordering::SeqCst);
@@ -52,7 +66,14 @@ impl<'a> Gate for YieldingGate<'a> {
     }
 
     fn rest(&mut self) {
-        thread::yield_now();
+        if *self.rests < SPINS {
+            *self.rests += 1;
+            for _ in 0..SPINS {
+                hint::spin_loop();
+            }
+        } else {
+            thread::yield_now();
+        }
     }
 
     ghost hears_nothing = { λ x. tt };
