@@ -20,7 +20,7 @@ use Rattle.sci_drive.specs.{Driving.{HasSubmittedNothing}, Script.{IsWholeLogOf}
 use Rattle.sci_core.proofs.{WellFormed.WellFormedSteps.{reached_well}, ReachedLaws.{log_at, log_beyond, beyond_log}}
 use Rattle.sci_station.specs.{Ends.{IsSameEnd}, Station.{StationOf, end_in, node_in, opening_station}}
 use Rattle.sci_station.proofs.Belonging.{opened_of, same_of}
-use Rattle.sci_threads.specs.Shares.{AreLedTo, operations_of, own_of, size_for}
+use Rattle.sci_threads.specs.Shares.{AreLedTo, IsOfEachLog, IsOfEachLogOf, operations_of, own_of, size_for}
 
 -- ---- sizes
 
@@ -32,6 +32,11 @@ sized_for extent script nodes lines slots =
   where
     size : ℕ → ℕ → ℕ → Size
     size n l s = record { nodes = n; lines = l; slots = s; limit = MAX_OPERATIONS }
+
+-- what leads the one leads the other
+pub led_for : (extent : Extent) (script : ScriptValue) (core : Core) → extent.nodes ≡ script.nodes → extent.lines ≡ script.lines
+    → extent.slots ≡ script.slots → IsLedTo (size_of extent MAX_OPERATIONS) core → IsLedTo (size_for script) core
+led_for extent script core nodes lines slots = subst (λ (z : Size). IsLedTo z core) (sized_for extent script nodes lines slots)
 
 -- ---- lists
 
@@ -154,16 +159,13 @@ in_order logs count core reached is nodes each node = elim (cases_lt node count)
   ])
 ]
 
--- What holds of each end's log, and of the operations that stand under its number, holds of each node's log and the node's
--- operations.
-pub each_log : {Z : Type 0} (Good : List Op → List Entry → Type 0) (s : ScriptValue) (operations : List (Vec Op Z)) (ends : List EndOf)
-    (logs : List (List Entry)) → length operations ≡ s.nodes
-    → ((n : ℕ) (d : Vec Op Z) → n < s.nodes → (slice_index_or operations n d).items ≡ operations_of n s.operations) → AreAll s.nodes ends → HaveLogs ends logs
-    → All (λ end. Good (own_of operations (me_of end.part)) end.part.node.log) ends
-    → (node : ℕ) → node < s.nodes → Good (operations_of node s.operations) (log_of logs node)
-each_log Good s operations ends logs many own all have good node lt =
-    subst (λ (ops : List Op). Good ops (log_of logs node)) (own_is s operations node many own lt)
-    (logs_have Good (own_of operations) ends logs s.nodes all have good node lt)
+-- what is so of the lists of operations that stand under the nodes' numbers, is so of the script
+pub of_script : {Z : Type 0} (Good : List Op → List Entry → Type 0) (s : ScriptValue) (operations : List (Vec Op Z)) (logs : List (List Entry))
+    → length operations ≡ s.nodes
+    → ((n : ℕ) (d : Vec Op Z) → n < s.nodes → (slice_index_or operations n d).items ≡ operations_of n s.operations) → (nodes : ℕ) → nodes ≡ s.nodes
+    → IsOfEachLog Good nodes (own_of operations) logs → IsOfEachLogOf Good s logs
+of_script Good s operations logs many own nodes is good node lt =
+    subst (λ (ops : List Op). Good ops (log_of logs node)) (own_is s operations node many own lt) (good node (subst (λ (n : ℕ). node < n) (sym is) lt))
 
 -- a slice that is written back over a vector of its length is all of it
 pub written_back : {A : Type 0} (len : ℕ) (new old : List A) → len ≡ length old → length new ≡ length old → take len (new ++ drop (length new) old) ≡ new

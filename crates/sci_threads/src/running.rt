@@ -1,12 +1,12 @@
 //! A script that is run by threads.
 
-ghost use Rattle.std.specs.Prelude.{◌≡◌, IfOk, true, length};
+ghost use Rattle.std.specs.Prelude.{◌≡◌, ◌≤◌, All, IfOk, true, length};
 ghost use Rattle.sci_words.specs.declared.limits.TheConstants.{MAX_OPERATIONS};
 ghost use Rattle.sci_history.specs.{Lawful.{Lawful}, Sequential.{AreInProgramOrder, IsSequentiallyConsistent}};
-ghost use Rattle.sci_core.specs.Outcome.{logs_of};
+ghost use Rattle.sci_core.specs.{Outcome.{logs_of}, Size.{size_of}};
 ghost use Rattle.sci_lanes.specs.Gathering.{IsLedTo};
-ghost use Rattle.sci_drive.specs.declared.driver.Issuing.TheVariants.{InOrder};
-ghost use Rattle.sci_threads.specs.Shares.{AreLedTo, HaveFrontLogsOf, HaveLogsOf, HaveWholeLogsOf, size_for};
+ghost use Rattle.sci_drive.specs.{declared.driver.Issuing.TheVariants.{InOrder}, Script.{IsFrontOf, IsLogOf, IsWholeLogOf}};
+ghost use Rattle.sci_threads.specs.Shares.{AreLedTo, HaveFrontLogsOf, HaveLogsOf, HaveWholeLogsOf, IsOfEachLog, own_of, size_for};
 
 use crate::shares::{Plan, gathered, operations_by_node, run_all, shares};
 use sci_core::Machine;
@@ -15,23 +15,57 @@ use sci_history::{Last, Logs};
 use sci_lanes::FinishFault;
 use sci_station::Fabric;
 use sci_text::Script;
-use sci_words::MAX_OPERATIONS;
+use sci_words::{Extent, MAX_OPERATIONS};
 use std::alloc::{AllocError, Global};
 use std::thread::Threads;
 
-/// Runs a script: the station of each node is driven through the node's operations, with its own gate, in a thread of
-/// its own, for at most `turns` turns. If a thread hasn't begun after some 250,000 turns of another, as when it can't
-/// be made, all nodes go on in the calling thread, a turn each in a circle. Gives the machine that the stations made, which
-/// can be looked at, driven on, or finished; and whether all nodes have finished. Requires that there is one gate for each
-/// node. Refused if memory is.
+/// Runs the operations of each node: its station is driven through them, with its own gate, in a thread of its own, for at
+/// most as many turns as the plan says. If a thread hasn't begun after some 250,000 turns of another, as when it can't be
+/// made, all nodes go on in the calling thread, a turn each in a circle. Gives the machine that the stations made, which can
+/// be looked at, driven on, or finished; and whether all nodes have finished. Requires that there are one gate and one list of
+/// at most 65,536 operations for each node. Refused if memory is.
 ///
 /// - A schedule leads the machine to its state, whatever the threads did.
 /// - In each node's log each entry has the operation of the node that its serial names, and no serial stands twice.
-/// - If all have finished, each operation of the script has just one entry.
+/// - If all have finished, each operation has just one entry.
 ///
 /// Ahead, a node has up to four operations pending at once, each on another line, and may perform them in another order than
-/// the script's. In order, it issues an operation only when all before it are performed. So its log has its first operations,
-/// in the order of the script, whether it has finished or not.
+/// they stand. In order, it issues an operation only when all before it are performed. So its log has its first operations,
+/// in their order, whether it has finished or not.
+pub fn run_plan<R: Threads + Sync, G: Gate + Send + Drop>(
+    rt: &R,
+    alloc: Global,
+    extent: Extent,
+    gates: Vec<G>,
+    plan: Plan<'_>,
+) -> Result<(Machine, bool), AllocError>
+    requires gates { length gates.items ≡ extent.nodes }
+    requires lists { length plan.operations.now ≡ extent.nodes }
+    requires few { All (λ own. length own.items ≤ MAX_OPERATIONS) plan.operations.now }
+    ensures led { IfOk result (λ ran. IsLedTo (size_of extent MAX_OPERATIONS) ran.0) }
+    ensures named { IfOk result (λ ran.
+        IsOfEachLog IsLogOf extent.nodes (own_of plan.entry.operations.now) (logs_of ran.0)) }
+    ensures whole { IfOk result (λ ran. ran.1 ≡ true →
+        IsOfEachLog IsWholeLogOf extent.nodes (own_of plan.entry.operations.now) (logs_of ran.0)) }
+    ensures ordered { IfOk result
+        (λ ran. plan.entry.issuing ≡ InOrder → AreInProgramOrder (logs_of ran.0)) }
+    ensures front { IfOk result (λ ran. plan.entry.issuing ≡ InOrder →
+        IsOfEachLog IsFrontOf extent.nodes (own_of plan.entry.operations.now) (logs_of ran.0)) }
+{
+    let (fabric, stations) = Fabric::new(alloc, extent, MAX_OPERATIONS)?;
+    let turns = plan.turns;
+    let mut shares = shares(alloc, stations, gates, plan)?;
+    run_all(rt, &mut shares, turns);
+    let (stations, finished) = gathered(alloc, shares)?;
+    match fabric.join(alloc, stations) {
+        Ok(machine) => Ok((machine, finished)),
+        Err((FinishFault::Memory, _fabric, _stations)) => Err(AllocError),
+        Err((FinishFault::Missing, _fabric, _stations)) => unreachable!(),
+    }
+}
+
+/// Runs a script, as `run_plan` does with the operations of each node in the script. Requires that there is one gate for each
+/// node.
 pub fn run_to_machine<R: Threads + Sync, G: Gate + Send + Drop>(
     rt: &R,
     alloc: Global,
@@ -51,20 +85,12 @@ pub fn run_to_machine<R: Threads + Sync, G: Gate + Send + Drop>(
         (λ ran. issuing ≡ InOrder → HaveFrontLogsOf script.now (logs_of ran.0)) }
 {
     let operations = operations_by_node(alloc, script)?;
-    let (fabric, stations) = Fabric::new(alloc, script.extent(), MAX_OPERATIONS)?;
     let plan = Plan {
         operations: &operations,
         issuing,
         turns,
     };
-    let mut shares = shares(alloc, stations, gates, plan)?;
-    run_all(rt, &mut shares, turns);
-    let (stations, finished) = gathered(alloc, shares)?;
-    match fabric.join(alloc, stations) {
-        Ok(machine) => Ok((machine, finished)),
-        Err((FinishFault::Memory, _fabric, _stations)) => Err(AllocError),
-        Err((FinishFault::Missing, _fabric, _stations)) => unreachable!(),
-    }
+    run_plan(rt, alloc, script.extent(), gates, plan)
 }
 
 /// Runs a script ahead, as `run_to_machine` does. Gives the logs and the last contents of the machine, and whether all nodes

@@ -19,10 +19,12 @@ use std::thread::Threads;
 
 /// What the nodes of a run do: the operations of each, when they are submitted, and how many turns each may take.
 #[derive(Clone, Copy)]
-pub(crate) struct Plan<'a> {
-    pub(crate) operations: &'a [Vec<Op>],
-    pub(crate) issuing: Issuing,
-    pub(crate) turns: u32,
+pub struct Plan<'a> {
+    /// The operations of each node, at most 65,536, in their order.
+    pub operations: &'a [Vec<Op>],
+    pub issuing: Issuing,
+    /// How many turns a node may take.
+    pub turns: u32,
 }
 
 /// Each share that has not ended goes on for a turn. Whether one has not ended then.
@@ -116,8 +118,14 @@ pub fn operations_by_node(alloc: Global, script: &Script) -> Result<Vec<Vec<Op>>
 {
     let nodes = script.extent().nodes;
     let mut all = Vec::with_capacity(alloc, nodes as usize)?;
-    for _node in 0..nodes {
-        all.push(Vec::new(alloc))?;
+    for node in 0..nodes {
+        // Counted first, so that no list grows beside the others.
+        let count = script
+            .operations()
+            .iter()
+            .filter(|own| own.0 == node)
+            .count();
+        all.push(Vec::with_capacity(alloc, count)?)?;
     }
     for (node, op) in script.operations() {
         let own = &mut all[*node as usize];

@@ -8,7 +8,7 @@ ghost use Rattle.scimem.specs.ThreadsAnswer.{IsThreadsAnswer};
 use sci_command::{Answer, Answered, Outcome};
 use sci_drive::Issuing;
 use sci_text::{Tap, logs_text, read_script};
-use sci_threads::{YieldingGate, run_to_machine};
+use sci_threads::{Plan, YieldingGate, operations_by_node, run_plan};
 use std::alloc::Global;
 use std::io::Read;
 use std::sync::atomic::AtomicU64;
@@ -30,13 +30,20 @@ pub fn threads<T: Threads + Sync, R: Read>(
     ensures { HasAnswered R.remaining reader.old reader.new IsThreadsAnswer (IsTold IsScriptFault) result }
 {
     let script = read_script(alloc, reader)?;
-    let nodes = script.extent().nodes;
-    let done = AtomicU64::new(0);
-    let gates = YieldingGate::for_nodes(alloc, nodes, &done)?;
-    let (machine, finished) = run_to_machine(rt, alloc, &script, gates, Issuing::Ahead, turns)?;
+    let extent = script.extent();
+    let operations = operations_by_node(alloc, &script)?;
     drop(script);
+    let done = AtomicU64::new(0);
+    let gates = YieldingGate::for_nodes(alloc, extent.nodes, &done)?;
+    let plan = Plan {
+        operations: &operations,
+        issuing: Issuing::Ahead,
+        turns,
+    };
+    let (machine, finished) = run_plan(rt, alloc, extent, gates, plan)?;
+    drop(operations);
     let (logs, last) = machine.finish(alloc);
-    let text = logs_text(alloc, nodes, &logs, &last)?;
+    let text = logs_text(alloc, extent.nodes, &logs, &last)?;
     let outcome = if finished {
         Outcome::Done
     } else {

@@ -1,128 +1,55 @@
-use Rattle.std.proofs.Common.{◌≡◌, ◌<◌, ◌≤◌, ℕ, List, All, Ok, true, Vec, ◌++◌, drop, length, map, take, get_or, refl, sym, ap, subst, ◌∙◌}
+use Rattle.std.proofs.Common.{◌≡◌, ◌<◌, ◌≤◌, ℕ, List, All, Vec, length, sym, ap, subst, ◌∙◌}
+use Rattle.std.proofs.lemmas.Result.{IfOk-weaker}
 use Rattle.std.specs.Prelude.{slice_index_or}
 use Rattle.sci_words.specs.declared.{operation.Op.{Op}, limits.TheConstants.{MAX_OPERATIONS}}
-use Rattle.sci_history.specs.{declared.entry.Entry.{Entry}, Placed.{log_of}, Sequential.{IsInProgramOrder}}
-use Rattle.sci_core.specs.{Outcome.{logs_of}, Size.{Size, size_of}}
-use Rattle.sci_lanes.specs.{Ends.{EndOf}, Shown.{me_of}, Gathering.{AreAll, AreOf, IsLedTo}}
-use Rattle.sci_drive.specs.{Driving.{HasSubmittedNothing}, Script.{IsFrontOf, IsLogOf, IsWholeLogOf}}
-use Rattle.sci_station.specs.{Ends.{IsSameEnd}, Station.{StationOf, end_in, node_in}}
-use Rattle.sci_lanes.proofs.Gathered.{node_log}
-use Rattle.sci_threads.proofs.RunStations.{came_back, each_end, each_log, in_order, opened_long, opened_known, opened_all_fresh, sized_for, whole_if}
-use Rattle.sci_threads.proofs.{RunStations.{written_back}, Going.{HasRun, all_run}}
-use Rattle.sci_threads.proofs.running.run_to_machine.Goals.{In-Ok, In_ok-stations}
-use Rattle.sci_threads.specs.{declared.share.Share.{Share}, Shares.{HaveGoneOn, IsWell, operations_of, own_of}}
+use Rattle.sci_history.specs.declared.entry.Entry.{Entry}
+use Rattle.sci_core.specs.Outcome.{logs_of}
+use Rattle.sci_drive.specs.Script.{IsFrontOf, IsLogOf, IsWholeLogOf}
+use Rattle.sci_threads.proofs.RunStations.{led_for, of_script}
+use Rattle.sci_threads.proofs.running.run_to_machine.Goals.{After-run_plan}
+use Rattle.sci_threads.specs.Shares.{IsOfEachLog, IsOfEachLogOf, operations_of, own_of}
 use Rattle.sci_threads.proofs.running.run_to_machine.Goals as goal
 
-pub shares-requires : goal.shares-requires
-shares-requires g c =
-    let f = c.in_ok-fabric.fabric in
-    let size = size_of c.extent.result MAX_OPERATIONS in
-    let count = c.extent.result.nodes in
-    let is = c.in_ok-fabric.ensures.stations in
-    let long = ap length is ∙ opened_long f.table size count in
-    let many = c.extent.ensures.nodes ∙ (sym c.in_ok-operations.ensures.nodes ∙ sym (ap length c.deref.ensures.value)) in
-    let Fresh : StationOf → Type 0 = λ s. HasSubmittedNothing (node_in s) in
-    let known : All (λ (s : StationOf). me_of s.end.part < count) c.in_ok-fabric.stations.items =
-    subst (All (λ (s : StationOf). me_of s.end.part < count)) (sym is) (opened_known f.table size count) in record {
-      gates = c.requires.gates ∙ (sym c.extent.ensures.nodes ∙ sym long);
-      known = subst (λ (n : ℕ). All (λ (s : StationOf). me_of s.end.part < n) c.in_ok-fabric.stations.items) many known;
-      few = subst (All (λ (own : Vec Op _). length own.items ≤ MAX_OPERATIONS)) (sym c.deref.ensures.value) c.in_ok-operations.ensures.few;
-      fresh = subst (All Fresh) (sym is) (opened_all_fresh f.table size count);
-    }
+pub run_plan-requires-clause-gates : goal.run_plan-requires-clause-gates
+run_plan-requires-clause-gates g c = λ lts met. c.requires.gates ∙ sym c.extent.ensures.nodes
 
-pub run_all-requires-clause-well : goal.run_all-requires-clause-well
-run_all-requires-clause-well g c =
-    λ lts met. subst (All (λ (s : Share g.row.G.Denot). IsWell s.driver s.station.end s.finished)) (sym c.deref_mut.ensures.value) c.in_ok-shares.ensures.well
+pub run_plan-requires-clause-lists : goal.run_plan-requires-clause-lists
+run_plan-requires-clause-lists g c =
+    λ lts met. ap length c.deref.ensures.value ∙ (c.in_ok-operations.ensures.nodes ∙ sym c.extent.ensures.nodes)
 
--- the stations that come back are of the fabric, and all of its
-all_came : (g : _) (c : In_ok-stations g) → AreOf c.in_ok-fabric.fabric (map end_in c.in_ok-stations.stations.items)
-    × AreAll c.extent.result.nodes (map end_in c.in_ok-stations.stations.items)
-all_came g c =
-    let before = c.in_ok-shares.shares in
-    let after = c.run_all.new.shares in
-    let long : length after ≡ length before.items = c.run_all.auto.shares ∙ ap length c.deref_mut.ensures.value in
-    let each = subst (λ (xs : List (Share g.row.G.Denot)). (k : ℕ) (d : Share g.row.G.Denot) → k < length xs
-    → IsSameEnd (get_or xs k d).station.end (get_or after k d).station.end) c.deref_mut.ensures.value (λ k d lt. (c.run_all.ensures.gone k d lt).same) in
-    came_back (λ (share : Share g.row.G.Denot). share.station) c.in_ok-fabric.fabric (size_of c.extent.result MAX_OPERATIONS) c.extent.result.nodes before.len
-    before.items after c.in_ok-stations.stations.items c.in_ok-fabric.ensures.size (c.in_ok-shares.ensures.stations ∙ c.in_ok-fabric.ensures.stations)
-    before.ok.0 long each c.in_ok-stations.ensures.stations
+pub run_plan-requires-clause-few : goal.run_plan-requires-clause-few
+run_plan-requires-clause-few g c = λ lts met.
+    subst (All (λ (own : Vec Op _). length own.items ≤ MAX_OPERATIONS)) (sym c.deref.ensures.value) c.in_ok-operations.ensures.few
 
-pub join-requires : goal.join-requires
-join-requires g c = record { own = (all_came g (goal.at.join-requires g c).In_ok-stations).0 }
-
-pub unreachable-requires : goal.unreachable-requires
-unreachable-requires g c =
-    c.in-Err-Missing-default-default.ensures.missing c.in-Err-Missing-default-default.field-0-0-is
-    (subst (λ (n : ℕ). AreAll n (map end_in c.in_ok-stations.stations.items)) (sym (ap (λ (z : Size). z.nodes) c.in_ok-fabric.ensures.size))
-    (all_came g (goal.at.unreachable-requires g c).In_ok-stations).1)
-
--- what each share has done
-has_run : (g : _) (c : In-Ok g)
-    → All (λ (s : Share g.row.G.Denot). HasRun c.args.issuing (own_of c.deref.result.now) s.station.end s.finished) c.run_all.new.shares
-has_run g c =
-    let before = c.in_ok-shares.shares in
-    let after = c.run_all.new.shares in
-    let long : length after ≡ length before.items = c.run_all.auto.shares ∙ ap length c.deref_mut.ensures.value in
-    let gone = subst (λ (xs : List (Share g.row.G.Denot)). (k : ℕ) (d : Share g.row.G.Denot) → k < length xs
-    → HaveGoneOn (λ (s : Share g.row.G.Denot). s.driver) (λ s. s.station.end) xs after k d) c.deref_mut.ensures.value c.run_all.ensures.gone in
-    all_run (λ (s : Share g.row.G.Denot). s.driver) (λ s. s.station.end) (λ s. s.finished) c.args.issuing (own_of c.deref.result.now) before.items after long
-    c.in_ok-shares.ensures.opened gone c.run_all.ensures.well
-
--- the shares are all those that were made
-all_back : (g : _) (c : In-Ok g)
-    → take c.in_ok-shares.shares.len (c.run_all.new.shares ++ drop (length c.run_all.new.shares) c.in_ok-shares.shares.items) ≡ c.run_all.new.shares
-all_back g c =
-    let before = c.in_ok-shares.shares in
-    written_back before.len c.run_all.new.shares before.items before.ok.0 (c.run_all.auto.shares ∙ ap length c.deref_mut.ensures.value)
-
-nodes_are : (g : _) (c : In-Ok g) → c.in_ok-fabric.fabric.size.nodes ≡ c.args.script.now.nodes
-nodes_are g c = ap (λ (z : Size). z.nodes) c.in_ok-fabric.ensures.size ∙ c.extent.ensures.nodes
-
--- what is so of each share's log, of each node's
-logs_by : (g : _) (c : In-Ok g) (Good : List Op → List Entry → Type 0)
-    → All (λ (s : Share g.row.G.Denot). Good (own_of c.deref.result.now (me_of s.station.end.part)) s.station.end.part.node.log) c.run_all.new.shares
-    → (node : ℕ) → node < c.args.script.now.nodes → Good (operations_of node c.args.script.now.operations) (log_of (logs_of c.in-Ok.machine) node)
-logs_by g c Good good =
+-- what is so of the lists of operations, is so of the script
+by_script : (g : _) (c : After-run_plan g) (Good : List Op → List Entry → Type 0) (logs : List (List Entry))
+    → IsOfEachLog Good c.extent.result.nodes (own_of c.deref.result.now) logs → IsOfEachLogOf Good c.args.script.now logs
+by_script g c Good logs =
     let operations = c.deref.result.now in
     let script = c.args.script.now in
     let many : length operations ≡ script.nodes = ap length c.deref.ensures.value ∙ c.in_ok-operations.ensures.nodes in
     let own : (n : ℕ) (d : Vec Op _) → n < script.nodes → (slice_index_or operations n d).items ≡ operations_of n script.operations =
     subst (λ (all : List (Vec Op _)). (n : ℕ) (d : Vec Op _) → n < script.nodes → (slice_index_or all n d).items ≡ operations_of n script.operations)
     (sym c.deref.ensures.value) c.in_ok-operations.ensures.each in
-    let all = subst (λ (n : ℕ). AreAll n (map end_in c.in_ok-stations.stations.items)) (nodes_are g c) c.in-Ok.ensures.all in
-    let stations : c.in_ok-stations.stations.items ≡ map (λ share. share.station) c.run_all.new.shares =
-    c.in_ok-stations.ensures.stations ∙ ap (map (λ share. share.station)) (all_back g c) in
-    let Each : EndOf → Type 0 = λ end. Good (own_of operations (me_of end.part)) end.part.node.log in
-    let logs = node_log _ _ _ _ c.in-Ok.ensures.state refl in
-    each_log Good script operations (map end_in c.in_ok-stations.stations.items) (logs_of c.in-Ok.machine) many own all logs
-    (subst (λ (xs : List StationOf). All Each (map end_in xs)) (sym stations) (each_end (λ share. share.station) Each c.run_all.new.shares good))
+    of_script Good script operations logs many own c.extent.result.nodes c.extent.ensures.nodes
 
-pub returns-in-Ok-clause-named : goal.returns-in-Ok-clause-named
-returns-in-Ok-clause-named g c =
-    let d = (goal.at.returns-in-Ok-clause-named g c).In-Ok in
-    logs_by g d IsLogOf (λ k x lt. (has_run g d k x lt).named)
-
-pub returns-in-Ok-clause-whole : goal.returns-in-Ok-clause-whole
-returns-in-Ok-clause-whole g c = λ finished.
-    let d = (goal.at.returns-in-Ok-clause-whole g c).In-Ok in
-    let done = subst (All (λ (s : Share g.row.G.Denot). s.finished ≡ Ok true)) (all_back g d) (c.in_ok-stations.ensures.finished finished) in
-    logs_by g d IsWholeLogOf (λ k x lt. whole_if _ _ _ (has_run g d k x lt).whole (done k x lt))
-
-pub returns-in-Ok-clause-ordered : goal.returns-in-Ok-clause-ordered
-returns-in-Ok-clause-ordered g c = λ is.
-    let d = (goal.at.returns-in-Ok-clause-ordered g c).In-Ok in
-    let led = c.in-Ok.ensures.state.led in
-    in_order (logs_of c.in-Ok.machine) c.args.script.now.nodes c.in-Ok.machine led.reached refl
-    (ap (λ (z : Size). z.nodes) led.sized ∙ nodes_are g d)
-    (logs_by g d (λ _. IsInProgramOrder) (λ k x lt. (has_run g d k x lt).ordered is))
-
-pub returns-in-Ok-clause-front : goal.returns-in-Ok-clause-front
-returns-in-Ok-clause-front g c = λ is.
-    let d = (goal.at.returns-in-Ok-clause-front g c).In-Ok in
-    logs_by g d IsFrontOf (λ k x lt. (has_run g d k x lt).front is)
-
-pub returns-in-Ok-clause-led : goal.returns-in-Ok-clause-led
-returns-in-Ok-clause-led g c =
+pub returns-clause-led : goal.returns-clause-led
+returns-clause-led g c =
     let extent = c.extent.ensures in
-    subst (λ (z : Size). IsLedTo z c.in-Ok.machine)
-    (c.in_ok-fabric.ensures.size ∙ sized_for c.extent.result c.args.script.now extent.nodes extent.lines extent.slots) c.in-Ok.ensures.state.led
+    IfOk-weaker c.run_plan.result _ _ (λ ran. led_for c.extent.result c.args.script.now ran.0 extent.nodes extent.lines extent.slots)
+    c.run_plan.ensures.led
+
+pub returns-clause-named : goal.returns-clause-named
+returns-clause-named g c =
+    let d = (goal.at.returns-clause-named g c).After-run_plan in
+    IfOk-weaker c.run_plan.result _ _ (λ ran. by_script g d IsLogOf (logs_of ran.0)) c.run_plan.ensures.named
+
+pub returns-clause-whole : goal.returns-clause-whole
+returns-clause-whole g c =
+    let d = (goal.at.returns-clause-whole g c).After-run_plan in
+    IfOk-weaker c.run_plan.result _ _ (λ ran whole finished. by_script g d IsWholeLogOf (logs_of ran.0) (whole finished)) c.run_plan.ensures.whole
+
+pub returns-clause-front : goal.returns-clause-front
+returns-clause-front g c =
+    let d = (goal.at.returns-clause-front g c).After-run_plan in
+    IfOk-weaker c.run_plan.result _ _ (λ ran front is. by_script g d IsFrontOf (logs_of ran.0) (front is)) c.run_plan.ensures.front

@@ -4,7 +4,7 @@ use Rattle.sci_threads.specs.Shares.{operations_of}
 use Rattle.sci_threads.proofs.shares.operations_by_node.Given as goal
 
 abbrev pub invariant-loop-node : goal.invariant-loop-node
-invariant-loop-node l = (length l.all.items ≡ l._node) × All (λ own. own.items ≡ []) l.all.items
+invariant-loop-node l = (length l.all.items ≡ l.node-counter) × All (λ own. own.items ≡ []) l.all.items
 
 abbrev pub invariant-loop-node-2 : goal.invariant-loop-node-2
 invariant-loop-node-2 l =
