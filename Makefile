@@ -8,7 +8,7 @@ NEED_CARGO = command -v cargo > /dev/null || { echo "cargo is missing: install R
 PROGRAMS = crates/scimem/out/scimem crates/sciview/out/sciview crates/sci_circle/out/sci_circle
 SOURCES = crates.txt HANDLES $(shell find crates -name out -prune -o -path '*_tests' -prune -o \( -name '*.rt' -o -name '*.antt' \) -print)
 
-.PHONY: run test check fmt bench growth fuzz soak faults install build library install-library plants cases examples charts clean
+.PHONY: run test check fmt bench growth instructions fuzz soak faults install build library install-library plants cases examples charts clean
 
 PREFIX = /usr/local
 
@@ -107,6 +107,13 @@ bench: build crates/sci_circle/out/sci_circle
 	@$(NEED_CARGO)
 	@cd bench && cargo build --release --offline --quiet
 	@scripts/measure/bench.py $(or $(RUNS),9) $(SUBJECTS)
+
+# Builds the same programs, and prints how many instructions each takes for an operation, as valgrind counts them. It isn't part
+# of the gate.
+instructions: build crates/sci_circle/out/sci_circle
+	@$(NEED_CARGO)
+	@cd bench && cargo build --release --offline --quiet
+	@scripts/measure/instructions.py
 
 # Each crate that changed since it was last proved here, or that stands on one that did.
 check:

@@ -5,8 +5,9 @@
 
 The subjects are oracle, replay, audit, upgrade, decode, threads and circle. Both programs have to write the same bytes, also
 on the stored cases. What threads write differs from run to run, so both programs have to find both logs lawful. Then both run
-in turn. For each subject a table is printed: the median and the best of the time by the clock, of the processor time and of
-the peak memory, and what scimem takes divided by what the plain program takes. `make bench` builds the programs before."""
+in turn. For each subject a table is printed: the median and the best of the time by the clock and of the processor time, the
+peak of memory of one more run, and what scimem takes divided by what the plain program takes. `make bench` builds the programs
+before. It needs GNU time."""
 
 import os
 import re
@@ -32,8 +33,8 @@ WORKLOADS = ("private", "spread", "mixed", "reads", "migratory", "hammer")
 
 # What a row measures: its name, the command's words, and the file of its input.
 Row = namedtuple("Row", "name words path")
-# What a run took: seconds by the clock and of the processor, and the most kilobytes.
-Took = namedtuple("Took", "clock processor memory")
+# What a run took: seconds by the clock and of the processor.
+Took = namedtuple("Took", "clock processor")
 
 
 def made(room, name, *words):
@@ -52,7 +53,7 @@ def workloads(room, sizes):
 
 
 def rows(room, subjects):
-    """The rows of all subjects but circle. The generator is a program of its own, so that this one stays small."""
+    """The rows of all subjects but circle."""
     script = lambda lines: made(room, f"script-{lines}", INPUTS, "script", "65536", lines)
     if "oracle" in subjects:
         yield Row("oracle, 1,048,576 operations", ["oracle"], script("64"))
@@ -78,7 +79,16 @@ def ran(program, row, output):
         child = os.posix_spawn(program, [program, *row.words], os.environ, file_actions=files)
         _child, status, used = os.wait4(child, 0)
         clock = time.monotonic() - start
-    return os.waitstatus_to_exitcode(status), Took(clock, used.ru_utime + used.ru_stime, used.ru_maxrss)
+    return os.waitstatus_to_exitcode(status), Took(clock, used.ru_utime + used.ru_stime)
+
+
+def peak(program, row):
+    """The peak of memory of a run on the input of a row, in MB. GNU time starts it: of a process that this one starts no peak is
+    told that is below what this one takes."""
+    with open(row.path, "rb") as given:
+        words = ["/usr/bin/time", "-f", "%M", program, *row.words]
+        done = subprocess.run(words, stdin=given, stdout=subprocess.DEVNULL, stderr=subprocess.PIPE)
+    return int(done.stderr.split()[-1]) / 1024
 
 
 def is_lawful(path):
@@ -116,21 +126,22 @@ def spread(values, form):
     return f"{form.format(statistics.median(values))} / {form.format(min(values))}"
 
 
-def tell(name, ours, plain):
+def tell(row, ours, plain):
     """Prints a row: what each program took, and the quotients."""
-    cells = [name]
+    cells = [row.name]
     for part, form in (("clock", "{:.3f}"), ("processor", "{:.3f}")):
         pair = [[getattr(it, part) for it in found] for found in (ours, plain)]
         cells += [spread(pair[0], form), spread(pair[1], form)]
         cells.append(f"{statistics.median(pair[0]) / statistics.median(pair[1]):.2f} / {min(pair[0]) / min(pair[1]):.2f}")
-    cells += [f"{statistics.median(it.memory for it in found) / 1024:.0f}" for found in (ours, plain)]
+    peaks = [peak(program, row) for program in (SCIMEM, PLAIN)]
+    cells += [*(f"{it:.1f}" for it in peaks), f"{peaks[0] / peaks[1]:.2f}"]
     print("| " + " | ".join(cells) + " |", flush=True)
 
 
 def measure(room, runs, subjects):
     """Compares and measures all subjects but circle. Answers how many inputs the programs disagree on."""
-    print("| seconds, median / best | scimem, clock | plain | quotient | scimem, processor | plain | quotient | scimem, MB | plain, MB |")
-    print("|" + "---|" * 9, flush=True)
+    print("| seconds, median / best | scimem, clock | plain | quotient | scimem, processor | plain | quotient | scimem, MB | plain, MB | quotient |")
+    print("|" + "---|" * 10, flush=True)
     wrong = 0
     for row in rows(room, subjects):
         if not agree(room, row):
@@ -141,7 +152,7 @@ def measure(room, runs, subjects):
         for _ in range(runs):
             ours.append(ran(SCIMEM, row, f"{room}/out")[1])
             plain.append(ran(PLAIN, row, f"{room}/out")[1])
-        tell(row.name, ours, plain)
+        tell(row, ours, plain)
     return wrong
 
 
@@ -189,7 +200,6 @@ def main(words):
             failed += measure_circle(room, runs)
     finally:
         shutil.rmtree(room)
-    # Last, since a child's peak is never told below what this program took, and some cases are large.
     count, wrong = differing_cases()
     print(f"{count - len(wrong)} of {count} stored cases have the same answer", *wrong, sep="\n", flush=True)
     return 1 if failed or wrong else 0

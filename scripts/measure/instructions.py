@@ -1,0 +1,62 @@
+#!/usr/bin/env python3
+"""Prints how many instructions scimem and the plain program of bench/ take for an operation, an entry, an event or a packet:
+
+    scripts/measure/instructions.py
+
+valgrind counts them, so another machine with the same programs counts the same. What is told of a command is how many more
+instructions an input of 2 N operations takes than one of N, divided by N; of stations in one thread, how many more two runs
+take than one. It needs the built programs, and valgrind."""
+
+import os
+import re
+import subprocess
+import sys
+
+TOP = os.path.dirname(os.path.dirname(os.path.dirname(os.path.abspath(__file__))))
+SCIMEM, CIRCLE = (f"{TOP}/crates/{it}/out/{it}" for it in ("scimem", "sci_circle"))
+PLAIN = f"{TOP}/bench/target/release/plain"
+INPUTS = f"{TOP}/scripts/make/inputs.py"
+SIZE = 65_536
+COUNTER = ["valgrind", "--tool=callgrind", "--callgrind-out-file=/dev/null"]
+WORKLOADS = ("private", "spread", "mixed", "reads", "migratory", "hammer")
+
+
+def output(words, given=None):
+    return subprocess.run(words, input=given, stdout=subprocess.PIPE, check=True).stdout
+
+
+def instructions(words, given):
+    """How many instructions a run takes."""
+    done = subprocess.run([*COUNTER, *words], input=given, stdout=subprocess.DEVNULL, stderr=subprocess.PIPE)
+    return int(re.search(rb"Collected : (\d+)", done.stderr).group(1))
+
+
+def inputs():
+    """For each command an input of SIZE operations, and one of twice as many."""
+    script = output([INPUTS, "script", str(2 * SIZE // 16)]).splitlines(True)
+    events = output([INPUTS, "schedule"]).splitlines(True)
+    first = lambda lines: [b"".join(lines[: count + 1]) for count in (SIZE, 2 * SIZE)]
+    logs = [output([SCIMEM, "oracle"], it) for it in first(script)]
+    packets = [output([INPUTS, "packets", str(it // 8)]) for it in (SIZE, 2 * SIZE)]
+    return {"oracle": first(script), "replay": first(events), "audit": logs, "upgrade": logs, "decode": packets}
+
+
+def tell(name, ours, plain):
+    print(f"| {name} | {ours:,.0f} | {plain:,.0f} | {ours / plain:.2f} |", flush=True)
+
+
+def main():
+    print("| instructions | scimem | plain | quotient |\n|" + "---|" * 4, flush=True)
+    for command, given in inputs().items():
+        one, two = ([instructions([program, command], it) for program in (SCIMEM, PLAIN)] for it in given)
+        tell(command, *((more - less) / SIZE for more, less in zip(two, one)))
+    for nodes in (4, 16):
+        for kind in WORKLOADS:
+            script = output([INPUTS, "workload", kind, str(nodes)])
+            count = script.count(b"\n") - 1
+            runs = lambda times: ([CIRCLE, times, "timed"], [PLAIN, "circle", times])
+            one, two = ([instructions(words, script) for words in runs(times)] for times in ("1", "2"))
+            tell(f"circle, {kind}, N = {nodes}", *((more - less) / count for more, less in zip(two, one)))
+
+
+sys.exit(main())
