@@ -40,7 +40,6 @@ pub(crate) fn make_taking(node: &mut Node, event: &Event, packet: &Packet)
         Event::Accept { .. } => {
             node.accept(packet);
         }
-        // Not listed, so that the match compiles to comparisons. A jump through a table is often guessed wrong.
-        _ => {}
+        Event::Issue { .. } | Event::Perform { .. } | Event::Ask { .. } | Event::Reply { .. } => {}
     }
 }
