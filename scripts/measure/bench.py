@@ -83,8 +83,8 @@ def ran(program, row, output):
 
 
 def peak(program, row):
-    """The peak of memory of a run on the input of a row, in MB. GNU time starts it: of a process that this one starts no peak is
-    told that is below what this one takes."""
+    """The peak of memory of a run on the input of a row, in MB. GNU time starts it, since the system
+    reports for a process that this one starts at least the peak of this one."""
     with open(row.path, "rb") as given:
         words = ["/usr/bin/time", "-f", "%M", program, *row.words]
         done = subprocess.run(words, stdin=given, stdout=subprocess.DEVNULL, stderr=subprocess.PIPE)

@@ -3,9 +3,9 @@
 
     scripts/measure/instructions.py
 
-valgrind counts them, so another machine with the same programs counts the same. What is told of a command is how many more
-instructions an input of 2 N operations takes than one of N, divided by N; of stations in one thread, how many more two runs
-take than one. It needs the built programs, and valgrind."""
+valgrind counts them, so another machine with the same programs counts the same. For a command it prints how many more
+instructions an input of 2 N operations takes than one of N, divided by N; for stations in one thread, how many more two runs
+take than one, divided by the operations. It needs the built programs, and valgrind."""
 
 import os
 import re
