@@ -19,17 +19,13 @@ import tempfile
 import time
 from collections import namedtuple
 
-TOP = os.path.dirname(os.path.dirname(os.path.dirname(os.path.abspath(__file__))))
+from programs import CIRCLE, INPUTS, PLAIN, SCIMEM, TOP, WORKLOADS
+
 sys.path.append(f"{TOP}/scripts/gate")
 
 from stored_cases import stored_cases  # noqa: E402
 
-SCIMEM = f"{TOP}/crates/scimem/out/scimem"
-CIRCLE = f"{TOP}/crates/sci_circle/out/sci_circle"
-PLAIN = f"{TOP}/bench/target/release/plain"
 COMMANDS = ("oracle", "replay", "audit", "upgrade", "decode")
-INPUTS = f"{TOP}/scripts/make/inputs.py"
-WORKLOADS = ("private", "spread", "mixed", "reads", "migratory", "hammer")
 
 # What a row measures: its name, the command's words, and the file of its input.
 Row = namedtuple("Row", "name words path")

@@ -8,15 +8,13 @@ the time from the last size but one to the last: 1 if twice the input takes twic
 the words of packets an operation, by the nodes of a machine, in runs of `sciview run`. It needs the built programs."""
 
 import math
-import os
 import re
 import resource
 import subprocess
 import sys
 
-TOP = os.path.dirname(os.path.dirname(os.path.dirname(os.path.abspath(__file__))))
-SCIMEM, SCIVIEW = (f"{TOP}/crates/{it}/out/{it}" for it in ("scimem", "sciview"))
-INPUTS = f"{TOP}/scripts/make/inputs.py"
+from programs import INPUTS, SCIMEM, SCIVIEW, output
+
 SIZES = [2**it for it in range(10, 21, 2)]
 # A schedule has at most 500,000 events.
 EVENTS = [it for it in SIZES if it < 2**19] + [500_000]
@@ -38,10 +36,6 @@ COMMANDS = [
     (SCIVIEW, "check", "schedule"),
     (SCIVIEW, "random 16 64 8 SIZE 1", None),
 ]
-
-
-def output(words, given=None):
-    return subprocess.run(words, input=given, stdout=subprocess.PIPE, check=True).stdout
 
 
 def inputs():

@@ -7,22 +7,13 @@ valgrind counts them, so another machine with the same programs counts the same.
 instructions an input of 2 N operations takes than one of N, divided by N; for stations in one thread, how many more two runs
 take than one, divided by the operations. It needs the built programs, and valgrind."""
 
-import os
 import re
 import subprocess
-import sys
 
-TOP = os.path.dirname(os.path.dirname(os.path.dirname(os.path.abspath(__file__))))
-SCIMEM, CIRCLE = (f"{TOP}/crates/{it}/out/{it}" for it in ("scimem", "sci_circle"))
-PLAIN = f"{TOP}/bench/target/release/plain"
-INPUTS = f"{TOP}/scripts/make/inputs.py"
+from programs import CIRCLE, INPUTS, PLAIN, SCIMEM, WORKLOADS, output
+
 SIZE = 65_536
 COUNTER = ["valgrind", "--tool=callgrind", "--callgrind-out-file=/dev/null"]
-WORKLOADS = ("private", "spread", "mixed", "reads", "migratory", "hammer")
-
-
-def output(words, given=None):
-    return subprocess.run(words, input=given, stdout=subprocess.PIPE, check=True).stdout
 
 
 def instructions(words, given):
@@ -59,4 +50,4 @@ def main():
             tell(f"circle, {kind}, N = {nodes}", *((more - less) / count for more, less in zip(two, one)))
 
 
-sys.exit(main())
+main()
