@@ -18,6 +18,7 @@ pub mod ScheduleReads
 pub mod LogReads
 pub mod LogFaults
 pub mod LogFronts
+pub mod LogReaders
 pub mod LogLaws
 pub mod LogUnique
 pub mod LogShort

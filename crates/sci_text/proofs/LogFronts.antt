@@ -70,7 +70,7 @@ last_front_more form old new bytes rest h a = rw a.added (record {
 
 -- ---- faults
 
-refusal_at : (kind : TextFaultKind) (input : List ℕ) (fault : TextFault) (line : ℕ) (front : Front) (rest : List ℕ) → IsToldAt line kind fault → IsFront front
+pub refusal_at : (kind : TextFaultKind) (input : List ℕ) (fault : TextFault) (line : ℕ) (front : Front) (rest : List ℕ) → IsToldAt line kind fault → IsFront front
     → input ≡ front_text front ++ rest → (front.form.lines ≡ None → BeginsLog input → ⊥)
     → (0 < length rest) ⊎ (HasAllLines front.form.lines (length front.last) → ⊥)
     → line ≡ first_lines front.form.lines + length front.last + entry_count front.logs + 1 → (kind ≡ Memory) ⊎ LogLineFault front rest kind
@@ -114,7 +114,7 @@ entry_lines-none : (logs : List (List Entry)) → ((node : ℕ) → log_of logs 
 entry_lines-none [] h = refl
 entry_lines-none (log ∷ logs) h = rw (h 0) (entry_lines-none logs (λ node. h (suc node)))
 
-entry_lines-push : (logs : List (List Entry)) (node : ℕ) (entry : Entry) → node < length logs → ((other : ℕ) → node < other → log_of logs other ≡ [])
+pub entry_lines-push : (logs : List (List Entry)) (node : ℕ) (entry : Entry) → node < length logs → ((other : ℕ) → node < other → log_of logs other ≡ [])
     → entry_lines (set logs node (log_of logs node ++ entry ∷ [])) ≡ entry_lines logs ++ entry_line entry
 entry_lines-push [] node entry lt none = absurd (omega arith)
 entry_lines-push (log ∷ logs) zero entry lt none =
@@ -156,7 +156,7 @@ pub node_below : (form : Form) → IsForm form → form.nodes ≤ MAX_NODES
 node_below form (inl e) = rw e (omega arith)
 node_below form (inr h) = h.2.few_nodes
 
-few_below : (form : Form) (last : List Stamped) (logs : List (List Entry)) (entry : Entry) → IsFront (front_of form last logs)
+pub few_below : (form : Form) (last : List Stamped) (logs : List (List Entry)) (entry : Entry) → IsFront (front_of form last logs)
     → EntryFits form (length last) entry → entry.node < length logs
 few_below form last logs entry h fits = let few = node_below form h.form in let node = fits.numbers.node in let sixteen = h.sixteen in omega arith
 
@@ -200,43 +200,10 @@ pub latest_more : (form : Form) (last : List Stamped) (old new : List (List Entr
     → IsLatest old latest → AddsEntry form (length last) old new latest now bytes rest → IsLatest new now
 latest_more form last old new latest now bytes rest h is a = grind (arith, few_below, get_or-set_same, get_or-set_other, length-append)
 
-pub entries_go_on : (form : Form) (last : List Stamped) (all : List ℕ) (old new : List (List Entry)) (latest now : ℕ) (bytes rest : List ℕ)
-    → IsFront (front_of form last old) → IsLatest old latest → all ≡ entry_lines old ++ bytes → AddsEntry form (length last) old new latest now bytes rest
-    → all ≡ entry_lines new ++ rest
-entries_go_on form last all old new latest now bytes rest h is so_far a = grind (arith, few_below, entry_lines-push, append_assoc)
-
 pub count_more : (form : Form) (last : List Stamped) (old new : List (List Entry)) (latest now : ℕ) (bytes rest : List ℕ) → IsFront (front_of form last old)
     → AddsEntry form (length last) old new latest now bytes rest → entry_count new ≡ entry_count old + 1
 count_more form last old new latest now bytes rest h a =
     ap entry_count a.added ∙ entry_count-push old a.entry.node a.entry (few_below form last old a.entry h a.fits)
 
--- a faulty entry
-pub entry_refused : (form : Form) (last : List Stamped) (logs : List (List Entry)) (bytes rest : List ℕ) (kind : TextFaultKind) (line : ℕ) (fault : TextFault)
-    → IsFront (front_of form last logs) → bytes ≡ entry_lines logs ++ rest → 0 < length rest → IsToldAt line kind fault
-    → (kind ≡ Memory) ⊎ LogLineFault (front_of form last logs) rest kind → line ≡ first_lines form.lines + length last + entry_count logs + 1
-    → IsRefusalAfter form (last_lines 0 last ++ bytes) fault
-entry_refused form last logs bytes rest kind line fault good parts some at faulty place = grind (arith, append_assoc, refusal_at)
-
 pub no_last_after : (front : Front) (bytes : List ℕ) (count : ℕ) → entry_count front.logs ≡ count + 1 → NoLast front bytes
 no_last_after front bytes count e = λ line stamped h. let first = h.place.first in absurd (omega arith)
-
--- what holds before the first entry
-pub record Started (form : Form) (last : List Stamped) (logs : List (List Entry)) (bytes : List ℕ) : Type 0 where
-  pub good : IsFront (front_of form last logs)
-  pub parts : bytes ≡ entry_lines logs ++ bytes
-  pub latest : IsLatest logs 0
-  pub no_last : NoLast (front_of form last logs) bytes
-  pub none : entry_count logs ≡ 0
-
-pub started : (form : Form) (last : List Stamped) (logs : List (List Entry)) (bytes : List ℕ) → logs ≡ no_logs → IsFront (front_of form last no_logs)
-    → (BeginsLast bytes → ⊥) → Started form last logs bytes
-started form last logs bytes e good no_more =
-    let start : Started form last no_logs bytes =
-    record {
-      good = good;
-      parts = refl;
-      latest = front_none form last good;
-      no_last = no_last_here (front_of form last no_logs) bytes no_more;
-      none = refl;
-    } in
-    subst (λ (ls : List (List Entry)). Started form last ls bytes) (sym e) start

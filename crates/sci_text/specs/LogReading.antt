@@ -1,16 +1,16 @@
 -- What the private readers of logs' lines answer: what is read, and the bytes after it; and what comes of a line that
 -- was read. No public contract rests on these words; laws in proofs/ join them to the texts.
-use Rattle.std.specs.Prelude.{◌≡◌, ℕ, ◌<◌, ◌≤◌, ◌^◌, List, [], ◌∷◌, ◌++◌, length, codes, Option, Some, None, option_map, replicate, slice_set, nat_lt}
+use Rattle.std.specs.Prelude.{◌≡◌, ℕ, ◌+◌, ◌<◌, ◌≤◌, ◌^◌, List, [], ◌∷◌, ◌++◌, length, codes, Option, Some, None, option_map, replicate, slice_set, nat_lt}
 use Rattle.std.specs.Prelude.{if◌then◌else◌}
 use Rattle.sci_words.specs.declared.operation.{Op.{Op}, Reply.{Reply, TheVariants.{Stored, Got}}}
 use Rattle.sci_words.specs.declared.stamped.Stamped.{Stamped}
 use Rattle.sci_words.specs.declared.limits.TheConstants.{MAX_NODES, MAX_LINES, WORDS_PER_LINE}
 use Rattle.sci_history.specs.{declared.entry.Entry.{Entry}, Placed.{log_of}}
-use Rattle.sci_text.specs.declared.{operation.Command.{Command}, fault.TextFault.{TextFault}, log_form.Form.{Form}}
+use Rattle.sci_text.specs.declared.{operation.Command.{Command}, fault.TextFault.{TextFault}, log_form.Form.{Form}, log_lines.LogReader.{LogReader}}
 use Rattle.sci_text.specs.{Log.{last_line, entry_line}, FirstFault.{IsRefusal}}
 use Rattle.sci_text.specs.Reading.{◌>>=◌, number_read, field_read, after, byte, command_read, pair_read, operation_read}
-use Rattle.sci_text.specs.LogValue.{StampedFits, EntryFits, Front, HasRoom, first_line, BeginsLog}
-use Rattle.sci_text.specs.LogFault.{SaysLast, IsLogFault}
+use Rattle.sci_text.specs.LogValue.{StampedFits, EntryFits, Front, HasAllLines, HasRoom, entry_count, first_line, front_of, BeginsLog}
+use Rattle.sci_text.specs.LogFault.{SaysLast, BeginsFront, IsLogFault, line_count}
 use Rattle.sci_text.specs.declared.operation.Command.TheVariants as commands
 
 -- ` @V`
@@ -143,3 +143,16 @@ NoLast front bytes = (line : ℕ) (stamped : Stamped) → SaysLast front bytes l
 abbrev pub IsRefusalAfter : Form → List ℕ → TextFault → Type 0
 IsRefusalAfter form bytes fault =
     (input : List ℕ) → input ≡ first_line form ++ bytes → (form.lines ≡ None → BeginsLog input → ⊥) → IsRefusal IsLogFault input fault
+
+-- what a reader has read
+abbrev pub front_read : LogReader → Front
+front_read reader = front_of reader.form reader.last.items reader.logs
+
+-- a reader has read all `last` lines of the input, and its entries up to this rest
+pub record HasRead (input : List ℕ) (reader : LogReader) (rest : List ℕ) : Type 0 where
+  pub begins : BeginsFront input (front_read reader) rest
+  pub whole : HasAllLines reader.form.lines (length reader.last.items)
+  pub latest : IsLatest reader.logs reader.latest
+  pub no_last : NoLast (front_read reader) rest
+  pub place : reader.line ≡ line_count (front_read reader) + 1
+  pub few : entry_count reader.logs + length rest < 2 ^ 63

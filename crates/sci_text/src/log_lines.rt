@@ -1,11 +1,11 @@
 //! The lines of a log, and the whole of its text.
 
-ghost use Rattle.std.specs.Prelude.{◌≡◌, ◌<◌, ◌≤◌, ◌⊎◌, ◌++◌, ℕ, Some, length, IfOk, IfErr, OnErr};
+ghost use Rattle.std.specs.Prelude.{◌≡◌, ◌<◌, ◌≤◌, ◌⊎◌, ◌++◌, ℕ, List, [], Some, length, IfOk, IfErr, OnErr};
 ghost use Rattle.std.specs.Bool.{OnTrue, OnFalse};
 ghost use Rattle.sci_words.specs.declared.limits.TheConstants.{MAX_LINES};
 ghost use Rattle.sci_text.specs.{declared.fault.TextFaultKind.TheVariants.{Memory}, FirstFault.{IsRefusal}};
-ghost use Rattle.sci_text.specs.Log.{entry_lines, last_lines};
-ghost use Rattle.sci_text.specs.LogReading.{AddsEntry, AddsLast, BeginsLast, IsLatest, IsRefusalAfter, NoLast, no_logs};
+ghost use Rattle.sci_text.specs.Log.{last_lines};
+ghost use Rattle.sci_text.specs.LogReading.{AddsEntry, AddsLast, BeginsLast, HasRead, IsLatest, IsRefusalAfter, NoLast, no_logs};
 ghost use Rattle.sci_text.specs.LogValue.{AreLogs, HasAllLines, IsForm, IsFront, IsLogs, front_of};
 ghost use Rattle.sci_text.specs.LogFault.{IsLogFault, LogLineFault};
 
@@ -145,26 +145,6 @@ fn push_entry<'a>(
     }
 }
 
-/// The logs whose lines the bytes are, after the `last` lines.
-fn entries(alloc: Global, form: &Form, last: &[Stamped], bytes: &[u8]) -> Result<Logs, TextFault>
-    requires good { IsFront (front_of form.now last.now no_logs) }
-    requires whole { HasAllLines form.now.lines (length last.now) }
-    requires no_more { BeginsLast bytes.now → ⊥ }
-    ensures ok { IfOk result (λ logs. bytes.now ≡ entry_lines logs) }
-    ensures good { IfOk result (λ logs. IsFront (front_of form.now last.now logs)) }
-    ensures fault { IfErr result (IsRefusalAfter form.now (last_lines 0 last.now ++ bytes.now)) }
-{
-    let mut logs = Logs::new(alloc);
-    let mut latest = 0;
-    let mut line = form.first_lines() + last.len() + 1;
-    let mut rest = bytes;
-    while !rest.is_empty() {
-        (latest, rest) = at_line(line, push_entry(form, last, &mut logs, latest, rest))?;
-        line += 1;
-    }
-    Ok(logs)
-}
-
 /// The last contents of these lines.
 fn last_of(contents: &[Stamped]) -> Last
     requires some { 1 ≤ length contents.now }
@@ -179,6 +159,66 @@ fn last_of(contents: &[Stamped]) -> Last
     last
 }
 
+/// Reads the logs of a text from its front, some lines at a time.
+#[derive(Drop)]
+pub(crate) struct LogReader {
+    form: Form,
+    last: Vec<Stamped>,
+    logs: Logs,
+    /// The node of the last entry, or 0 before the first.
+    latest: u8,
+    /// The number of the next line.
+    line: usize,
+}
+
+impl LogReader {
+    /// Reads the lines before the entries, and answers the bytes after them.
+    fn new(alloc: Global, input: &[u8]) -> Result<(LogReader, &[u8]), TextFault>
+        ensures ok { IfOk result (λ x. HasRead input.now x.0 x.1.now) }
+        ensures fault { IfErr result (IsRefusal IsLogFault input.now) }
+    {
+        let (form, rest) = at_line(1, form_of(input))?;
+        let (last, rest) = contents(alloc, &form, rest)?;
+        let line = form.first_lines() + last.len() + 1;
+        let reader = LogReader {
+            form,
+            last,
+            logs: Logs::new(alloc),
+            latest: 0,
+            line,
+        };
+        Ok((reader, rest))
+    }
+
+    /// Reads entries from the front of `bytes` until at most `left` bytes are left, and answers those.
+    fn read<'a>(&mut self, bytes: &'a [u8], left: usize) -> Result<&'a [u8], TextFault>
+        requires { (input : List ℕ) × HasRead input self.old bytes.now }
+        ensures ok { (input : List ℕ) → HasRead input self.old bytes.now →
+            IfOk result (λ rest. HasRead input self.new rest.now) }
+        ensures left { IfOk result (λ rest. length rest.now ≤ left) }
+        ensures fault { (input : List ℕ) → HasRead input self.old bytes.now →
+            IfErr result (IsRefusal IsLogFault input) }
+    {
+        let mut rest = bytes;
+        while rest.len() > left {
+            let read = push_entry(&self.form, &self.last, &mut self.logs, self.latest, rest);
+            (self.latest, rest) = at_line(self.line, read)?;
+            self.line += 1;
+        }
+        Ok(rest)
+    }
+
+    /// The number of nodes, the logs and the last contents of a text that was read to its end.
+    fn finish(self) -> (u8, Logs, Last)
+        requires { (input : List ℕ) × HasRead input self [] }
+        ensures logs { (input : List ℕ) → HasRead input self [] →
+            IsLogs input result.0 result.1 result.2 }
+        ensures good { AreLogs result.0 result.1 result.2 }
+    {
+        (self.form.nodes, self.logs, last_of(&self.last))
+    }
+}
+
 /// The logs and the last contents whose text the bytes are, in either format, with the number of nodes. A refusal names the
 /// first line with a fault, or has line 0 if memory was refused; an input that is too long isn't refused here.
 pub fn logs_of(alloc: Global, input: &[u8]) -> Result<(u8, Logs, Last), TextFault>
@@ -186,8 +226,22 @@ pub fn logs_of(alloc: Global, input: &[u8]) -> Result<(u8, Logs, Last), TextFaul
     ensures good { IfOk result (λ x. AreLogs x.0 x.1 x.2) }
     ensures fault { IfErr result (IsRefusal IsLogFault input.now) }
 {
-    let (form, rest) = at_line(1, form_of(input))?;
-    let (contents, rest) = contents(alloc, &form, rest)?;
-    let logs = entries(alloc, &form, &contents, rest)?;
-    Ok((form.nodes, logs, last_of(&contents)))
+    let (mut reader, rest) = LogReader::new(alloc, input)?;
+    let _end = reader.read(rest, 0)?;
+    Ok(reader.finish())
+}
+
+/// What `logs_of` answers, of a text that is given up: half of it is dropped before the logs have all their entries, which
+/// together take the most memory.
+pub fn logs_of_text(alloc: Global, input: Vec<u8>) -> Result<(u8, Logs, Last), TextFault>
+    ensures ok { IfOk result (λ x. IsLogs input.items x.0 x.1 x.2) }
+    ensures good { IfOk result (λ x. AreLogs x.0 x.1 x.2) }
+    ensures fault { IfErr result (IsRefusal IsLogFault input.items) }
+{
+    let (mut reader, rest) = LogReader::new(alloc, &input)?;
+    let rest = reader.read(rest, rest.len() / 2)?;
+    let rest = Vec::from_slice(alloc, rest)?;
+    drop(input);
+    let _end = reader.read(&rest, 0)?;
+    Ok(reader.finish())
 }

@@ -9,7 +9,7 @@ ghost use Rattle.sci_text.specs.{LogFault.{IsLogFault}, FirstFault.{AreRead, Giv
 
 use crate::fault::TextFault;
 use crate::log_laws::{no_log_fault, one_log};
-use crate::log_lines::logs_of;
+use crate::log_lines::logs_of_text;
 use crate::reading::read_input;
 use crate::tap::Tap;
 use sci_history::{Last, Logs};
@@ -42,5 +42,5 @@ pub fn read_logs<R: Read>(alloc: Global, reader: &mut Tap<R>) -> Result<(u8, Log
     one_log();
     no_log_fault();
     let bytes = read_input(alloc, reader)?;
-    logs_of(alloc, &bytes)
+    logs_of_text(alloc, bytes)
 }
