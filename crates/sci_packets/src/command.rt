@@ -1,7 +1,7 @@
 //! The commands of packets.
 
-ghost use Rattle.std.specs.Prelude.{◌≡◌, ◌≤◌, IfSome};
-ghost use Rattle.sci_packets.specs.Table.{command_name, command_number, command_with, packet_bytes as packet_bytes_of};
+ghost use Rattle.std.specs.Prelude.{◌≡◌, ◌≤◌, ◌||◌, IfSome};
+ghost use Rattle.sci_packets.specs.Table.{command_name, command_number, command_with, may_name, must_name, packet_bytes as packet_bytes_of};
 ghost use Rattle.sci_packets.specs.Table.{takes_contents as takes_contents_of};
 
 /// What a packet asks or answers, without what it carries, which `Body` says. The numbers are this project's own: the
@@ -132,6 +132,16 @@ impl Command {
         matches!(
             self,
             Command::Wback | Command::Mdata | Command::Cdata | Command::Fdata
+        )
+    }
+
+    /// Whether its packets have an identifier, which may be none.
+    pub(crate) fn names(self) -> bool
+        ensures { result ≡ (must_name self || may_name self) }
+    {
+        matches!(
+            self,
+            Command::Roll | Command::Setback | Command::Mgone | Command::Purged | Command::Fdata
         )
     }
 

@@ -25,16 +25,26 @@ pub struct Parts {
 pub fn parts_in(body: &Body) -> Parts
     ensures { result ≡ parts_of body.now }
 {
-    let command = body.command();
-    let (identifier, contents) = match *body {
-        Body::Roll { forward } | Body::Purged { forward } => (forward, None),
-        Body::Setback { backward } => (Some(backward), None),
-        Body::Mgone { old_head } => (Some(old_head), None),
-        Body::Wback(contents) | Body::Mdata(contents) | Body::Cdata(contents) => {
-            (None, Some(contents))
-        }
-        Body::Fdata { old_head, contents } => (old_head, Some(contents)),
-        _ => (None, None),
+    let (command, identifier, contents) = match *body {
+        Body::Mread => (Command::Mread, None, None),
+        Body::Cread => (Command::Cread, None, None),
+        Body::Purge => (Command::Purge, None, None),
+        Body::Roll { forward } => (Command::Roll, forward, None),
+        Body::Wback(contents) => (Command::Wback, None, Some(contents)),
+        Body::Setback { backward } => (Command::Setback, Some(backward), None),
+        Body::Fread => (Command::Fread, None, None),
+        Body::Claim => (Command::Claim, None, None),
+        Body::Clear => (Command::Clear, None, None),
+        Body::Mdata(contents) => (Command::Mdata, None, Some(contents)),
+        Body::Mgone { old_head } => (Command::Mgone, Some(old_head), None),
+        Body::Cdata(contents) => (Command::Cdata, None, Some(contents)),
+        Body::Purged { forward } => (Command::Purged, forward, None),
+        Body::Rolled => (Command::Rolled, None, None),
+        Body::Wbok => (Command::Wbok, None, None),
+        Body::Wbno => (Command::Wbno, None, None),
+        Body::Told => (Command::Told, None, None),
+        Body::Busy => (Command::Busy, None, None),
+        Body::Fdata { old_head, contents } => (Command::Fdata, old_head, Some(contents)),
     };
     Parts {
         command,
@@ -54,6 +64,9 @@ pub fn body_of<S: Spelled>(
         (λ body. parts_of body ≡ parts_with command identifier (contents_for command (S.bytes spelled.now))) }
     ensures fault { result_err result ≡ body_fault command identifier (length (S.bytes spelled.now)) }
 {
+    if identifier.is_some() && !command.names() {
+        return Err(PacketFault::BadIdentifier);
+    }
     let body = match command {
         Command::Roll => Body::Roll {
             forward: identifier,
@@ -71,7 +84,6 @@ pub fn body_of<S: Spelled>(
         Command::Mgone => Body::Mgone {
             old_head: identifier.ok_or(PacketFault::BadIdentifier)?,
         },
-        _ if identifier.is_some() => return Err(PacketFault::BadIdentifier),
         Command::Wback => Body::Wback(spelled.contents()?),
         Command::Mdata => Body::Mdata(spelled.contents()?),
         Command::Cdata => Body::Cdata(spelled.contents()?),
@@ -99,27 +111,7 @@ impl Body {
     pub fn command(&self) -> Command
         ensures { result ≡ command_of self.now }
     {
-        match self {
-            Body::Mread => Command::Mread,
-            Body::Cread => Command::Cread,
-            Body::Purge => Command::Purge,
-            Body::Roll { .. } => Command::Roll,
-            Body::Wback(_) => Command::Wback,
-            Body::Setback { .. } => Command::Setback,
-            Body::Fread => Command::Fread,
-            Body::Claim => Command::Claim,
-            Body::Clear => Command::Clear,
-            Body::Mdata(_) => Command::Mdata,
-            Body::Mgone { .. } => Command::Mgone,
-            Body::Cdata(_) => Command::Cdata,
-            Body::Purged { .. } => Command::Purged,
-            Body::Rolled => Command::Rolled,
-            Body::Wbok => Command::Wbok,
-            Body::Wbno => Command::Wbno,
-            Body::Told => Command::Told,
-            Body::Busy => Command::Busy,
-            Body::Fdata { .. } => Command::Fdata,
-        }
+        parts_in(self).command
     }
 
     /// Whether the packet asks something. Each other packet answers.
