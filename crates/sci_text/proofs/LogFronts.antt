@@ -70,8 +70,8 @@ last_front_more form old new bytes rest h a = rw a.added (record {
 
 -- ---- faults
 
-pub refusal_at : (kind : TextFaultKind) (input : List ℕ) (fault : TextFault) (line : ℕ) (front : Front) (rest : List ℕ) → IsToldAt line kind fault → IsFront front
-    → input ≡ front_text front ++ rest → (front.form.lines ≡ None → BeginsLog input → ⊥)
+pub refusal_at : (kind : TextFaultKind) (input : List ℕ) (fault : TextFault) (line : ℕ) (front : Front) (rest : List ℕ) → IsToldAt line kind fault
+    → IsFront front → input ≡ front_text front ++ rest → (front.form.lines ≡ None → BeginsLog input → ⊥)
     → (0 < length rest) ⊎ (HasAllLines front.form.lines (length front.last) → ⊥)
     → line ≡ first_lines front.form.lines + length front.last + entry_count front.logs + 1 → (kind ≡ Memory) ⊎ LogLineFault front rest kind
     → IsRefusal IsLogFault input fault

@@ -240,8 +240,11 @@ pub fn logs_of_text(alloc: Global, input: Vec<u8>) -> Result<(u8, Logs, Last), T
 {
     let (mut reader, rest) = LogReader::new(alloc, &input)?;
     let rest = reader.read(rest, rest.len() / 2)?;
-    let rest = Vec::from_slice(alloc, rest)?;
+    // With room for the whole text: when a block of at most 32 MiB is freed, the C library's allocator takes the next ones of
+    // its size from its heap, and keeps them there.
+    let mut copy = Vec::with_capacity(alloc, input.len())?;
+    copy.extend_from_slice(rest)?;
     drop(input);
-    let _end = reader.read(&rest, 0)?;
+    let _end = reader.read(&copy, 0)?;
     Ok(reader.finish())
 }
