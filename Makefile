@@ -1,6 +1,6 @@
 # The targets need Rattle's command `rt` (README.md, "Try it").
 
-NEED_RT = command -v rt > /dev/null || { echo "rt is missing: put the bin folder of a Rattle kit (rattle-kit-13f or later) on your PATH"; exit 1; }
+NEED_RT = command -v rt > /dev/null || { echo "rt is missing: put the bin folder of a Rattle kit (rattle-kit-13b or later) on your PATH"; exit 1; }
 
 NEED_CARGO = command -v cargo > /dev/null || { echo "cargo is missing: install Rust 1.88 or later (rustup.rs) to build the plain program of bench/"; exit 1; }
 
