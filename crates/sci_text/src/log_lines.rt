@@ -231,8 +231,8 @@ pub fn logs_of(alloc: Global, input: &[u8]) -> Result<(u8, Logs, Last), TextFaul
     Ok(reader.finish())
 }
 
-/// What `logs_of` answers, of a text that is given up: half of it is dropped before the logs have all their entries, which
-/// together take the most memory.
+/// What `logs_of` answers, of a text that is given up. Once half of its entries' bytes are read, the others are copied and the
+/// text is dropped, so that the whole text and all entries are never in memory together.
 pub fn logs_of_text(alloc: Global, input: Vec<u8>) -> Result<(u8, Logs, Last), TextFault>
     ensures ok { IfOk result (λ x. IsLogs input.items x.0 x.1 x.2) }
     ensures good { IfOk result (λ x. AreLogs x.0 x.1 x.2) }
