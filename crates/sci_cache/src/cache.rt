@@ -64,7 +64,7 @@ impl Cache {
     ghost use Rattle.sci_cache.specs.{Serving.{IsForCache}, Line.{untouched}, Held.{state_of}, Kinds.{is_of}};
     ghost use Rattle.sci_cache.specs.LineSet.{IsBefore, is_in};
     ghost use Rattle.sci_cache.specs.Cache.{CacheOf, line_of, has_slot, letter_of, slots_taken, cache_asking, cache_serving, cache_accepting};
-    ghost use Rattle.sci_cache.specs.Cache.{cache_performing};
+    ghost use Rattle.sci_cache.specs.Cache.{cache_performing, target_of};
 
     /// The cache of node `me` in a machine of this size, with no entry for any line. Requires that
     /// there is such a node. Refused if memory is.
@@ -168,11 +168,14 @@ impl Cache {
         }
     }
 
-    /// The node that has the home of a line.
-    fn home_of(&self, line: u8) -> NodeId
-        ensures { result ≡ line % self.now.nodes }
+    /// The node that a request about a line goes to: the one that its state names, or that with the line's home.
+    fn target_of(&self, line: u8, named: Option<NodeId>) -> NodeId
+        ensures { result ≡ target_of self.now line named }
     {
-        node(line % self.extent.nodes)
+        match named {
+            Some(target) => target,
+            None => node(line % self.extent.nodes),
+        }
     }
 
     /// Makes a request of this kind about a line. Requires that there is such a line. Refused,
@@ -206,9 +209,8 @@ impl Cache {
         if part.is_out() && !self.has_slot() {
             return Err(AskFault::NoSlot);
         }
-        let home = self.home_of(line);
         Ok(Packet {
-            target: to.unwrap_or(home),
+            target: self.target_of(line, to),
             source: node(self.me),
             control: part.next_control(),
             line: u64::from(line),

@@ -1,7 +1,6 @@
 -- What a state would ask, with a slot if it needs one, is what the cache would ask.
-use Rattle.std.proofs.Common.{◌≡◌, ℕ, ◌<◌, ◌%◌, ◌&&◌, not, Bool, true, false, List, length, get_or, Some, None, Ok, Err, Option, Result, option_map, refl}
+use Rattle.std.proofs.Common.{◌≡◌, ℕ, ◌<◌, ◌&&◌, not, Bool, true, false, List, length, get_or, Some, None, Ok, Err, Option, Result, option_map, refl}
 use Rattle.std.proofs.{Common.{sym, ap, subst, ◌∙◌}, lemmas.List.{get_or_read}}
-use Rattle.std.specs.Prelude.{unwrap_or}
 use Rattle.sci_words.specs.declared.event.AskKind.{AskKind}
 use Rattle.sci_packets.specs.declared.body.Body.{Body}
 use Rattle.sci_cache.specs.{declared.fault.AskFault.{AskFault}, State.{CacheState, is_out}, Asking.{Asked, asking}}
@@ -66,18 +65,12 @@ asks_so cache line kind = asks_by cache line (line_asking (line_of cache line) k
 at_same : (xs ys : List LineState) (i j : ℕ) (x : LineState) → xs ≡ ys → i ≡ j → j < length ys → x ≡ get_or xs i x → x ≡ get_or ys j untouched
 at_same xs ys i j x e f h is = get_or_read ys j x h (subst (λ (l : List LineState). x ≡ get_or l j x) e (subst (λ (k : ℕ). x ≡ get_or xs k x) f is)) untouched
 
--- the target that the program takes is the one that is meant
-target_same : (cache : CacheOf) (line nodes home : ℕ) (to : Option ℕ) → nodes ≡ cache.nodes → home ≡ line % nodes → unwrap_or to home ≡ target_of cache line to
-target_same cache line nodes home None b f = f ∙ ap (λ (n : ℕ). line % n) b
-target_same cache line nodes home (Some node) b f = refl
-
-letter_same : (cache : CacheOf) (me nodes line : ℕ) (part : LineState) (asked : Asked) (target source control number home : ℕ)
-    → me ≡ cache.me → nodes ≡ cache.nodes → part ≡ line_of cache line
-    → target ≡ unwrap_or asked.to home → home ≡ line % nodes → source ≡ me → control ≡ part.asks → number ≡ line
+letter_same : (cache : CacheOf) (me line : ℕ) (part : LineState) (asked : Asked) (target source control number : ℕ)
+    → me ≡ cache.me → part ≡ line_of cache line
+    → target ≡ target_of cache line asked.to → source ≡ me → control ≡ part.asks → number ≡ line
     → (let packet : Letter = record { target = target; source = source; control = control; line = number; body = asked.request } in
     packet) ≡ letter_asking cache line asked
-letter_same cache me nodes line part asked target source control number home a b d e f g h i =
-    rw (e ∙ target_same cache line nodes home asked.to b f, g ∙ a, h ∙ ap (λ (l : LineState). l.asks) d, i) refl
+letter_same cache me line part asked target source control number a d e g h i = rw (e, g ∙ a, h ∙ ap (λ (l : LineState). l.asks) d, i) refl
 
 pub returns-clause-asked : goal.returns-clause-asked
 returns-clause-asked c =
@@ -94,5 +87,5 @@ returns-clause-asked c =
     let made = made_for part _ c.args.kind (has_slot cache) to c.in-Some.body c.held.ensures (sym c.in-Some.is ∙ c.asked.ensures.request) lacks in
     let asked : Asked = record { to = to; request = c.in-Some.body; next = made.0 } in
     asks_so cache c.args.line c.args.kind asked (subst (λ (l : LineState). line_asking l c.args.kind (has_slot cache) ≡ Ok asked) here made.1) _
-    (letter_same cache c.self.inside.me cache.nodes c.args.line part asked _ _ _ _ _ (ap (λ (cache : CacheOf). cache.me) c.self.view_is) refl here
-    c.unwrap_or.ensures c.home_of-home.ensures c.node.ensures c.next_control.ensures c.from-2.ensures)
+    (letter_same cache c.self.inside.me c.args.line part asked _ _ _ _ (ap (λ (cache : CacheOf). cache.me) c.self.view_is) here
+    c.target_of.ensures c.node.ensures c.next_control.ensures c.from-2.ensures)
