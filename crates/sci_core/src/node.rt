@@ -339,6 +339,7 @@ impl Node {
 
     /// Takes an answer. False, unchanged, if it isn't awaited. Requires that the answer is for
     /// this node and about a line of the machine.
+    #[inline(always)]
     pub fn accept(&mut self, answer: &Packet) -> bool
         requires { IsForNode self.old (letter_of answer.now) }
         ensures accepted { IsTrue result →

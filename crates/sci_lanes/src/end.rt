@@ -285,6 +285,7 @@ impl LaneEnd {
     /// Stores 0 to the first word of the next cell to take from: from this moment the packet that was found there is
     /// taken. Requires that all its words were found, and that this event of the node takes it, and gives the
     /// packet that the words spell. The node makes its side of the event.
+    #[inline(always)]
     pub fn free(&mut self, cell: CellId, event: &Event, packet: &Packet)
         requires may { MayFree self.old.part cell event.now }
         requires spelled { SpellsInWords packet.now

@@ -25,6 +25,7 @@ pub(crate) fn make_sending(node: &mut Node, event: &Event)
 }
 
 /// Makes the node's side of an event that takes this packet. Requires that the node takes it by this event.
+#[inline(always)]
 pub(crate) fn make_taking(node: &mut Node, event: &Event, packet: &Packet)
     requires takable { MayBeGiven event.now node.old (letter_of packet.now) }
     requires takes { IsSome (taken_by (side node.old event.now) (letter_of packet.now)) }
