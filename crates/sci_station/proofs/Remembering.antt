@@ -389,10 +389,14 @@ remembers_read old new unanswered kept seen r has t still others fresh =
 pub none_kept : (kept : KeptOf) (from : ℕ) → is_kept (record kept { marks = set kept.marks from false }) Requests from ≡ false
 none_kept kept from = elim (set_either kept.marks from false) [ inl e ↦ e | inr e ↦ e ]
 
+no_packet : (lane : List Letter) → length lane ≡ 0 → lane ≡ []
+no_packet [] e = refl
+no_packet (letter ∷ rest) e = absurd (omega arith)
+
 -- there is a packet only where a node owes one
 pub owes_some : (core : Core) (n other : ℕ) → owed core n other ≡ 0 → lane_of core Answers other n ≡ []
-owes_some core n other none = empty_there (lane_of core Answers other n) (omega arith)
-  where
-    empty_there : (lane : List Letter) → length lane ≡ 0 → lane ≡ []
-    empty_there [] e = refl
-    empty_there (letter ∷ rest) e = absurd (omega arith)
+owes_some core n other none = no_packet (lane_of core Answers other n) (omega arith)
+
+-- and a request to a node only then
+pub asked_some : (core : Core) (n other : ℕ) → owed core n other ≡ 0 → lane_of core Requests n other ≡ []
+asked_some core n other none = no_packet (lane_of core Requests n other) (omega arith)

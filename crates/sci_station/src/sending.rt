@@ -49,12 +49,13 @@ pub fn send(
     ensures spent { IsErr result → budget.old.left ≢ None }
 {
     let cell = end.next_to_send(kind, target_of(end, packet));
+    // Before the look: behind an atomic load the compiler clears the words a second time.
+    let mut words = [0; PACKET_WORDS];
+    let count = to_words(packet, &mut words);
     budget.spend()?;
     if end.look(cell) != 0 {
         return Ok(false);
     }
-    let mut words = [0; PACKET_WORDS];
-    let count = to_words(packet, &mut words);
     fill(end, budget, cell, &words[1..count])?;
     budget.spend()?;
     end.publish(cell, words[0], event);

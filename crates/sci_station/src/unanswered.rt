@@ -25,7 +25,7 @@ impl Model for Unanswered {
 }
 
 impl Unanswered {
-    ghost use Rattle.std.specs.Prelude.{◌≡◌, ◌≢◌, ◌<◌, ◌≤◌, ◌+◌, ℕ, IfSome, slice_index};
+    ghost use Rattle.std.specs.Prelude.{◌≡◌, ◌≢◌, ◌<◌, ◌≤◌, ◌+◌, ℕ, IfSome, nat_lt, slice_index};
     ghost use Rattle.sci_cache.specs.LineSet.{IsBefore};
     ghost use Rattle.sci_words.specs.declared.limits.TheConstants.{MAX_NODES};
 
@@ -62,6 +62,15 @@ impl Unanswered {
         let left = self.counts[usize::from(from)] - 1;
         self.counts[usize::from(from)] = left;
         self.owing.put(from, left > 0);
+    }
+
+    /// Whether a node owes an answer.
+    #[inline(always)]
+    pub(crate) fn owes(&self, node: u8) -> bool
+        requires { node < MAX_NODES }
+        ensures { result ≡ nat_lt 0 (slice_index self.now node) }
+    {
+        self.counts[usize::from(node)] > 0
     }
 
     /// The first node from one on that owes an answer, or None if none does.
