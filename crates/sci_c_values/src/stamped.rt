@@ -3,7 +3,7 @@
 ghost use Rattle.std.specs.Prelude.{◌≡◌};
 ghost use Rattle.sci_c_values.specs.Stamped.{stamped_of, stamped_struct};
 
-use sci_words::{Line, Stamped, WORDS_PER_LINE, Word};
+use sci_words::{Line, Stamped, WORDS_PER_LINE};
 
 /// The eight words of a line, and the number of their version.
 #[repr(C)]
@@ -13,23 +13,12 @@ pub struct SciStamped {
     pub words: [u64; 8],
 }
 
-/// The line of these words.
-fn line_of(words: &[Word; WORDS_PER_LINE]) -> Line
-    ensures { result ≡ words.now }
-{
-    let mut line = Line::zero();
-    for i in 0..WORDS_PER_LINE as u8 {
-        line.set(i, words[i as usize]);
-    }
-    line
-}
-
 /// The stamped line that the struct says.
 pub fn stamped_in(stamped: &SciStamped) -> Stamped
     ensures { result ≡ stamped_of stamped.now }
 {
     Stamped {
-        line: line_of(&stamped.words),
+        line: Line::of_words(&stamped.words),
         version: stamped.version,
     }
 }

@@ -15,28 +15,14 @@ pub const LONG: usize = 88;
 /// The words of a packet with contents.
 pub const LONG_WORDS: usize = 11;
 
-/// The words of a line.
-pub fn words_in(line: &Line) -> [Word; WORDS_PER_LINE]
-    ensures same { result ≡ line.now }
+/// Reads the words of a line, which tells the prover that they are words.
+fn read_words(line: &Line)
     ensures width { length line.now ≡ WORDS_PER_LINE }
     ensures fits { (i : ℕ) → slice_index line.now i < 2 ^ 64 }
 {
-    let mut words = [0; WORDS_PER_LINE];
-    for (i, word) in words.iter_mut().enumerate() {
-        *word = line.word(i as u8);
+    for i in 0..WORDS_PER_LINE as u8 {
+        let _word = line.word(i);
     }
-    words
-}
-
-/// The line of these words.
-pub fn line_of(words: &[Word; WORDS_PER_LINE]) -> Line
-    ensures { result ≡ words.now }
-{
-    let mut line = Line::zero();
-    for (i, word) in words.iter().enumerate() {
-        line = line.with(i as u8, *word);
-    }
-    line
 }
 
 /// What a packet was spelled in, of which its contents are read.
@@ -73,7 +59,7 @@ impl<'a> Spelled for InBytes<'a> {
         let mut words = [0; WORDS_PER_LINE];
         BigEndian::read_u64_into(&self.bytes[24..LONG], &mut words);
         Ok(Stamped {
-            line: line_of(&words),
+            line: Line::of_words(&words),
             version: BigEndian::read_u64(&self.bytes[16..]),
         })
     }
@@ -108,7 +94,7 @@ fn contents_of(words: &[Word]) -> Result<Stamped, PacketFault>
     let mut line = [0; WORDS_PER_LINE];
     line.copy_from_slice(&words[3..LONG_WORDS]);
     Ok(Stamped {
-        line: line_of(&line),
+        line: Line::of_words(&line),
         version: words[2],
     })
 }
@@ -121,7 +107,8 @@ pub fn write_contents(stamped: &Stamped, to: &mut [u8; LONG])
 {
     let version = stamped.version;
     BigEndian::write_u64(&mut to[16..], version);
-    BigEndian::write_u64_into(&words_in(&stamped.line), &mut to[24..]);
+    read_words(&stamped.line);
+    BigEndian::write_u64_into(stamped.line.words(), &mut to[24..]);
 }
 
 /// Writes a version and a line behind the words of a header.
@@ -131,6 +118,7 @@ pub fn write_contents_words(version: u64, line: &Line, to: &mut [Word; LONG_WORD
     ensures width { length line.now ≡ WORDS_PER_LINE }
     ensures fits { (i : ℕ) → slice_index line.now i < 2 ^ 64 }
 {
+    read_words(line);
     to[2] = version;
-    to[3..].copy_from_slice(&words_in(line));
+    to[3..].copy_from_slice(line.words());
 }

@@ -30,12 +30,7 @@ fn line_of(first: Words, second: Words, third: Words, fourth: Words) -> Option<L
     let b = second?;
     let c = third?;
     let d = fourth?;
-    let front = Line::zero()
-        .with(0, a.0)
-        .with(1, a.1)
-        .with(2, b.0)
-        .with(3, b.1);
-    Some(front.with(4, c.0).with(5, c.1).with(6, d.0).with(7, d.1))
+    Some(Line::of_words(&[a.0, a.1, b.0, b.1, c.0, c.1, d.0, d.1]))
 }
 
 /// The eight words at the front of `bytes`, each behind a space, and the bytes after them.

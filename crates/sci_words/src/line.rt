@@ -35,6 +35,18 @@ impl Line {
         }
     }
 
+    /// The line of these words.
+    pub fn of_words(words: &[Word; WORDS_PER_LINE]) -> Line
+        ensures { result ≡ words.now }
+    {
+        // Word by word: a copy of all eight at once goes through memory twice more wherever a line is put into a packet.
+        let mut line = Line::zero();
+        for (i, word) in words.iter().enumerate() {
+            line = line.with(i as u8, *word);
+        }
+        line
+    }
+
     /// The eight words.
     pub fn words(&self) -> &[Word]
         ensures words { result.now ≡ self.now }

@@ -7,7 +7,8 @@ returns-then-words-lt-LONG_WORDS-clause-fault c = rw (short_words c.args.words.n
 
 pub returns-clause-contents : goal.returns-clause-contents
 returns-clause-contents c =
-    contents_read c.args.words.now c.line_of.result (λ i. omega (arith, c.type_inv.words i)) (omega arith) (c.line_of.ensures ∙ c.copy_from_slice.ensures.after)
+    contents_read c.args.words.now c.of_words.result (λ i. omega (arith, c.type_inv.words i)) (omega arith)
+    (c.of_words.ensures ∙ c.copy_from_slice.ensures.after)
 
 pub returns-clause-fault : goal.returns-clause-fault
 returns-clause-fault c = rw (long_words c.args.words.now 11 (omega arith)) refl

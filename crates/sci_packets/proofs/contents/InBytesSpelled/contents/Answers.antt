@@ -7,7 +7,7 @@ use Rattle.sci_packets.proofs.contents.InBytesSpelled.contents.Goals as goal
 pub returns-clause-contents : goal.returns-clause-contents
 unfolding field_at
 returns-clause-contents c =
-    contents_read c.args.self.now.bytes.now c.read_u64_into.new.dst c.line_of.result c.read_u64.result (omega arith) c.read_u64_into.auto.dst
-    c.read_u64_into.ensures c.line_of.ensures
+    contents_read c.args.self.now.bytes.now c.read_u64_into.new.dst c.of_words.result c.read_u64.result (omega arith) c.read_u64_into.auto.dst
+    c.read_u64_into.ensures c.of_words.ensures
     (c.read_u64.ensures ∙ ap (λ (b : List ℕ). big_number 8 b)
     (between_to_end c.args.self.now.bytes.now 16 (length c.args.self.now.bytes.now) (omega arith)))

@@ -1,6 +1,6 @@
 use Rattle.std.proofs.Common.{◌≡◌, ◌<◌, ℕ, length, get_or}
 use Rattle.sci_words.specs.declared.limits.TheConstants.{WORDS_PER_LINE}
-use Rattle.sci_c_values.proofs.stamped.line_of.Given as goal
+use Rattle.sci_words.proofs.line.Line.of_words.Given as goal
 
 abbrev pub invariant-loop-i : goal.invariant-loop-i
 invariant-loop-i l = record {
