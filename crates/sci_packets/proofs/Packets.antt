@@ -8,7 +8,7 @@ use mathlib.Core.HLevel.{Σ_prop_path}
 use Rattle.std.proofs.Props.{props}
 use Rattle.sci_packets.specs.declared.{body.Body.{Body}, command.Command.{Command}, fault.PacketFault.{PacketFault}}
 use Rattle.sci_packets.specs.declared.{fault.PacketFault.TheVariants.{Short}, header.Header.{Header}}
-use Rattle.sci_packets.specs.{declared.{packet.Packet.{Packet}, table.Parts.{Parts}}, Fault.{header_fault, fault_of}}
+use Rattle.sci_packets.specs.{declared.packet.Packet.{Packet}, Fault.{header_fault, fault_of}}
 use Rattle.sci_packets.specs.Fields.{spelled, header_in, word_bytes, contents_words, contents_in, contents_for}
 use Rattle.sci_packets.specs.Spelling.{IsContents, IsPacket, header_of, spelling, Spells, NoneSpells}
 use Rattle.sci_packets.specs.Table.{carries, command_of, command_with, parts_of, number_of, identifier_of, body_fault, takes_contents}
@@ -235,9 +235,9 @@ none_refused bytes r e e' p q fits fault =
 
 -- ---- the clauses of an encoder
 
-pub packet_made : (p : Packet) (parts : Parts) (h : Header) → parts ≡ parts_of p.body → h ≡ header_of p → (p.target < 0xFFFF) × (p.source < 0xFFFF)
-    → h.control < 2 ^ 16 → IfSome parts.identifier (λ id. id < 0xFFFF) → IfSome parts.contents IsContents → IsPacket p
-packet_made p parts h e made nodes control identifier contents = grind arith
+pub packet_made : (p : Packet) (h : Header) → h ≡ header_of p → (p.target < 0xFFFF) × (p.source < 0xFFFF)
+    → h.control < 2 ^ 16 → IfSome (parts_of p.body).identifier (λ id. id < 0xFFFF) → IfSome (parts_of p.body).contents IsContents → IsPacket p
+packet_made p h made nodes control identifier contents = grind arith
 
 -- the header and nothing more
 pub short_written : (p : Packet) (h : Header) (old new : List ℕ) → h ≡ header_of p → (parts_of p.body).contents ≡ None → new ≡ spelled h (drop 16 old)

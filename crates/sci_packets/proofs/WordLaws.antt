@@ -208,14 +208,6 @@ long_words words n le = le-ltb (length (word_bytes words)) (8 * n) (omega (arith
 
 -- ---- the words that are written
 
--- the header and nothing more
-pub two_written : (p : Packet) (h : Header) (old : List ℕ) (v w : ℕ) → h ≡ header_of p → (parts_of p.body).contents ≡ None → length old ≡ 11 → v ≡ first_word h
-    → w ≡ second_word h → slice_set (slice_set old 0 v) 1 w ≡ words_of p ++ drop 2 old
-unfolding words_of
-two_written p h [] v w e none len first second = absurd (omega arith)
-two_written p h (a ∷ []) v w e none len first second = absurd (omega arith)
-two_written p h (a ∷ b ∷ more) v w e none len first second = rw none (rw (first, second) (rw e refl))
-
 -- contents behind two words
 pub contents_written : (old line : List ℕ) (version : ℕ) → length old ≡ 11 → length line ≡ 8
     → put_mid 3 8 (slice_set old 2 version) line ≡ take 2 old ++ (version ∷ line)
@@ -226,18 +218,13 @@ contents_written (a ∷ b ∷ d ∷ more) line version len width =
     let past : drop 8 more ≡ [] = drop_all 8 more (omega arith) in
     rw past (rw (append-nil line) refl)
 
--- the header and the contents
-pub eleven_written : (p : Packet) (h : Header) (stamped : Stamped) (old new : List ℕ) (v w : ℕ) → h ≡ header_of p → (parts_of p.body).contents ≡ Some stamped
-    → length old ≡ 11 → v ≡ first_word h → w ≡ second_word h
-    → new ≡ take 2 (slice_set (slice_set old 0 v) 1 w) ++ (stamped.version ∷ stamped.line) → new ≡ words_of p ++ drop 11 old
+-- the header over the first two words
+pub words_written : (p : Packet) (h : Header) (old mid : List ℕ) (n v w : ℕ) → h ≡ header_of p → length old ≡ 11 → v ≡ first_word h → w ≡ second_word h
+    → mid ≡ take 2 old ++ (contents_words (parts_of p.body).contents ++ drop n old) → slice_set (slice_set mid 0 v) 1 w ≡ words_of p ++ drop n old
 unfolding words_of
-eleven_written p h stamped [] new v w e some len first second after = absurd (omega arith)
-eleven_written p h stamped (a ∷ []) new v w e some len first second after = absurd (omega arith)
-eleven_written p h stamped (a ∷ b ∷ more) new v w e some len first second after =
-    let past : drop 11 (a ∷ b ∷ more) ≡ [] = drop_all 11 (a ∷ b ∷ more) (omega arith) in
-    let same : v ∷ w ∷ stamped.version ∷ stamped.line ≡ first_word (header_of p) ∷ second_word (header_of p) ∷ contents_words (parts_of p.body).contents =
-    rw some (rw (first, second) (rw e refl)) in
-    rw past (after ∙ same ∙ sym (append-nil (words_of p)))
+words_written p h [] mid n v w e len first second rest = absurd (omega arith)
+words_written p h (a ∷ []) mid n v w e len first second rest = absurd (omega arith)
+words_written p h (a ∷ b ∷ more) mid n v w e len first second rest = rw rest (rw (first, second) (rw e refl))
 
 -- ---- a packet that begins the words begins their bytes, and the other way round
 

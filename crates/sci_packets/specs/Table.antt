@@ -6,7 +6,7 @@ use Rattle.sci_packets.specs.declared.fault.PacketFault.{PacketFault, TheVariant
 use Rattle.sci_packets.specs.declared.{body.Body.{Body}, command.Command.{Command}}
 use Rattle.sci_packets.specs.declared.command.Command.TheVariants.{Mread, Cread, Purge, Roll, Wback, Setback, Fread, Claim, Clear, Mdata, Mgone, Cdata}
 use Rattle.sci_packets.specs.declared.command.Command.TheVariants.{Purged, Rolled, Wbok, Wbno, Told, Busy, Fdata}
-use Rattle.sci_packets.specs.declared.{command.TheConstants.Command.{ALL}, table.Parts.{Parts}}
+use Rattle.sci_packets.specs.declared.command.TheConstants.Command.{ALL}
 use Rattle.sci_packets.specs.declared.body.Body.TheVariants as body
 
 -- the number of a command: the requests are below 0x0100, the answers above
@@ -56,6 +56,12 @@ command_name Fdata = codes "fdata"
 -- the command with a number, if there is one
 unfoldable pub command_with : ℕ → Option Command
 command_with number = find (λ command. command_number command == number) ALL
+
+-- what a body puts into its packet
+pub record Parts : Type 0 where
+  pub command : Command
+  pub identifier : Option ℕ
+  pub contents : Option Stamped
 
 -- parts as a record
 abbrev pub parts : Command → Option ℕ → Option Stamped → Parts

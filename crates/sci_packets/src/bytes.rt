@@ -14,7 +14,7 @@ use crate::fault::PacketFault;
 use crate::header::Header;
 use crate::node_id::{NO_NODE, NodeId};
 use crate::packet::Packet;
-use crate::table::{Parts, body_of, parts_in};
+use crate::table::body_of;
 use sci_words::LINE_BYTES;
 
 /// The bytes of a packet without contents.
@@ -29,33 +29,32 @@ pub fn encode(p: &Packet, to: &mut [u8; 88]) -> usize
     ensures sizes { (result ≡ 16) ⊎ (result ≡ 88) }
     ensures packet { IsPacket p.now }
 {
-    let parts = parts_in(&p.body);
-    let header = header_for(p, &parts);
-    header.write(to);
-    match parts.contents {
+    header_for(p).write(to);
+    match p.body.contents() {
         None => SHORT,
         Some(contents) => {
-            write_contents(&contents, to);
+            write_contents(contents, to);
             LONG
         }
     }
 }
 
-/// The header of a packet whose body puts these parts into it.
-pub fn header_for(p: &Packet, parts: &Parts) -> Header
-    requires parts { parts.now ≡ parts_of p.now.body }
+/// The header of a packet.
+pub fn header_for(p: &Packet) -> Header
     ensures header { result ≡ header_of p.now }
     ensures offset { result.offset < 2 ^ 48 }
     ensures nodes { (p.now.target < 0xFFFF) × (p.now.source < 0xFFFF) }
-    ensures identifier { IfSome parts.now.identifier (λ id. id < 0xFFFF) }
+    ensures identifier { IfSome (parts_of p.now.body).identifier (λ id. id < 0xFFFF) }
 {
+    // Before the command: see `to_words`.
+    let identifier = number_in(p.body.identifier());
     Header {
         target: p.target.get(),
-        command: parts.command.number(),
+        command: p.body.command().number(),
         source: p.source.get(),
         control: p.control,
         offset: p.line * LINE_BYTES as u64,
-        identifier: number_in(parts.identifier),
+        identifier,
     }
 }
 

@@ -4,29 +4,29 @@ ghost use Rattle.std.specs.Prelude.{◌≡◌, ◌≤◌, ◌||◌, IfSome};
 ghost use Rattle.sci_packets.specs.Table.{command_name, command_number, command_with, may_name, must_name, packet_bytes as packet_bytes_of};
 ghost use Rattle.sci_packets.specs.Table.{takes_contents as takes_contents_of};
 
-/// What a packet asks or answers, without what it carries, which `Body` says. The numbers are this project's own: the
-/// requests are below 0x0100, the answers above.
+/// What a packet asks or answers, without what it carries, which `Body` says. First the requests, then the answers, each in
+/// the order of their numbers.
 #[derive(Clone, Copy, Debug, PartialEq, Eq)]
 pub enum Command {
-    Mread = 0x0001,
-    Cread = 0x0002,
-    Purge = 0x0003,
-    Roll = 0x0004,
-    Wback = 0x0005,
-    Setback = 0x0006,
-    Fread = 0x0007,
-    Claim = 0x0008,
-    Clear = 0x0009,
-    Mdata = 0x0101,
-    Mgone = 0x0102,
-    Cdata = 0x0103,
-    Purged = 0x0104,
-    Rolled = 0x0105,
-    Wbok = 0x0106,
-    Wbno = 0x0107,
-    Told = 0x0108,
-    Busy = 0x0109,
-    Fdata = 0x010A,
+    Mread,
+    Cread,
+    Purge,
+    Roll,
+    Wback,
+    Setback,
+    Fread,
+    Claim,
+    Clear,
+    Mdata,
+    Mgone,
+    Cdata,
+    Purged,
+    Rolled,
+    Wbok,
+    Wbno,
+    Told,
+    Busy,
+    Fdata,
 }
 
 impl Command {
@@ -53,11 +53,19 @@ impl Command {
         Command::Busy,
     ];
 
-    /// The number of the command, as a header has it.
+    /// The number of the command, as a header has it. The numbers are this project's own: the requests are 0x0001 to 0x0009,
+    /// the answers 0x0101 to 0x010A.
     pub fn number(self) -> u16
         ensures number { result ≡ command_number self }
     {
-        self as u16
+        // Arithmetic, since a match of all commands compiles to a jump through a table.
+        let place = self as u16;
+        let first_answer = Command::Mdata as u16;
+        if place < first_answer {
+            0x0001 + place
+        } else {
+            0x0101 + (place - first_answer)
+        }
     }
 
     /// The command with this number, or None if there is none.

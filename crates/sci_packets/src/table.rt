@@ -10,49 +10,6 @@ use crate::fault::PacketFault;
 use crate::node_id::NodeId;
 use sci_words::Stamped;
 
-/// What a body puts into its packet.
-#[derive(Clone, Copy)]
-pub struct Parts {
-    pub command: Command,
-    /// The identifier, None if it is none or unused.
-    pub identifier: Option<NodeId>,
-    /// What follows the header.
-    pub contents: Option<Stamped>,
-}
-
-/// What a body puts into its packet.
-#[tactic(auto, unfolding(crate::specs::Table::parts_of))]
-pub fn parts_in(body: &Body) -> Parts
-    ensures { result ≡ parts_of body.now }
-{
-    let (command, identifier, contents) = match *body {
-        Body::Mread => (Command::Mread, None, None),
-        Body::Cread => (Command::Cread, None, None),
-        Body::Purge => (Command::Purge, None, None),
-        Body::Roll { forward } => (Command::Roll, forward, None),
-        Body::Wback(contents) => (Command::Wback, None, Some(contents)),
-        Body::Setback { backward } => (Command::Setback, Some(backward), None),
-        Body::Fread => (Command::Fread, None, None),
-        Body::Claim => (Command::Claim, None, None),
-        Body::Clear => (Command::Clear, None, None),
-        Body::Mdata(contents) => (Command::Mdata, None, Some(contents)),
-        Body::Mgone { old_head } => (Command::Mgone, Some(old_head), None),
-        Body::Cdata(contents) => (Command::Cdata, None, Some(contents)),
-        Body::Purged { forward } => (Command::Purged, forward, None),
-        Body::Rolled => (Command::Rolled, None, None),
-        Body::Wbok => (Command::Wbok, None, None),
-        Body::Wbno => (Command::Wbno, None, None),
-        Body::Told => (Command::Told, None, None),
-        Body::Busy => (Command::Busy, None, None),
-        Body::Fdata { old_head, contents } => (Command::Fdata, old_head, Some(contents)),
-    };
-    Parts {
-        command,
-        identifier,
-        contents,
-    }
-}
-
 /// The body of a packet with this command and identifier, of which the contents are read where it is spelled.
 #[tactic(auto, unfolding(crate::specs::Table::parts_of, crate::specs::Table::is_misnamed, crate::specs::Table::body_fault))]
 pub fn body_of<S: Spelled>(
@@ -103,7 +60,7 @@ pub fn body_of<S: Spelled>(
 }
 
 impl Body {
-    ghost use Rattle.std.specs.Prelude.{◌<◌, ◌↔◌, IsTrue};
+    ghost use Rattle.std.specs.{Prelude.{◌<◌, ◌↔◌, IsTrue}, Option.{option_copied}};
     ghost use Rattle.sci_packets.specs.Table.{IsRequest, command_number, command_of};
 
     /// The command of a packet with this body.
@@ -111,7 +68,53 @@ impl Body {
     pub fn command(&self) -> Command
         ensures { result ≡ command_of self.now }
     {
-        parts_in(self).command
+        match *self {
+            Body::Mread => Command::Mread,
+            Body::Cread => Command::Cread,
+            Body::Purge => Command::Purge,
+            Body::Roll { .. } => Command::Roll,
+            Body::Wback(_) => Command::Wback,
+            Body::Setback { .. } => Command::Setback,
+            Body::Fread => Command::Fread,
+            Body::Claim => Command::Claim,
+            Body::Clear => Command::Clear,
+            Body::Mdata(_) => Command::Mdata,
+            Body::Mgone { .. } => Command::Mgone,
+            Body::Cdata(_) => Command::Cdata,
+            Body::Purged { .. } => Command::Purged,
+            Body::Rolled => Command::Rolled,
+            Body::Wbok => Command::Wbok,
+            Body::Wbno => Command::Wbno,
+            Body::Told => Command::Told,
+            Body::Busy => Command::Busy,
+            Body::Fdata { .. } => Command::Fdata,
+        }
+    }
+
+    /// The identifier of a packet with this body, None if it is none or unused.
+    #[tactic(auto, unfolding(crate::specs::Table::parts_of))]
+    pub fn identifier(&self) -> Option<NodeId>
+        ensures { result ≡ (parts_of self.now).identifier }
+    {
+        match *self {
+            Body::Roll { forward: id }
+            | Body::Purged { forward: id }
+            | Body::Fdata { old_head: id, .. } => id,
+            Body::Setback { backward: id } | Body::Mgone { old_head: id } => Some(id),
+            _ => None,
+        }
+    }
+
+    /// What follows the header of a packet with this body.
+    #[tactic(auto, unfolding(crate::specs::Table::parts_of))]
+    pub fn contents(&self) -> Option<&Stamped>
+        ensures { option_copied result ≡ (parts_of self.now).contents }
+    {
+        match self {
+            Body::Wback(contents) | Body::Mdata(contents) | Body::Cdata(contents) => Some(contents),
+            Body::Fdata { contents, .. } => Some(contents),
+            _ => None,
+        }
     }
 
     /// Whether the packet asks something. Each other packet answers.
