@@ -196,6 +196,10 @@ impl Node {
         ensures none { result ≡ None → node_performing self.old line ≡ None }
         ensures same { result ≡ None → self.new ≡ self.old }
     {
+        // Most tries are of an operation that waits for contents. These end here, before the operation is copied.
+        if self.lacks_contents(line) {
+            return None;
+        }
         let pending = self.pending(line)?;
         let (reply, version) = self.cache.perform(pending.op)?;
         let entry = Entry {
@@ -209,6 +213,19 @@ impl Node {
         match self.log.push(entry) {
             Ok(()) => Some(entry),
             Err(_) => unreachable!(),
+        }
+    }
+
+    /// Whether none is pending on a line, or the line's state has no contents. Then none can be performed there.
+    fn lacks_contents(&self, line: u8) -> bool
+        ensures { result ≡ true → node_performing self.now line ≡ None }
+    {
+        match self.pending(line) {
+            Some(pending) => !self
+                .cache
+                .held(pending.op.line)
+                .is_of(LineKind::CouldGiveWay),
+            None => true,
         }
     }
 
