@@ -69,16 +69,15 @@ fn a_machine_is_taken_out(rt: HostRuntime) -> Result<(), Fail> {
 }
 
 /// The home's last turn by hand, cut after each number of steps, leaves what later turns can finish. It makes as many
-/// steps as it may, up to the sixteen of the whole turn. Three take the request of node 1, and twelve send its answer. One
-/// looks at a lane of requests where nothing is: no node owes an answer, so the lanes of answers are passed over, and so is
-/// the node's lane to itself.
+/// steps as it may, up to the seventeen of the whole turn. Three take the request of node 1, and twelve send its answer.
+/// Two look at lanes of requests where nothing is: no node owes an answer, so the lanes of answers are passed over.
 #[test]
 fn a_turn_is_cut_anywhere(rt: HostRuntime) -> Result<(), Fail> {
     let alloc = rt.alloc();
     let mut stations = Running::of(alloc, (2, 1, 1), 1)?;
     play(alloc, &mut stations, UP_TO_THE_GRANT)?;
-    play(alloc, &mut stations, "turn 0 within 1000 steps 16")?;
-    for steps in 0..=16 {
+    play(alloc, &mut stations, "turn 0 within 1000 steps 17")?;
+    for steps in 0..=17 {
         let mut stations = Running::of(alloc, (2, 1, 1), 1)?;
         play(alloc, &mut stations, UP_TO_THE_GRANT)?;
         let cut = format!(in alloc; "turn 0 within {steps} steps {steps}; turn 0; turn 1")?;

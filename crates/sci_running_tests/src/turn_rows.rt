@@ -29,9 +29,8 @@ const ROWS: &str = "
     row an_idle_turn_looks_at_lanes_once
         machine 2 3 2
         // A turn that finds nothing looks once at the cell whose turn it is in each lane to the node, and makes no
-        // other step. The lanes of answers of nodes that owe none are passed over, and so is the lane of its requests
-        // to itself, of which none is unanswered. So one of requests is looked at.
-        turn 0 within 1000 steps 1 idle
+        // other step. The lanes of answers of nodes that owe none are passed over, so two of requests are looked at.
+        turn 0 within 1000 steps 2 idle
 
     row a_home_takes_its_own_packets_in_later_turns
         machine 3 1 1
@@ -64,23 +63,16 @@ const ROWS: &str = "
 
     row answers_are_looked_for_while_one_is_owed
         machine 3 1 1
-        // A turn looks at the lanes of requests of both other nodes, and at the lane of answers of node 0 while that
-        // owes one. When the answer is taken, it looks at none.
-        submit 1 load 0 0 serial 0; turn 1 asked; turn 1 within 1000 steps 3 idle; turn 0 accepted 0 served 1
-        turn 1 accepted 1 served 0; perform 1 0 = 1 0 load 0 0 = 0 @0; turn 1 within 1000 steps 2 idle
-
-    row own_requests_are_looked_for_while_one_is_unanswered
-        machine 3 1 1
-        // The home asks itself. A turn looks at its lane to itself too, and at that of its answers, until it has taken
-        // the answer.
-        submit 0 load 0 0 serial 0; turn 0 asked; turn 0 within 3 steps 3 idle
-        turn 0 served 1 replied; turn 0 accepted 1; perform 0 0 = 0 0 load 0 0 = 0 @0; turn 0 within 1000 steps 2 idle
+        // A turn looks at the three lanes of requests, and at the lane of answers of node 0 while that owes one. When
+        // the answer is taken, it looks at none.
+        submit 1 load 0 0 serial 0; turn 1 asked; turn 1 within 1000 steps 4 idle; turn 0 accepted 0 served 1
+        turn 1 accepted 1 served 0; perform 1 0 = 1 0 load 0 0 = 0 @0; turn 1 within 1000 steps 3 idle
 
     row each_answer_that_is_owed_is_looked_for
         machine 2 3 2
         // Node 0 owes node 1 two answers. Its turn is cut after the first one, and node 1 takes a turn between: it
         // still looks for the second one, in a later turn.
-        submit 1 load 0 0 serial 0; submit 1 load 2 0 serial 1; turn 1 asked; turn 0 within 17 steps 17 served 1
+        submit 1 load 0 0 serial 0; submit 1 load 2 0 serial 1; turn 1 asked; turn 0 within 18 steps 18 served 1
         turn 1 accepted 1; turn 0 served 1; turn 1 accepted 1; perform 1 0 = 1 0 load 0 0 = 0 @0
         perform 1 2 = 1 1 load 2 0 = 0 @0
 
@@ -107,10 +99,10 @@ const AFTER_CHAIN: &str = "
     row a_kept_request_is_looked_at_again
         machine 3 1 1
         // A request that is kept stays in its cell. The first turn looks at it and reads a word more; later ones
-        // decide it by what the station remembers. The other two looks find nothing: a lane of requests is empty,
-        // and so is the lane of answers of node 0, which owes one. The request is served once it may be, in
+        // decide it by what the station remembers. The other three looks find nothing: two lanes of requests are
+        // empty, and so is the lane of answers of node 0, which owes one. The request is served once it may be, in
         // the very turn that accepts the answer for which it was kept.
-        turn 1 within 1000 steps 4 idle; turn 1 within 1000 steps 2 idle; turn 1 within 1000 steps 2 idle
+        turn 1 within 1000 steps 5 idle; turn 1 within 1000 steps 3 idle; turn 1 within 1000 steps 3 idle
         turn 0 accepted 0 served 1; turn 1 accepted 1 served 1; turn 2 ready 0
 
     row a_request_after_a_kept_one_is_served

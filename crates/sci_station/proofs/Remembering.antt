@@ -396,7 +396,3 @@ no_packet (letter ∷ rest) e = absurd (omega arith)
 -- there is a packet only where a node owes one
 pub owes_some : (core : Core) (n other : ℕ) → owed core n other ≡ 0 → lane_of core Answers other n ≡ []
 owes_some core n other none = no_packet (lane_of core Answers other n) (omega arith)
-
--- and a request to a node only then
-pub asked_some : (core : Core) (n other : ℕ) → owed core n other ≡ 0 → lane_of core Requests n other ≡ []
-asked_some core n other none = no_packet (lane_of core Requests n other) (omega arith)

@@ -22,11 +22,24 @@ impl Budget {
     {
         match self.left {
             None => Ok(()),
-            Some(0) => Err(Spent),
-            Some(left) => {
-                self.left = Some(left - 1);
-                Ok(())
-            }
+            Some(left) => self.spend_of(left),
         }
+    }
+
+    /// Allows one step more of those that are left, as `spend` does. Cold, so that the code of a turn without a limit stands
+    /// in one piece: a step is made for each look and each word.
+    #[cold]
+    #[inline(never)]
+    fn spend_of(&mut self, left: u32) -> Result<(), Spent>
+        requires left { self.old.left ≡ Some left }
+        ensures one { IfOk result (λ _. HasLess 1 self.old.left self.new.left) }
+        ensures spent { IsErr result → left ≡ 0 }
+        ensures same { IsErr result → self.new ≡ self.old }
+    {
+        if left == 0 {
+            return Err(Spent);
+        }
+        self.left = Some(left - 1);
+        Ok(())
     }
 }

@@ -7,7 +7,7 @@ use crate::sending::{send, target_of};
 use crate::unanswered::Unanswered;
 use sci_core::{LaneKind, Node};
 use sci_history::Entry;
-use sci_lanes::{HasEnd, LaneEnd};
+use sci_lanes::{CellId, HasEnd, LaneEnd};
 use sci_packets::Packet;
 use sci_turn::Post;
 use sci_words::{Event, Op};
@@ -115,8 +115,9 @@ impl StationPost {
         self.end.perform(line)
     }
 
-    /// Whether the lane of a kind from a node is empty, as far as is known without a look: a node that owes no answer has
-    /// sent none, and the node itself no request to itself.
+    /// Whether the lane of a kind from a node is empty, as far as is known without a look: none of the answers of a node that
+    /// owes none is under way. Requests to itself are looked for as those of others, since a test for the one node in the
+    /// circle is guessed wrong more often than it saves.
     #[inline(always)]
     fn knows_empty(&self, kind: LaneKind, from: u8) -> bool
         requires { from < nodes_in self.now.end.part }
@@ -124,23 +125,23 @@ impl StationPost {
     {
         match kind {
             LaneKind::Answers => !self.unanswered.owes(from),
-            LaneKind::Requests => from == self.end.me() && !self.unanswered.owes(from),
+            LaneKind::Requests => false,
         }
     }
 
-    /// Reads the packet that was seen. A request of another node is kept from then on, until it is taken.
+    /// Reads the packet whose first word was seen in a cell. A request of another node is kept from then on, until it is taken.
+    /// Cell and word come apart, in registers: as one value, each look would clear memory for it.
     #[inline(never)]
-    fn read(&mut self, seen: Seen) -> Result<(), Spent>
-        requires seen { HasSeen self.old.end.part seen }
-        requires fresh { is_kept self.old.kept seen.cell.kind seen.cell.sender ≡ false }
-        ensures read { IsOk result →
-            IsRead self.new.end self.new.kept seen.cell.kind seen.cell.sender }
+    fn read(&mut self, cell: CellId, first: u64) -> Result<(), Spent>
+        requires seen { HasSeen self.old.end.part (record { cell = cell; first = first }) }
+        requires fresh { is_kept self.old.kept cell.kind cell.sender ≡ false }
+        ensures read { IsOk result → IsRead self.new.end self.new.kept cell.kind cell.sender }
         ensures still { IsStill self.old.end self.new.end }
         ensures shown { IsShown self.new.end.part }
         ensures budget { HasNoMore self.old.left self.new.left }
         ensures spent { IsErr result → self.old.left ≢ None }
     {
-        let read = read_packet(&mut self.end, &mut self.budget, seen);
+        let read = read_packet(&mut self.end, &mut self.budget, Seen { cell, first });
         // Read, so that the prover knows that the node is one of a state.
         let _node = self.end.node();
         // By a `match`: the toolchain builds no proof for a packet behind `?`.
@@ -148,8 +149,8 @@ impl StationPost {
             Ok(packet) => packet,
             Err(_) => return Err(Spent),
         };
-        let from = seen.cell.sender;
-        match seen.cell.kind {
+        let from = cell.sender;
+        match cell.kind {
             LaneKind::Answers => {
                 self.kept.answer_read(&packet);
                 Ok(())
@@ -211,7 +212,7 @@ impl Post for StationPost {
         let _node = self.end.node();
         match seen? {
             Some(seen) => {
-                self.read(seen)?;
+                self.read(seen.cell, seen.first)?;
                 Ok(true)
             }
             None => Ok(false),

@@ -1,9 +1,9 @@
 use Rattle.std.proofs.Common.{◌≡◌, ◌<◌, ℕ, List, [], Bool, not, nat_lt, true, sym, subst, ◌∙◌, arith}
 use Rattle.std.specs.Prelude.{slice_index}
-use Rattle.sci_core.specs.{declared.lane.LaneKind.{LaneKind, TheVariants.{Requests}}, Core.{lane_of}}
+use Rattle.sci_core.specs.{declared.lane.LaneKind.{LaneKind}, Core.{lane_of}}
 use Rattle.sci_lanes.specs.{Ends.{EndOf, nodes_in}, Shown.{me_of}, Telling.{state_of}}
 use Rattle.sci_station.specs.Posts.{KeptOf, Remembers, StationPostOf, owed}
-use Rattle.sci_station.proofs.Remembering.{asked_some, few_nodes, owes_some}
+use Rattle.sci_station.proofs.Remembering.{few_nodes, owes_some}
 use Rattle.sci_station.proofs.post.StationPost.knows_empty.Goals as goal
 
 none_owed : (end : EndOf) (unanswered : List ℕ) (kept : KeptOf) (from : ℕ) (owes : Bool) → Remembers end unanswered kept → from < nodes_in end.part
@@ -28,16 +28,3 @@ returns-in-Answers c = λ none.
     subst (λ (p : StationPostOf). lane_of (state_of p.end.part) c.args.kind c.args.from (me_of p.end.part) ≡ []) c.self.view_is
     (subst (λ (k : LaneKind). lane_of (state_of s.end.part) k c.args.from (me_of s.end.part) ≡ []) (sym c.in-Answers.is)
     (owes_some (state_of s.end.part) (me_of s.end.part) c.args.from nothing))
-
-pub returns-then-from-me : goal.returns-then-from-me
-returns-then-from-me c = λ none.
-    let s = c.self.inside in
-    let me = me_of s.end.part in
-    let there = subst (λ (p : StationPostOf). c.args.from < nodes_in p.end.part) (sym c.self.view_is) c.requires in
-    let owes = c.owes-then-from-me in
-    let nothing = none_owed s.end s.unanswered s.kept c.args.from owes.result c.self.invariant there owes.ensures none in
-    let own : c.args.from ≡ me = c.if-from-me.true ∙ c.me.ensures in
-    subst (λ (p : StationPostOf). lane_of (state_of p.end.part) c.args.kind c.args.from (me_of p.end.part) ≡ []) c.self.view_is
-    (subst (λ (k : LaneKind). lane_of (state_of s.end.part) k c.args.from me ≡ []) (sym c.in-Requests.is)
-    (subst (λ (n : ℕ). lane_of (state_of s.end.part) Requests n me ≡ []) (sym own)
-    (subst (λ (n : ℕ). lane_of (state_of s.end.part) Requests me n ≡ []) own (asked_some (state_of s.end.part) me c.args.from nothing))))
