@@ -115,9 +115,8 @@ impl StationPost {
         self.end.perform(line)
     }
 
-    /// Whether the lane of a kind from a node is empty, as far as is known without a look: none of the answers of a node that
-    /// owes none is under way. Requests to itself are looked for as those of others, since a test for the one node in the
-    /// circle is guessed wrong more often than it saves.
+    /// Whether the lane of a kind from a node is empty, as far as is known without a look: a lane of answers is, if the node
+    /// owes none. Nothing is known of lanes of requests.
     #[inline(always)]
     fn knows_empty(&self, kind: LaneKind, from: u8) -> bool
         requires { from < nodes_in self.now.end.part }
