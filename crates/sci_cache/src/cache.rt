@@ -277,12 +277,12 @@ impl Cache {
     /// Performs an operation, and gives its reply and the version that it read or made. Requires
     /// that there is such a line, and that the word's place is below eight. None, unchanged, if the line's
     /// state doesn't allow it.
-    pub fn perform(&mut self, op: Op) -> Option<(Reply, u64)>
-        requires line { op.line < length self.old.lines }
-        requires word { op.word < WORDS_PER_LINE }
+    pub fn perform(&mut self, op: &Op) -> Option<(Reply, u64)>
+        requires line { op.now.line < length self.old.lines }
+        requires word { op.now.word < WORDS_PER_LINE }
         ensures done { IfSome result
-            (λ answer. cache_performing self.old op ≡ Some (self.new, answer.0, answer.1)) }
-        ensures refused { result ≡ None → cache_performing self.old op ≡ None }
+            (λ answer. cache_performing self.old op.now ≡ Some (self.new, answer.0, answer.1)) }
+        ensures refused { result ≡ None → cache_performing self.old op.now ≡ None }
         ensures same { result ≡ None → self.new ≡ self.old }
         ensures lines { length self.new.lines ≡ length self.old.lines }
     {

@@ -109,13 +109,13 @@ impl CachedLine {
 
     /// Performs an operation: its reply, and the version that it read or made. None, unchanged, if the state doesn't
     /// allow it.
-    pub(crate) fn perform(&mut self, op: Op) -> Option<(Reply, u64)>
-        requires { op.word < WORDS_PER_LINE }
+    pub(crate) fn perform(&mut self, op: &Op) -> Option<(Reply, u64)>
+        requires { op.now.word < WORDS_PER_LINE }
         ensures done { IfSome result
-            (λ answer. performing self.old.state op
+            (λ answer. performing self.old.state op.now
             ≡ Some (record { reply = answer.0; version = answer.1; next = self.new.state })) }
         ensures asks { self.new.asks ≡ self.old.asks }
-        ensures refused { result ≡ None → performing self.old.state op ≡ None }
+        ensures refused { result ≡ None → performing self.old.state op.now ≡ None }
         ensures same { result ≡ None → self.new ≡ self.old }
     {
         self.held.perform(op)

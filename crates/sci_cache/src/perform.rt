@@ -11,9 +11,9 @@ use sci_words::{Op, Reply, Stamped};
 impl Held {
     /// Performs an operation, and gives its reply and the version that it read or made. None, unchanged, if the state
     /// doesn't allow it.
-    pub(crate) fn perform(&mut self, op: Op) -> Option<(Reply, u64)>
-        requires { op.word < WORDS_PER_LINE }
-        ensures case { performing (state_of self.old) op
+    pub(crate) fn perform(&mut self, op: &Op) -> Option<(Reply, u64)>
+        requires { op.now.word < WORDS_PER_LINE }
+        ensures case { performing (state_of self.old) op.now
             ≡ option_map
             (λ answer. record { reply = answer.0; version = answer.1; next = state_of self.new })
             result }
@@ -32,36 +32,36 @@ impl Held {
 }
 
 /// Performs a load of these contents. None for a maker.
-fn load(contents: &Stamped, op: Op) -> Option<(Reply, u64)>
-    requires { op.word < WORDS_PER_LINE }
+fn load(contents: &Stamped, op: &Op) -> Option<(Reply, u64)>
+    requires { op.now.word < WORDS_PER_LINE }
     ensures { result
-        ≡ (if is_maker op
+        ≡ (if is_maker op.now
         then None
-        else Some (reply_of contents.now.line op, contents.now.version)) }
+        else Some (reply_of contents.now.line op.now, contents.now.version)) }
 {
     if op.is_maker() {
         return None;
     }
-    let (_, reply) = (*contents).after(op);
+    let (_, reply) = (*contents).after(*op);
     Some((reply, contents.version))
 }
 
 /// Performs a maker on contents of which there is no other copy. None, unchanged, if their version is the greatest.
-fn make(contents: &mut Stamped, op: Op) -> Option<(Reply, u64)>
-    requires word { op.word < WORDS_PER_LINE }
-    requires maker { is_maker op ≡ true }
+fn make(contents: &mut Stamped, op: &Op) -> Option<(Reply, u64)>
+    requires word { op.now.word < WORDS_PER_LINE }
+    requires maker { is_maker op.now ≡ true }
     ensures answer { result
         ≡ (if nat_lt contents.old.version (2 ^ 64 - 1)
-        then Some (reply_of contents.old.line op, (after contents.old op).version)
+        then Some (reply_of contents.old.line op.now, (after contents.old op.now).version)
         else None) }
     ensures contents { contents.new
         ≡ (if nat_lt contents.old.version (2 ^ 64 - 1)
-        then after contents.old op
+        then after contents.old op.now
         else contents.old) }
 {
     if contents.version == u64::MAX {
         return None;
     }
-    let reply = contents.apply(op);
+    let reply = contents.apply(*op);
     Some((reply, contents.version))
 }

@@ -167,7 +167,7 @@ impl Node {
             return None;
         }
         let serial = self.issued;
-        self.pending.put(op.line, Some(Pending { serial, op }));
+        self.pending.put(op.line, Pending { serial, op });
         self.issued += 1;
         Some(serial)
     }
@@ -196,12 +196,9 @@ impl Node {
         ensures none { result ≡ None → node_performing self.old line ≡ None }
         ensures same { result ≡ None → self.new ≡ self.old }
     {
-        // Most tries are of an operation that waits for contents. These end here, before the operation is copied.
-        if self.lacks_contents(line) {
-            return None;
-        }
-        let pending = self.pending(line)?;
-        let (reply, version) = self.cache.perform(pending.op)?;
+        // Lent, since most tries are of an operation that waits for contents.
+        let pending = self.pending.get(line)?;
+        let (reply, version) = self.cache.perform(&pending.op)?;
         let entry = Entry {
             node: self.me,
             serial: pending.serial,
@@ -209,23 +206,10 @@ impl Node {
             reply,
             version,
         };
-        self.pending.put(line, None);
+        self.pending.clear(line);
         match self.log.push(entry) {
             Ok(()) => Some(entry),
             Err(_) => unreachable!(),
-        }
-    }
-
-    /// Whether none is pending on a line, or the line's state has no contents. Then none can be performed there.
-    fn lacks_contents(&self, line: u8) -> bool
-        ensures { result ≡ true → node_performing self.now line ≡ None }
-    {
-        match self.pending(line) {
-            Some(pending) => !self
-                .cache
-                .held(pending.op.line)
-                .is_of(LineKind::CouldGiveWay),
-            None => true,
         }
     }
 
@@ -233,7 +217,7 @@ impl Node {
     pub fn may_perform(&self, line: u8) -> bool
         ensures { result ≡ is_some (node_performing self.now line) }
     {
-        match self.pending(line) {
+        match self.pending.get(line) {
             Some(pending) => self.cache.held(pending.op.line).may_perform(&pending.op),
             None => false,
         }
@@ -429,7 +413,7 @@ impl Node {
     pub fn pending(&self, line: u8) -> Option<Pending>
         ensures { result ≡ pending_on self.now line }
     {
-        self.pending.get(line)
+        self.pending.get(line).copied()
     }
 
     /// The least line from a line on whose state is of a kind, or None if there is none. It looks at no other line.

@@ -34,7 +34,8 @@ impl Model for PendingOps {
 }
 
 impl PendingOps {
-    ghost use Rattle.std.specs.Prelude.{◌≡◌, ◌<◌, ◌≤◌, ℕ, None, IfOk, IfSome, IsSome, is_some, length, replicate, slice_index_or, slice_set};
+    ghost use Rattle.std.specs.Prelude.{◌≡◌, ◌<◌, ◌≤◌, ℕ, Some, None, IfOk, IfSome, IsSome, is_some, length};
+    ghost use Rattle.std.specs.Prelude.{option_copied, replicate, slice_index_or, slice_set};
     ghost use Rattle.sci_words.specs.declared.limits.TheConstants.{MAX_LINES};
     ghost use Rattle.sci_cache.specs.LineSet.{IsBefore, is_in};
 
@@ -66,22 +67,31 @@ impl PendingOps {
     }
 
     /// The operation that is pending on a line, or None if there is none.
-    pub(crate) fn get(&self, line: u8) -> Option<Pending>
-        ensures { result ≡ slice_index_or self.now line None }
+    pub(crate) fn get(&self, line: u8) -> Option<&Pending>
+        ensures { option_copied result ≡ slice_index_or self.now line None }
     {
         match self.ops.get(usize::from(line)) {
-            Some(pending) => *pending,
+            Some(pending) => pending.as_ref(),
             None => None,
         }
     }
 
-    /// Makes an operation pending on a line, or none. Requires that there is such a line.
-    pub(crate) fn put(&mut self, line: u8, pending: Option<Pending>)
+    /// Makes an operation pending on a line. Requires that there is such a line.
+    pub(crate) fn put(&mut self, line: u8, pending: Pending)
         requires { line < length self.old }
-        ensures { self.new ≡ slice_set self.old line pending }
+        ensures { self.new ≡ slice_set self.old line (Some pending) }
     {
-        self.ops[usize::from(line)] = pending;
-        self.lines.put(line, pending.is_some());
+        self.ops[usize::from(line)] = Some(pending);
+        self.lines.put(line, true);
+    }
+
+    /// Takes away what is pending on a line. Requires that there is such a line.
+    pub(crate) fn clear(&mut self, line: u8)
+        requires { line < length self.old }
+        ensures { self.new ≡ slice_set self.old line None }
+    {
+        self.ops[usize::from(line)] = None;
+        self.lines.put(line, false);
     }
 
     /// The lines on which an operation is pending.

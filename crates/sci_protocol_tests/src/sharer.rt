@@ -93,7 +93,7 @@ impl Sharer {
         if op.line >= self.lines || op.word >= 8 {
             return None;
         }
-        self.cache.perform(op)
+        self.cache.perform(&op)
     }
 
     /// The state of a line.
