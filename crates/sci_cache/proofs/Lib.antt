@@ -1,2 +1,3 @@
+pub mod KindSets
 pub mod LineSets
 pub mod Index

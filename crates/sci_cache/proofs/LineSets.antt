@@ -1,9 +1,9 @@
 -- The bits of a set of lines.
 use Rattle.std.proofs.Common.{◌≡◌, ◌≢◌, ◌<◌, ◌≤◌, ℕ, zero, suc, ◌+◌, ◌-◌, ◌/◌, ◌%◌, ◌*◌, bit_and, bit_or, w64, true, false, sym, ap, ◌∙◌, refl, arith, inl}
-use Rattle.std.proofs.{Common.{inr}, lemmas.{Bool.{cases_lt}, Nat.{shr-shr}}}
+use Rattle.std.proofs.{Common.{Bool, not, ◌||◌, inr}, lemmas.{Bool.{cases_lt}, Nat.{shr-shr}}}
 use Rattle.std.proofs.lemmas.Nat.Bits.{bit_at_above, bit_at_and, bit_at-lt, bit_at_clear_other, bit_at_clear_same, bit_at_set_other, bit_at_set_same}
-use Rattle.std.proofs.lemmas.Nat.Bits.{bit_at-trailing_zeros, bit_at-zero}
-use Rattle.std.specs.{Prelude.{◌==◌, ◌^◌, ◌&&◌, min}, Int.{bit_at, trailing_zeros}}
+use Rattle.std.proofs.lemmas.Nat.Bits.{bit_at_not, bit_at_or, bit_at-trailing_zeros, bit_at-zero}
+use Rattle.std.specs.{Prelude.{◌==◌, ◌^◌, ◌&&◌, min, max}, Int.{bit_at, trailing_zeros}}
 use Rattle.sci_cache.specs.LineSet.{is_in}
 
 is_one : (a b : ℕ) → a ≡ b → (a == 1) ≡ (b == 1)
@@ -67,3 +67,32 @@ none_between set from line some small le before =
     let there : from + (line - from) ≡ line = omega arith in
     ap (is_in set) (sym there) ∙ (sym (shifted set from (line - from))
     ∙ is_one _ 0 ((bit_at-trailing_zeros w64 (set / 2 ^ from) some small).2 (line - from) (omega arith)))
+
+-- ---- the lines that a set has and another hasn't, and those that either has
+
+first_bit : (m n : ℕ) → m < 2 → n < 2 → (min m (1 - n) == 1) ≡ ((m == 1) && not (n == 1))
+first_bit (suc (suc m)) n m-is n-is = absurd (omega arith)
+first_bit m (suc (suc n)) m-is n-is = absurd (omega arith)
+first_bit (suc zero) zero m-is n-is = refl
+first_bit (suc zero) (suc zero) m-is n-is = refl
+first_bit zero zero m-is n-is = refl
+first_bit zero (suc zero) m-is n-is = refl
+
+pub in_first : (a b line : ℕ) → a < 2 ^ 64 → b < 2 ^ 64 → is_in (bit_and a (18446744073709551615 - b)) line ≡ (is_in a line && not (is_in b line))
+in_first a b line a-small b-small = elim (cases_lt line 64) [
+  | inl below ↦ is_one _ _ (bit_at_and a (18446744073709551615 - b) line ∙ ap (min (bit_at a line)) (bit_at_not w64 b line b-small below))
+      ∙ first_bit (bit_at a line) (bit_at b line) (bit_at-lt a line) (bit_at-lt b line)
+  | inr above ↦ in_both a (18446744073709551615 - b) line ∙ (ap (λ (x : Bool). x && is_in (18446744073709551615 - b) line) (above_none a line a-small above)
+      ∙ sym (ap (λ (x : Bool). x && not (is_in b line)) (above_none a line a-small above)))
+]
+
+either_bit : (m n : ℕ) → m < 2 → n < 2 → (max m n == 1) ≡ ((m == 1) || (n == 1))
+either_bit (suc (suc m)) n m-is n-is = absurd (omega arith)
+either_bit m (suc (suc n)) m-is n-is = absurd (omega arith)
+either_bit (suc zero) zero m-is n-is = refl
+either_bit (suc zero) (suc zero) m-is n-is = refl
+either_bit zero zero m-is n-is = refl
+either_bit zero (suc zero) m-is n-is = refl
+
+pub in_either : (a b line : ℕ) → is_in (bit_or a b) line ≡ (is_in a line || is_in b line)
+in_either a b line = is_one _ _ (bit_at_or a b line) ∙ either_bit (bit_at a line) (bit_at b line) (bit_at-lt a line) (bit_at-lt b line)

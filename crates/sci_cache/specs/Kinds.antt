@@ -1,5 +1,5 @@
 -- What the state of a line is to the planner of a node's requests (the profile).
-use Rattle.std.specs.Prelude.{Bool, true, false, not, Some}
+use Rattle.std.specs.Prelude.{Bool, true, false, not, ◌||◌, Some}
 use Rattle.sci_cache.specs.State.{CacheState, Joining, FreshJoining, Head, FreshHead, Below, Purging, Claiming, Clearing, Returning, Rolling, Telling}
 use Rattle.sci_cache.specs.{State.{Fading}, declared.line_kind.LineKind.{LineKind}}
 use Rattle.sci_cache.specs.declared.line_kind.LineKind.TheVariants as kind
@@ -45,6 +45,10 @@ could_give_way (FreshHead f c) = true
 could_give_way (Below f b c) = true
 could_give_way _ = false
 
+-- on the way into a list, or giving way
+abbrev pub moves : CacheState → Bool
+moves state = joins state || gives_way state
+
 -- whether a state is of a kind
 abbrev pub is_of : LineKind → CacheState → Bool
 is_of kind.HasSharers state = has_sharers state
@@ -53,3 +57,4 @@ is_of kind.Joins state = joins state
 is_of kind.MustSend state = must_send state
 is_of kind.GivesWay state = gives_way state
 is_of kind.CouldGiveWay state = could_give_way state
+is_of kind.Moves state = moves state

@@ -1,5 +1,5 @@
 -- The sets that a cache keeps of its lines, one for each kind of state.
-use Rattle.std.specs.Prelude.{ℕ}
+use Rattle.std.specs.{Prelude.{ℕ}, Int.Bits.{bit_or}}
 use Rattle.sci_cache.specs.declared.line_kind.LineKind.{LineKind}
 use Rattle.sci_cache.specs.declared.line_kind.LineKind.TheVariants as kind
 
@@ -19,3 +19,4 @@ set_of kind.Joins sets = sets.joins
 set_of kind.MustSend sets = sets.must_send
 set_of kind.GivesWay sets = sets.gives_way
 set_of kind.CouldGiveWay sets = sets.could_give_way
+set_of kind.Moves sets = bit_or sets.joins sets.gives_way

@@ -149,23 +149,12 @@ impl Cache {
         }
     }
 
-    /// The least line of a kind that is in a set, from a line on, or None if there is none. It looks at no other line.
-    pub fn next_of_in(&self, kind: LineKind, lines: &LineSet, from: u8) -> Option<u8>
-        ensures order { IfSome result (λ line. from ≤ line) }
-        ensures here { IfSome result (λ line. line < length self.now.lines) }
-        ensures small { IfSome result (λ line. line < MAX_LINES) }
-        ensures found { IfSome result
-            (λ line. is_of kind (line_of self.now line).state ≡ true) }
-        ensures inside { IfSome result (λ line. is_in lines.now line ≡ true) }
-        ensures between { (line : ℕ) → from ≤ line → IsBefore line result →
-            (is_of kind (line_of self.now line).state && is_in lines.now line) ≡ false }
+    /// The lines of a kind.
+    pub fn lines_of(&self, kind: LineKind) -> LineSet
+        ensures { (line : ℕ) → line < length self.now.lines →
+            is_in result line ≡ is_of kind (line_of self.now line).state }
     {
-        let line = self.kinds.of(kind).intersection(lines).next_from(from)?;
-        if usize::from(line) < self.lines.len() {
-            Some(line)
-        } else {
-            None
-        }
+        self.kinds.of(kind)
     }
 
     /// The node that a request about a line goes to: the one that its state names, or that with the line's home.

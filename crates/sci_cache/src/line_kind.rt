@@ -17,6 +17,8 @@ pub enum LineKind {
     GivesWay,
     /// With an entry that could begin to give way.
     CouldGiveWay,
+    /// On the way into a list or giving way. No operation on such a line asks for anything.
+    Moves,
 }
 
 impl Held {
@@ -52,6 +54,10 @@ impl Held {
             LineKind::CouldGiveWay => {
                 matches!(self, Held::Head(_) | Held::FreshHead(_) | Held::Below(_))
             }
+            LineKind::Moves => !matches!(
+                self,
+                Held::Out(_) | Held::Asking(_) | Held::Head(_) | Held::FreshHead(_) | Held::Below(_)
+            ),
         }
     }
 }

@@ -84,16 +84,17 @@ impl LineKinds {
     }
 
     /// The set of the lines of a kind.
-    pub(crate) fn of(&self, kind: LineKind) -> &LineSet
-        ensures { result.now ≡ set_of kind self.now }
+    pub(crate) fn of(&self, kind: LineKind) -> LineSet
+        ensures { result ≡ set_of kind self.now }
     {
         match kind {
-            LineKind::HasSharers => &self.has_sharers,
-            LineKind::HasFreshSharers => &self.has_fresh_sharers,
-            LineKind::Joins => &self.joins,
-            LineKind::MustSend => &self.must_send,
-            LineKind::GivesWay => &self.gives_way,
-            LineKind::CouldGiveWay => &self.could_give_way,
+            LineKind::HasSharers => self.has_sharers.copy(),
+            LineKind::HasFreshSharers => self.has_fresh_sharers.copy(),
+            LineKind::Joins => self.joins.copy(),
+            LineKind::MustSend => self.must_send.copy(),
+            LineKind::GivesWay => self.gives_way.copy(),
+            LineKind::CouldGiveWay => self.could_give_way.copy(),
+            LineKind::Moves => self.joins.union(&self.gives_way),
         }
     }
 }

@@ -18,7 +18,7 @@ impl Model for LineSet {
 }
 
 impl LineSet {
-    ghost use Rattle.std.specs.Prelude.{◌≡◌, ◌≢◌, ◌<◌, ◌≤◌, ◌&&◌, ℕ, true, false, None, IfSome};
+    ghost use Rattle.std.specs.{Prelude.{◌≡◌, ◌≢◌, ◌<◌, ◌≤◌, ◌&&◌, ℕ, true, false, not, None, IfSome}, Int.Bits.{bit_or}};
     ghost use Rattle.sci_words.specs.declared.limits.TheConstants.{MAX_LINES};
     ghost use Rattle.sci_cache.specs.LineSet.{IsBefore, is_in};
 
@@ -47,6 +47,24 @@ impl LineSet {
             self.bits |= bit;
         } else {
             self.bits &= !bit;
+        }
+    }
+
+    /// The lines that are in this set, in another, or in both.
+    pub fn union(&self, other: &LineSet) -> LineSet
+        ensures { result ≡ bit_or self.now other.now }
+    {
+        LineSet {
+            bits: self.bits | other.bits,
+        }
+    }
+
+    /// The lines that are in this set and not in another.
+    pub fn difference(&self, other: &LineSet) -> LineSet
+        ensures { (line : ℕ) → is_in result line ≡ (is_in self.now line && not (is_in other.now line)) }
+    {
+        LineSet {
+            bits: self.bits & !other.bits,
         }
     }
 

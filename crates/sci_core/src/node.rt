@@ -71,7 +71,7 @@ fn read_words(act: Act)
 
 impl Node {
     ghost use Rattle.std.specs.Prelude.{◌≡◌, ◌≢◌, ◌<◌, ◌≤◌, ◌%◌, ◌&&◌, ℕ, length, Some, None, Ok, Err, true, false, IfOk, IfSome, IsErr, IsSome};
-    ghost use Rattle.std.specs.Prelude.{MatchOption, MatchBool, is_some, IsTrue, option_map, option_copied};
+    ghost use Rattle.std.specs.Prelude.{MatchOption, MatchBool, is_some, not, IsTrue, option_map, option_copied};
     ghost use Rattle.sci_words.specs.declared.limits.TheConstants.{MAX_LINES, MAX_OPERATIONS};
     ghost use Rattle.sci_core.specs.{Size.{size_of}, Taking.{IsTakable, node_taking}, Work.{IsIssued, IsLogged}};
     ghost use Rattle.sci_core.specs.Node.{IsAtRest, NodeOf, opening_node, lines_of, home_of, pending_on, IsForNode, IsServable, node_issuing};
@@ -454,7 +454,23 @@ impl Node {
             (is_some (pending_on self.now line) && is_of kind (line_of self.now.cache line).state)
             ≡ false }
     {
-        self.cache.next_of_in(kind, self.pending.lines(), from)
+        self.pending.next_in(&self.cache.lines_of(kind), from)
+    }
+
+    /// The least line from a line on with an operation pending whose state isn't of a kind, or None if there is none. It
+    /// looks at no other line.
+    pub fn next_pending_not_of(&self, kind: LineKind, from: u8) -> Option<u8>
+        ensures order { IfSome result (λ line. from ≤ line) }
+        ensures here { IfSome result (λ line. line < lines_of self.now) }
+        ensures small { IfSome result (λ line. line < MAX_LINES) }
+        ensures found { IfSome result
+            (λ line. is_of kind (line_of self.now.cache line).state ≡ false) }
+        ensures pending { IfSome result (λ line. IsSome (pending_on self.now line)) }
+        ensures between { (line : ℕ) → from ≤ line → IsBefore line result →
+            (is_some (pending_on self.now line)
+            && not (is_of kind (line_of self.now.cache line).state)) ≡ false }
+    {
+        self.pending.next_outside(&self.cache.lines_of(kind), from)
     }
 
     /// The answer that waits to be sent, if one does.

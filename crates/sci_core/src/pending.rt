@@ -34,7 +34,7 @@ impl Model for PendingOps {
 }
 
 impl PendingOps {
-    ghost use Rattle.std.specs.Prelude.{◌≡◌, ◌<◌, ◌≤◌, ℕ, Some, None, IfOk, IfSome, IsSome, is_some, length};
+    ghost use Rattle.std.specs.Prelude.{◌≡◌, ◌<◌, ◌≤◌, ◌&&◌, ℕ, true, false, not, Some, None, IfOk, IfSome, IsSome, is_some, length};
     ghost use Rattle.std.specs.Prelude.{option_copied, replicate, slice_index_or, slice_set};
     ghost use Rattle.sci_words.specs.declared.limits.TheConstants.{MAX_LINES};
     ghost use Rattle.sci_cache.specs.LineSet.{IsBefore, is_in};
@@ -94,12 +94,40 @@ impl PendingOps {
         self.lines.put(line, false);
     }
 
-    /// The lines on which an operation is pending.
-    pub(crate) fn lines(&self) -> &LineSet
-        ensures { (line : ℕ) → line < length self.now →
-            is_in result.now line ≡ is_some (slice_index_or self.now line None) }
+    /// The least line of a set from a line on with an operation pending, or None if there is none.
+    pub(crate) fn next_in(&self, set: &LineSet, from: u8) -> Option<u8>
+        ensures order { IfSome result (λ line. from ≤ line) }
+        ensures here { IfSome result (λ line. line < length self.now) }
+        ensures small { IfSome result (λ line. line < MAX_LINES) }
+        ensures inside { IfSome result (λ line. is_in set.now line ≡ true) }
+        ensures found { IfSome result (λ line. IsSome (slice_index_or self.now line None)) }
+        ensures between { (line : ℕ) → from ≤ line → IsBefore line result →
+            (is_some (slice_index_or self.now line None) && is_in set.now line) ≡ false }
     {
-        &self.lines
+        let line = self.lines.intersection(set).next_from(from)?;
+        if usize::from(line) < self.ops.len() {
+            Some(line)
+        } else {
+            None
+        }
+    }
+
+    /// The least line outside a set from a line on with an operation pending, or None if there is none.
+    pub(crate) fn next_outside(&self, set: &LineSet, from: u8) -> Option<u8>
+        ensures order { IfSome result (λ line. from ≤ line) }
+        ensures here { IfSome result (λ line. line < length self.now) }
+        ensures small { IfSome result (λ line. line < MAX_LINES) }
+        ensures outside { IfSome result (λ line. is_in set.now line ≡ false) }
+        ensures found { IfSome result (λ line. IsSome (slice_index_or self.now line None)) }
+        ensures between { (line : ℕ) → from ≤ line → IsBefore line result →
+            (is_some (slice_index_or self.now line None) && not (is_in set.now line)) ≡ false }
+    {
+        let line = self.lines.difference(set).next_from(from)?;
+        if usize::from(line) < self.ops.len() {
+            Some(line)
+        } else {
+            None
+        }
     }
 
     /// The least line from a line on with an operation pending, or None if there is none.

@@ -1,6 +1,8 @@
 -- What the walks over a node's lines compute.
-use Rattle.std.specs.Prelude.{◌≡◌, ◌<◌, ℕ, nat_lt, Bool, true, Option, Some, None}
-use Rattle.sci_cache.specs.{declared.line_kind.LineKind.{LineKind}, State.{CacheState}, Kinds.{is_of}}
+use Rattle.std.specs.Prelude.{◌≡◌, ◌<◌, ℕ, nat_lt, Bool, true, not, Option, Some, None}
+use Rattle.sci_cache.specs.{State.{CacheState}, Kinds.{is_of}}
+use Rattle.sci_policy.specs.declared.lines.Among.{Among}
+use Rattle.sci_policy.specs.declared.lines.Among.TheVariants as among
 
 -- each answer of a closure, at a line below a bound, is this test's
 abbrev pub IsTest : ℕ → (ℕ → Bool → Type 0) → (ℕ → Bool) → Type 0
@@ -11,7 +13,8 @@ abbrev pub is_older_than : ℕ → Option (ℕ × ℕ) → Bool
 is_older_than serial None = true
 is_older_than serial (Some found) = nat_lt serial found.1
 
--- a state is of a kind, if one is named
-abbrev pub is_of_named : Option LineKind → CacheState → Bool
-is_of_named None state = true
-is_of_named (Some kind) state = is_of kind state
+-- a line with this state is among these
+abbrev pub is_among : Among → CacheState → Bool
+is_among among.All state = true
+is_among (among.Of kind) state = is_of kind state
+is_among (among.NotOf kind) state = not (is_of kind state)

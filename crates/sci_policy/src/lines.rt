@@ -7,12 +7,23 @@ ghost use Rattle.sci_cache.specs.Kinds.{has_fresh_sharers as has_fresh_sharers_i
 ghost use Rattle.sci_policy.specs.Policy.{awaits_home as awaits_home_in, is_busy_now as is_busy_now_in};
 ghost use Rattle.sci_policy.specs.Lines.{can_drain as can_drain_in, has_maker as has_maker_on, has_pending as has_pending_on, is_head as is_head_in};
 ghost use Rattle.sci_policy.specs.Lines.{least, oldest as oldest_with, own_ask as own_ask_in, state_on};
-ghost use Rattle.sci_policy.specs.Scan.{IsTest, is_of_named, is_older_than};
+ghost use Rattle.sci_policy.specs.Scan.{IsTest, is_among, is_older_than};
 ghost use Rattle.sci_core.specs.Node.{lines_of};
 
 use sci_cache::{Held, LineKind};
 use sci_core::Node;
 use sci_words::AskKind;
+
+/// Some of the lines with an operation pending.
+#[derive(Clone, Copy)]
+pub(crate) enum Among {
+    /// All of them.
+    All,
+    /// Those of a kind.
+    Of(LineKind),
+    /// Those that aren't of a kind.
+    NotOf(LineKind),
+}
 
 /// The state of a line, or None if there is no such line.
 pub(crate) fn held_on(node: &Node, line: u8) -> Option<&Held>
@@ -140,17 +151,17 @@ pub(crate) fn least_with<F: Fn(u8) -> bool>(node: &Node, kind: LineKind, test: F
     None
 }
 
-/// Of the lines with an operation pending, of a kind if one is named, and of which something is true, the one whose
-/// operation is the oldest. It looks at no other line.
-pub(crate) fn oldest<F: Fn(u8) -> bool>(node: &Node, kind: Option<LineKind>, test: F) -> Option<u8>
+/// Among lines with an operation pending, of those of which something is true, the one whose operation is the oldest. It
+/// looks at no other line.
+pub(crate) fn oldest<F: Fn(u8) -> bool>(node: &Node, among: Among, test: F) -> Option<u8>
     requires { (line : ℕ) → line < lines_of node.now → F.pre test line }
     ensures { (tested : ℕ → Bool) → IsTest (lines_of node.now) (F.post test) tested →
         result ≡ oldest_with node.now
-        (λ line. is_of_named kind (state_on node.now line) && tested line) }
+        (λ line. is_among among (state_on node.now line) && tested line) }
 {
     let mut found = None;
     let mut from = 0;
-    'pending: while let Some(line) = next_pending(node, kind, from) {
+    'pending: while let Some(line) = next_pending(node, among, from) {
         from = line + 1;
         let Some(pending) = node.pending(line) else {
             continue;
@@ -162,19 +173,20 @@ pub(crate) fn oldest<F: Fn(u8) -> bool>(node: &Node, kind: Option<LineKind>, tes
     found.map(|(line, _)| line)
 }
 
-/// The least line from a line on with an operation pending, of a kind if one is named, or None if there is none.
-fn next_pending(node: &Node, kind: Option<LineKind>, from: u8) -> Option<u8>
+/// The least line from a line on among lines with an operation pending, or None if there is none.
+fn next_pending(node: &Node, among: Among, from: u8) -> Option<u8>
     ensures order { IfSome result (λ line. from ≤ line) }
     ensures here { IfSome result (λ line. line < lines_of node.now) }
     ensures small { IfSome result (λ line. line < MAX_LINES) }
     ensures found { IfSome result
-        (λ line. is_of_named kind (state_on node.now line) ≡ true) }
+        (λ line. is_among among (state_on node.now line) ≡ true) }
     ensures between { (line : ℕ) → from ≤ line → IsBefore line result →
-        (has_pending_on node.now line && is_of_named kind (state_on node.now line)) ≡ false }
+        (has_pending_on node.now line && is_among among (state_on node.now line)) ≡ false }
 {
-    match kind {
-        Some(kind) => node.next_pending_of(kind, from),
-        None => node.next_pending(from),
+    match among {
+        Among::All => node.next_pending(from),
+        Among::Of(kind) => node.next_pending_of(kind, from),
+        Among::NotOf(kind) => node.next_pending_not_of(kind, from),
     }
 }
 

@@ -1,14 +1,14 @@
 //! The rules: what a node wants to do for its own lines and operations.
 
 ghost use Rattle.std.specs.Prelude.{◌≡◌, ℕ, true, None, is_some};
-ghost use Rattle.sci_policy.specs.{Lines.{state_on}, Scan.{is_of_named}};
+ghost use Rattle.sci_policy.specs.{Lines.{state_on}, Scan.{is_among}};
 ghost use Rattle.sci_policy.specs.Policy.{ask_of as ask_of_line, operation_asks as asked_by_operation, operation_wanted as operation_wanted_by};
 ghost use Rattle.sci_policy.specs.Policy.{due_wanted as due_wanted_by, perform_wanted as perform_wanted_by, purge_wanted as purge_wanted_by};
 ghost use Rattle.sci_policy.specs.Policy.{send_wanted as send_wanted_by, ruled as ruled_by, slot_wanted as slot_wanted_by};
 ghost use Rattle.sci_policy.specs.Policy.{contents_wanted as contents_wanted_by};
 
 use crate::lines::{
-    has_maker, has_pending, held_on, is_out, least_of, least_with, oldest, own_ask,
+    Among, has_maker, has_pending, held_on, is_out, least_of, least_with, oldest, own_ask,
 };
 use crate::policy::Policy;
 use crate::want::Want;
@@ -21,7 +21,7 @@ pub(crate) fn perform_wanted(node: &Node) -> Option<Want>
     ensures { result ≡ perform_wanted_by node.now }
 {
     node.performs_on_lines_with_contents();
-    let line = oldest(node, Some(LineKind::CouldGiveWay), |line| {
+    let line = oldest(node, Among::Of(LineKind::CouldGiveWay), |line| {
         node.may_perform(line)
     });
     line.map(|line| Want::Perform(line))
@@ -86,7 +86,7 @@ fn slot_wanted(node: &Node) -> Option<Want>
     if node.has_slot() || least_of(node, LineKind::GivesWay).is_some() {
         return None;
     }
-    let line = oldest(node, None, |_line| true)?;
+    let line = oldest(node, Among::All, |_line| true)?;
     if !is_out(node, line) {
         return None;
     }
@@ -98,22 +98,21 @@ fn slot_wanted(node: &Node) -> Option<Want>
 fn contents_wanted(node: &Node) -> Option<Want>
     ensures { result ≡ contents_wanted_by node.now }
 {
-    let line = oldest(node, kind_that_asks(node), |line| {
+    let line = oldest(node, lines_that_ask(node), |line| {
         operation_asks(node, line).is_some()
     })?;
     operation_asks(node, line)
 }
 
-/// The kind of the lines whose operations can ask for something, or None if lines of no kind can, too. With no slot free a
-/// line without an entry asks for nothing.
-fn kind_that_asks(node: &Node) -> Option<LineKind>
+/// The lines whose operations can ask for something. With no slot free a line without an entry asks for nothing.
+fn lines_that_ask(node: &Node) -> Among
     ensures { (line : ℕ) → is_some (asked_by_operation node.now line) ≡ true →
-        is_of_named result (state_on node.now line) ≡ true }
+        is_among result (state_on node.now line) ≡ true }
 {
     if node.has_slot() {
-        None
+        Among::NotOf(LineKind::Moves)
     } else {
-        Some(LineKind::CouldGiveWay)
+        Among::Of(LineKind::CouldGiveWay)
     }
 }
 
