@@ -8,7 +8,7 @@ use sci_core::{LaneKind, node_of};
 use sci_history::{Last, Logs};
 use sci_lanes::{CellId, FinishFault, LaneEnd, Lanes};
 use sci_packets::{Body, Packet};
-use sci_station::{Budget, read_packet, see, send};
+use sci_station::{Budget, Seen, read_packet, see, send};
 use sci_words::{AskKind, Event, Extent, Op};
 use std::alloc::{AllocError, Global};
 use std::marker::Model;
@@ -151,11 +151,11 @@ fn receive(end: &mut LaneEnd, cell: CellId) -> Option<Packet>
     ensures still { IsStill end.old end.new }
 {
     let mut budget = Budget { left: None };
-    let seen = match see(end, &mut budget, cell.kind, cell.sender) {
-        Ok(Some(seen)) => seen,
+    let first = match see(end, &mut budget, cell.kind, cell.sender) {
+        Ok(Some(first)) => first,
         _ => return None,
     };
-    match read_packet(end, &mut budget, seen) {
+    match read_packet(end, &mut budget, Seen { cell, first }) {
         Ok(packet) => Some(packet),
         Err(_) => None,
     }

@@ -10,7 +10,8 @@ use Rattle.sci_lanes.specs.Ends.{EndOf, IsNextToSend, IsNextToTake, IsPlaceOf, f
 use Rattle.sci_lanes.specs.Cells.{cell_place, lane_number}
 use Rattle.sci_words.specs.declared.event.Event.{Event}
 use Rattle.sci_core.specs.Node.{NodeOf}
-use Rattle.sci_station.specs.Ends.{IsSameEnd, IsStill, LeavesOthers}
+use Rattle.sci_core.specs.declared.lane.LaneKind.{LaneKind}
+use Rattle.sci_station.specs.Ends.{HasSeen, IsSameEnd, IsStill, LeavesOthers, SeesFirst}
 use Rattle.sci_history.proofs.Order.{all-append}
 
 pub same_itself : (end : EndOf) → IsSameEnd end end
@@ -92,6 +93,13 @@ look_still end new cell word seen is =
 
 pub next_same : (part : Part) (a b : CellId) → IsNextToTake part a → IsNextToTake part b → a.kind ≡ b.kind → a.sender ≡ b.sender → a ≡ b
 next_same part a b one two kind sender = grind arith
+
+-- the next cell to take from is the one in which the packet was seen
+pub seen_there : (part : Part) (kind : LaneKind) (from first : ℕ) (cell : CellId) → SeesFirst part kind from first → IsNextToTake part cell
+    → (cell.kind ≡ kind) × (cell.sender ≡ from) → HasSeen part (record { cell = cell; first = first })
+seen_there part kind from first cell sees next is =
+    let same = next_same part cell sees.cell next sees.seen.next (is.0 ∙ sym sees.kind_is) (is.1 ∙ sym sees.sender_is) in
+    subst (λ (k : CellId). HasSeen part (record { cell = k; first = first })) (sym same) sees.seen
 
 -- ---- other lanes
 

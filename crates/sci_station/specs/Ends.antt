@@ -37,6 +37,13 @@ pub record HasSeen (part : Part) (seen : Seen) : Type 0 where
   pub next : IsNextToTake part seen.cell
   pub found : (inbound_at part (lane_at_cell part seen.cell)).found ≡ seen.first ∷ []
 
+-- the same in the next cell of the lane of a kind from a node
+pub record SeesFirst (part : Part) (kind : LaneKind) (from first : ℕ) : Type 0 where
+  pub cell : CellId
+  pub kind_is : cell.kind ≡ kind
+  pub sender_is : cell.sender ≡ from
+  pub seen : HasSeen part (record { cell = cell; first = first })
+
 -- all words of this packet were found in a cell, and no more
 pub record HasRead (part : Part) (cell : CellId) (packet : Packet) : Type 0 where
   pub shown : IsShown part

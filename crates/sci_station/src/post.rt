@@ -7,7 +7,7 @@ use crate::sending::{send, target_of};
 use crate::unanswered::Unanswered;
 use sci_core::{LaneKind, Node};
 use sci_history::Entry;
-use sci_lanes::{CellId, HasEnd, LaneEnd};
+use sci_lanes::{HasEnd, LaneEnd};
 use sci_packets::Packet;
 use sci_turn::Post;
 use sci_words::{Event, Op};
@@ -53,7 +53,7 @@ impl HasEnd for StationPost {
 
 impl StationPost {
     ghost use Rattle.std.specs.Prelude.{◌≡◌, ◌≢◌, ◌<◌, [], true, false, None, IfSome, IsErr, IsOk};
-    ghost use Rattle.sci_station.specs.{Budgets.{HasNoMore}, Ends.{HasSeen, IsStill}, Posts.{IsRead, is_kept, post_of}};
+    ghost use Rattle.sci_station.specs.{Budgets.{HasNoMore}, Ends.{IsStill, SeesFirst}, Posts.{IsRead, is_kept, post_of}};
     ghost use Rattle.sci_turn.specs.Posts.{lane_to};
     ghost use Rattle.sci_core.specs.Node.{node_issuing, node_performing};
     ghost use Rattle.sci_lanes.specs.{Ends.{HasIssued, HasPerformed, nodes_in}, Telling.{IsSameNode, IsShown}};
@@ -128,18 +128,19 @@ impl StationPost {
         }
     }
 
-    /// Reads the packet whose first word was seen in a cell. A request of another node is kept from then on, until it is taken.
-    /// Cell and word come apart, in registers: as one value, each look would clear memory for it.
+    /// Reads the packet whose first word was seen in a lane. A request of another node is kept from then on, until it is taken.
     #[inline(never)]
-    fn read(&mut self, cell: CellId, first: u64) -> Result<(), Spent>
-        requires seen { HasSeen self.old.end.part (record { cell = cell; first = first }) }
-        requires fresh { is_kept self.old.kept cell.kind cell.sender ≡ false }
-        ensures read { IsOk result → IsRead self.new.end self.new.kept cell.kind cell.sender }
+    fn read(&mut self, kind: LaneKind, from: u8, first: u64) -> Result<(), Spent>
+        requires seen { SeesFirst self.old.end.part kind from first }
+        requires fresh { is_kept self.old.kept kind from ≡ false }
+        ensures read { IsOk result → IsRead self.new.end self.new.kept kind from }
         ensures still { IsStill self.old.end self.new.end }
         ensures shown { IsShown self.new.end.part }
         ensures budget { HasNoMore self.old.left self.new.left }
         ensures spent { IsErr result → self.old.left ≢ None }
     {
+        // Here, not where it was seen: a look for which nothing has come needs no cell.
+        let cell = self.end.next_to_take(kind, from);
         let read = read_packet(&mut self.end, &mut self.budget, Seen { cell, first });
         // Read, so that the prover knows that the node is one of a state.
         let _node = self.end.node();
@@ -148,8 +149,7 @@ impl StationPost {
             Ok(packet) => packet,
             Err(_) => return Err(Spent),
         };
-        let from = cell.sender;
-        match cell.kind {
+        match kind {
             LaneKind::Answers => {
                 self.kept.answer_read(&packet);
                 Ok(())
@@ -210,8 +210,8 @@ impl Post for StationPost {
         // Read, so that the prover knows that the node is one of a state.
         let _node = self.end.node();
         match seen? {
-            Some(seen) => {
-                self.read(seen.cell, seen.first)?;
+            Some(first) => {
+                self.read(kind, from, first)?;
                 Ok(true)
             }
             None => Ok(false),

@@ -4,7 +4,7 @@ ghost use Rattle.std.specs.Prelude.{◌≡◌, ◌≢◌, ◌<◌, ◌≤◌, �
 ghost use Rattle.sci_core.specs.Core.{lane_of, lane_place};
 ghost use Rattle.sci_lanes.specs.{Shown.{inbound_at, me_of}, Telling.{IsShown, state_of}};
 ghost use Rattle.sci_lanes.specs.Ends.{IsNextToTake, lane_at_cell, nodes_in};
-ghost use Rattle.sci_station.specs.{Budgets.{HasNoMore}, Ends.{HasRead, HasSeen, IsStill, LeavesOthers}};
+ghost use Rattle.sci_station.specs.{Budgets.{HasNoMore}, Ends.{HasRead, HasSeen, IsStill, LeavesOthers, SeesFirst}};
 
 use crate::budget::{Budget, Spent};
 use crate::sending::PACKET_WORDS;
@@ -21,18 +21,16 @@ pub struct Seen {
     pub first: u64,
 }
 
-/// Looks at the next cell of the lane of a kind from a node to this one. None if no packet is there: then the lane is empty.
-/// Requires that there is such a node.
+/// Looks at the next cell of the lane of a kind from a node to this one, and gives the first word of the packet that is
+/// there. None if no packet is: then the lane is empty. Requires that there is such a node.
 pub fn see(
     end: &mut LaneEnd,
     budget: &mut Budget,
     kind: LaneKind,
     from: u8,
-) -> Result<Option<Seen>, Spent>
+) -> Result<Option<u64>, Spent>
     requires { from < nodes_in end.old.part }
-    ensures seen { IfOk result (λ found. IfSome found (HasSeen end.new.part)) }
-    ensures kind { IfOk result (λ found. IfSome found (λ seen. seen.cell.kind ≡ kind)) }
-    ensures from { IfOk result (λ found. IfSome found (λ seen. seen.cell.sender ≡ from)) }
+    ensures seen { IfOk result (λ found. IfSome found (SeesFirst end.new.part kind from)) }
     ensures none { IfOk result (λ found. found ≡ None →
         lane_of (state_of end.new.part) kind from (me_of end.new.part) ≡ []) }
     ensures others { LeavesOthers (lane_place (nodes_in end.old.part) kind from (me_of end.old.part))
@@ -46,8 +44,7 @@ pub fn see(
     if first == 0 {
         return Ok(None);
     }
-    let cell = end.next_to_take(kind, from);
-    Ok(Some(Seen { cell, first }))
+    Ok(Some(first))
 }
 
 /// Reads the packet that was seen, all its words and no more. It stays in its cell.

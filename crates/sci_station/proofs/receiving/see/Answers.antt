@@ -1,9 +1,9 @@
-use Rattle.std.proofs.Common.{◌<◌, ℕ, ap, sym, subst, ◌∙◌}
-use Rattle.sci_core.specs.{Node.{NodeOf}, declared.lane.LaneKind.{LaneKind}, Core.{lane_place}}
-use Rattle.sci_lanes.specs.{declared.cell.CellId.{CellId}, Ends.{EndOf, LooksFor, lane_at_cell, nodes_in}}
+use Rattle.std.proofs.Common.{ℕ, ap, subst}
+use Rattle.sci_core.specs.{declared.lane.LaneKind.{LaneKind}, Core.{lane_place}}
+use Rattle.sci_lanes.specs.{Ends.{EndOf, LooksFor, lane_at_cell, nodes_in}}
 use Rattle.sci_lanes.specs.Shown.{me_of}
-use Rattle.sci_station.specs.Ends.{HasSeen, LeavesOthers}
-use Rattle.sci_station.proofs.{Cells.{looked_found}, StillEnds.{known_others, look_still, next_same, still_takes}}
+use Rattle.sci_station.specs.Ends.{LeavesOthers}
+use Rattle.sci_station.proofs.{Cells.{looked_found}, StillEnds.{known_others, look_still, still_takes}}
 use Rattle.sci_station.proofs.receiving.see.Goals as goal
 
 pub returns-then-first-eq0-clause-none : goal.returns-then-first-eq0-clause-none
@@ -27,12 +27,6 @@ pub returns-then-first-eq0-clause-still : goal.returns-then-first-eq0-clause-sti
 returns-then-first-eq0-clause-still c = let looked = c.look_for-first.ensures.looked in
     look_still c.args.end.now c.look_for-first.new.self looked.cell c.look_for-first.result looked.seen looked.looked
 
-pub next_to_take-cell-requires : goal.next_to_take-cell-requires
-next_to_take-cell-requires c =
-    let looked = c.look_for-first.ensures.looked in
-    let still = look_still c.args.end.now c.look_for-first.new.self looked.cell c.look_for-first.result looked.seen looked.looked in
-    subst (λ (n : NodeOf). c.args.from < n.cache.nodes) (sym still.node) c.requires
-
 pub returns-clause-seen : goal.returns-clause-seen
 returns-clause-seen c =
     let looked = c.look_for-first.ensures.looked in
@@ -40,15 +34,16 @@ returns-clause-seen c =
     let new = c.look_for-first.new.self in
     let first = c.look_for-first.result in
     let still = look_still end new looked.cell first looked.seen looked.looked in
-    let there = still_takes end new looked.cell still looked.next in
-    let cell = c.next_to_take-cell in
-    let same = next_same new.part cell.result looked.cell cell.ensures.next there (cell.ensures.cell.0 ∙ sym looked.kind_is)
-    (cell.ensures.cell.1 ∙ sym looked.sender_is) in
-    subst (λ (k : CellId). HasSeen new.part (record { cell = k; first = first })) (sym same) (record {
-      shown = c.look_for-first.ensures.shown;
-      next = there;
-      found = looked_found end new looked.cell first looked.seen c.look_for-first.ensures.shown looked.next looked.looked c.if-first-eq0.false;
-    })
+    record {
+      cell = looked.cell;
+      kind_is = looked.kind_is;
+      sender_is = looked.sender_is;
+      seen = record {
+        shown = c.look_for-first.ensures.shown;
+        next = still_takes end new looked.cell still looked.next;
+        found = looked_found end new looked.cell first looked.seen c.look_for-first.ensures.shown looked.next looked.looked c.if-first-eq0.false;
+      };
+    }
 
 pub returns-clause-still : goal.returns-clause-still
 returns-clause-still c = let looked = c.look_for-first.ensures.looked in

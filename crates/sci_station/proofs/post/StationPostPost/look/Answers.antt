@@ -1,9 +1,7 @@
-use Rattle.std.proofs.Common.{◌≡◌, ◌<◌, ℕ, refl, sym, ap, subst, ◌∙◌}
-use Rattle.sci_core.specs.declared.lane.LaneKind.{LaneKind}
+use Rattle.std.proofs.Common.{◌≡◌, ◌<◌, ℕ, sym, ap, subst, ◌∙◌}
 use Rattle.sci_lanes.specs.{Ends.{EndOf, nodes_in}, Telling.{IsShown, state_of}}
 use Rattle.sci_turn.specs.Posts.{IsStill as IsStillPost}
-use Rattle.sci_core.proofs.Basics.Options.{of_some}
-use Rattle.sci_station.specs.{declared.receiving.Seen.{Seen}, Posts.{IsRead, Remembers, StationPostOf, post_of}}
+use Rattle.sci_station.specs.{Posts.{IsRead, Remembers, StationPostOf, post_of}}
 use Rattle.sci_station.proofs.{StillEnds.{still_then as stills}, Posts.{post_nodes, still_post}}
 use Rattle.sci_station.proofs.Remembering.{apart_looked, remembers_still}
 use Rattle.sci_station.proofs.post.StationPostPost.look.Goals.{After-node-node, After-read}
@@ -60,8 +58,8 @@ invariant_of-self-in-Some c = looked (goal.at.invariant_of-self-in-Some c).After
 pub invariant_of-self-in-None : goal.invariant_of-self-in-None
 invariant_of-self-in-None c = looked (goal.at.invariant_of-self-in-None c).After-node-node
 
-pub returns-in_err-seen-clause-still : goal.returns-in_err-seen-clause-still
-returns-in_err-seen-clause-still c = still (goal.at.returns-in_err-seen-clause-still c).After-node-node
+pub returns-in_err-first-clause-still : goal.returns-in_err-first-clause-still
+returns-in_err-first-clause-still c = still (goal.at.returns-in_err-first-clause-still c).After-node-node
 
 pub returns-in-None-clause-still : goal.returns-in-None-clause-still
 returns-in-None-clause-still c = still (goal.at.returns-in-None-clause-still c).After-node-node
@@ -71,11 +69,3 @@ returns-in_err-read-in-Some-clause-still c = still_read (goal.at.returns-in_err-
 
 pub returns-in_ok-read-in-Some-clause-still : goal.returns-in_ok-read-in-Some-clause-still
 returns-in_ok-read-in-Some-clause-still c = still_read (goal.at.returns-in_ok-read-in-Some-clause-still c).After-read
-
-pub returns-in_ok-read-in-Some-clause-seen : goal.returns-in_ok-read-in-Some-clause-seen
-returns-in_ok-read-in-Some-clause-seen c = λ _.
-    let new = c.read.new.self in
-    let kind = of_some (λ (seen : Seen). seen.cell.kind ≡ c.args.kind) c.in_ok-seen.field-0 c.in-Some.seen c.in-Some.is c.in_ok-seen.ensures.kind in
-    let from = of_some (λ (seen : Seen). seen.cell.sender ≡ c.args.from) c.in_ok-seen.field-0 c.in-Some.seen c.in-Some.is c.in_ok-seen.ensures.from in
-    subst (λ (k : LaneKind). IsRead new.end new.kept k c.args.from) kind
-    (subst (λ (j : ℕ). IsRead new.end new.kept c.in-Some.seen.cell.kind j) from (c.in_ok-read-in-Some.ensures.read refl))
