@@ -129,6 +129,7 @@ impl StationPost {
     }
 
     /// Reads the packet whose first word was seen in a lane. A request of another node is kept from then on, until it is taken.
+    /// Out of line, so that a look that finds nothing is short.
     #[inline(never)]
     fn read(&mut self, kind: LaneKind, from: u8, first: u64) -> Result<(), Spent>
         requires seen { SeesFirst self.old.end.part kind from first }

@@ -122,7 +122,7 @@ fn accept<P: Post>(post: &mut P, progress: &mut Progress, from: u8) -> Result<bo
     Ok(true)
 }
 
-/// The answer that was seen is accepted.
+/// The answer that was seen is accepted. Out of line, so that a look that finds nothing is short.
 #[inline(never)]
 fn accept_seen<P: Post>(post: &mut P, progress: &mut Progress, from: u8) -> Result<(), P::Stop>
     requires from { from < nodes_in (P.post post.old) }
@@ -226,6 +226,7 @@ fn take<P: Post>(
 }
 
 /// The request that was seen is served or refused, and the answer sent if its lane has room. False if the policy keeps it.
+/// Out of line, so that a look that finds nothing is short.
 #[inline(never)]
 fn take_seen<P: Post>(
     post: &mut P,
