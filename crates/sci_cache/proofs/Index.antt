@@ -5,7 +5,7 @@ use Rattle.std.proofs.lemmas.List.{get_or-set_other, get_or-set_same, length-set
 use Rattle.std.specs.Prelude.{IfSome}
 use Rattle.sci_cache.specs.{declared.line_kind.LineKind.{LineKind}, State.{CacheState, Head, FreshHead, Below, is_out}}
 use Rattle.sci_cache.specs.{Performing.{Performed, performing}, Line.{LineState, untouched}, Cache.{slots_taken}}
-use Rattle.sci_cache.specs.{Index.{IsIndex}, Kinds.{is_of}, LineKinds.{KindSets, set_of}, LineSet.{is_in}}
+use Rattle.sci_cache.specs.{Index.{IsIndex}, Kinds.{is_of}, LineKinds.{KindSets, has_line}}
 use Rattle.sci_words.specs.declared.{stamped.Stamped.{Stamped}, operation.{Op.{Op}, Reply.{Reply}}}
 use Rattle.sci_words.specs.{Operation.{is_maker}, Stamped.{after, reply_of}}
 use Rattle.sci_cache.specs.declared.line_kind.LineKind.TheVariants as kind
@@ -16,8 +16,8 @@ weight line = cond {A = ℕ} (not (is_out line.state)) 1 0
 pub with_changed : (taken new : ℕ) (chosen next : KindSets) (lines : List LineState) (line : ℕ) (was part : LineState) → line < length lines
     → was ≡ get_or lines line untouched → IsIndex taken chosen lines
     → new + cond {A = ℕ} (not (is_out was.state)) 1 0 ≡ taken + cond {A = ℕ} (not (is_out part.state)) 1 0
-    → ((of : LineKind) → is_in (set_of of next) line ≡ is_of of part.state)
-    → ((of : LineKind) (other : ℕ) → other ≢ line → is_in (set_of of next) other ≡ is_in (set_of of chosen) other)
+    → ((of : LineKind) → has_line of next line ≡ is_of of part.state)
+    → ((of : LineKind) (other : ℕ) → other ≢ line → has_line of next other ≡ has_line of chosen other)
     → IsIndex new next (set lines line part)
 with_changed taken new chosen next lines line was part lt at has count here others = record {
   taken_is =
@@ -28,17 +28,17 @@ with_changed taken new chosen next lines line was part lt at has count here othe
       let old = has.taken_is in
       omega arith;
   few = let long = length-set lines line part in let few = has.few in omega arith;
-  each = λ of other below. each_of of other (let long = length-set lines line part in omega arith) (cases_eq other line);
+  each = λ of other. each_of of other (cases_eq other line);
 }
   where
-    each_of : (of : LineKind) (other : ℕ) → other < length lines → (other ≡ line) ⊎ (other ≢ line)
-        → is_in (set_of of next) other ≡ is_of of (get_or (set lines line part) other untouched).state
-    each_of of other below (inl same) =
-        ap (is_in (set_of of next)) same
+    each_of : (of : LineKind) (other : ℕ) → (other ≡ line) ⊎ (other ≢ line)
+        → has_line of next other ≡ is_of of (get_or (set lines line part) other untouched).state
+    each_of of other (inl same) =
+        ap (has_line of next) same
         ∙ (here of ∙ (ap (λ (l : LineState). is_of of l.state) (sym (get_or-set_same lines line part untouched lt))
         ∙ ap (λ (n : ℕ). is_of of (get_or (set lines line part) n untouched).state) (sym same)))
-    each_of of other below (inr ne) =
-        others of other ne ∙ (has.each of other below ∙ ap (λ (l : LineState). is_of of l.state) (sym (get_or-set_other lines line other part untouched ne)))
+    each_of of other (inr ne) =
+        others of other ne ∙ (has.each of other ∙ ap (λ (l : LineState). is_of of l.state) (sym (get_or-set_other lines line other part untouched ne)))
 
 -- ---- performing
 
@@ -92,5 +92,5 @@ with_performed taken kinds lines line was part op answer lt at has done same =
     let alike = performed_alike was part op answer done same in
     with_changed taken taken kinds kinds lines line was part lt at has
     (ap (λ (b : Bool). taken + cond {A = ℕ} (not b) 1 0) (sym alike.out))
-    (λ of. has.each of line lt ∙ (ap (λ (l : LineState). is_of of l.state) (sym at) ∙ sym (alike.kinds of)))
+    (λ of. has.each of line ∙ (ap (λ (l : LineState). is_of of l.state) (sym at) ∙ sym (alike.kinds of)))
     (λ of other ne. refl)

@@ -12,7 +12,7 @@ is_one a b e = ap (λ n. n == 1) e
 pub none_in : (line : ℕ) → is_in 0 line ≡ false
 none_in line = is_one _ 0 (bit_at-zero line)
 
-above_none : (set line : ℕ) → set < 2 ^ 64 → 64 ≤ line → is_in set line ≡ false
+pub above_none : (set line : ℕ) → set < 2 ^ 64 → 64 ≤ line → is_in set line ≡ false
 above_none set line small far = is_one _ 0 (bit_at_above set 64 line small far)
 
 -- ---- a line put in or taken out
@@ -60,6 +60,12 @@ none_so_far set from line small far le = above_none set line small (omega arith)
 
 pub first_in : (set from : ℕ) → 0 < set / 2 ^ from → set / 2 ^ from < 2 ^ 64 → is_in set (from + trailing_zeros w64 (set / 2 ^ from)) ≡ true
 first_in set from some small = sym (shifted set from _) ∙ is_one _ 1 (bit_at-trailing_zeros w64 (set / 2 ^ from) some small).1
+
+pub first_small : (set from : ℕ) → set < 2 ^ 64 → 0 < set / 2 ^ from → set / 2 ^ from < 2 ^ 64 → from + trailing_zeros w64 (set / 2 ^ from) < 64
+first_small set from small some low = elim (cases_lt (from + trailing_zeros w64 (set / 2 ^ from)) 64) [
+  | inl below ↦ below
+  | inr above ↦ absurd (let clash : true ≡ false = sym (first_in set from some low) ∙ above_none set _ small above in cc)
+]
 
 pub none_between : (set from line : ℕ) → 0 < set / 2 ^ from → set / 2 ^ from < 2 ^ 64 → from ≤ line → line < from + trailing_zeros w64 (set / 2 ^ from)
     → is_in set line ≡ false

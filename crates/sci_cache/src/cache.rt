@@ -62,7 +62,7 @@ impl Cache {
     ghost use Rattle.std.specs.Prelude.{replicate};
     ghost use Rattle.sci_words.specs.declared.limits.TheConstants.{MAX_LINES, WORDS_PER_LINE};
     ghost use Rattle.sci_cache.specs.{Serving.{IsForCache}, Line.{untouched}, Held.{state_of}, Kinds.{is_of}};
-    ghost use Rattle.sci_cache.specs.LineSet.{IsBefore, is_in};
+    ghost use Rattle.sci_cache.specs.LineSet.{is_in};
     ghost use Rattle.sci_cache.specs.Cache.{CacheOf, line_of, has_slot, letter_of, slots_taken, cache_asking, cache_serving, cache_accepting};
     ghost use Rattle.sci_cache.specs.Cache.{cache_performing, target_of};
 
@@ -104,7 +104,7 @@ impl Cache {
             extent: self.extent,
             lines,
             taken: self.taken,
-            kinds: self.kinds.copy(),
+            kinds: self.kinds,
         })
     }
 
@@ -131,28 +131,11 @@ impl Cache {
         self.taken
     }
 
-    /// The least line of a kind from a line on, or None if there is none. It looks at no other line.
-    pub fn next_of(&self, kind: LineKind, from: u8) -> Option<u8>
-        ensures order { IfSome result (λ line. from ≤ line) }
-        ensures here { IfSome result (λ line. line < length self.now.lines) }
-        ensures small { IfSome result (λ line. line < MAX_LINES) }
-        ensures found { IfSome result
-            (λ line. is_of kind (line_of self.now line).state ≡ true) }
-        ensures between { (line : ℕ) → from ≤ line → IsBefore line result →
-            is_of kind (line_of self.now line).state ≡ false }
-    {
-        let line = self.kinds.of(kind).next_from(from)?;
-        if usize::from(line) < self.lines.len() {
-            Some(line)
-        } else {
-            None
-        }
-    }
-
     /// The lines of a kind.
     pub fn lines_of(&self, kind: LineKind) -> LineSet
-        ensures { (line : ℕ) → line < length self.now.lines →
-            is_in result line ≡ is_of kind (line_of self.now line).state }
+        ensures each { (line : ℕ) → is_in result line ≡ is_of kind (line_of self.now line).state }
+        ensures here { (line : ℕ) → is_in result line ≡ true → line < length self.now.lines }
+        ensures small { (line : ℕ) → is_in result line ≡ true → line < MAX_LINES }
     {
         self.kinds.of(kind)
     }

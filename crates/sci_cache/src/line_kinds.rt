@@ -6,7 +6,7 @@ use crate::line_set::LineSet;
 use std::marker::Model;
 
 /// For each kind of state the set of the lines whose state is of that kind. Contracts see it as a record of sets.
-#[derive(Drop)]
+#[derive(Clone, Copy)]
 pub(crate) struct LineKinds {
     has_sharers: LineSet,
     has_fresh_sharers: LineSet,
@@ -29,17 +29,26 @@ impl Model for LineKinds {
       gives_way = kinds.gives_way;
       could_give_way = kinds.could_give_way;
     } };
+
+    ghost inverse = { λ sets. record {
+      has_sharers = sets.has_sharers;
+      has_fresh_sharers = sets.has_fresh_sharers;
+      joins = sets.joins;
+      must_send = sets.must_send;
+      gives_way = sets.gives_way;
+      could_give_way = sets.could_give_way;
+    } };
 }
 
 impl LineKinds {
     ghost use Rattle.std.specs.Prelude.{◌≡◌, ◌≢◌, ◌<◌, ℕ, false};
     ghost use Rattle.sci_words.specs.declared.limits.TheConstants.{MAX_LINES};
-    ghost use Rattle.sci_cache.specs.{Held.{state_of}, Kinds.{is_of}, LineKinds.{set_of}, LineSet.{is_in}};
+    ghost use Rattle.sci_cache.specs.{Held.{state_of}, Kinds.{is_of}, LineKinds.{has_line}, LineSet.{is_in}};
     ghost use Rattle.sci_cache.specs.declared.line_kind.LineKind.{LineKind};
 
     /// The kinds of no line.
     pub(crate) fn new() -> LineKinds
-        ensures { (kind : LineKind) (line : ℕ) → is_in (set_of kind result) line ≡ false }
+        ensures { (kind : LineKind) (line : ℕ) → has_line kind result line ≡ false }
     {
         LineKinds {
             has_sharers: LineSet::new(),
@@ -51,27 +60,13 @@ impl LineKinds {
         }
     }
 
-    /// The same kinds.
-    pub(crate) fn copy(&self) -> LineKinds
-        ensures { result ≡ self.now }
-    {
-        LineKinds {
-            has_sharers: self.has_sharers.copy(),
-            has_fresh_sharers: self.has_fresh_sharers.copy(),
-            joins: self.joins.copy(),
-            must_send: self.must_send.copy(),
-            gives_way: self.gives_way.copy(),
-            could_give_way: self.could_give_way.copy(),
-        }
-    }
-
     /// Notes the state that a line has now. Requires that a machine can have such a line.
     pub(crate) fn note(&mut self, line: u8, held: &Held)
         requires { line < MAX_LINES }
         ensures here { (kind : LineKind) →
-            is_in (set_of kind self.new) line ≡ is_of kind (state_of held.now) }
+            has_line kind self.new line ≡ is_of kind (state_of held.now) }
         ensures others { (kind : LineKind) (other : ℕ) → other ≢ line →
-            is_in (set_of kind self.new) other ≡ is_in (set_of kind self.old) other }
+            has_line kind self.new other ≡ has_line kind self.old other }
     {
         self.has_sharers.put(line, held.is_of(LineKind::HasSharers));
         self.has_fresh_sharers
@@ -85,16 +80,16 @@ impl LineKinds {
 
     /// The set of the lines of a kind.
     pub(crate) fn of(&self, kind: LineKind) -> LineSet
-        ensures { result ≡ set_of kind self.now }
+        ensures { (line : ℕ) → is_in result line ≡ has_line kind self.now line }
     {
         match kind {
-            LineKind::HasSharers => self.has_sharers.copy(),
-            LineKind::HasFreshSharers => self.has_fresh_sharers.copy(),
-            LineKind::Joins => self.joins.copy(),
-            LineKind::MustSend => self.must_send.copy(),
-            LineKind::GivesWay => self.gives_way.copy(),
-            LineKind::CouldGiveWay => self.could_give_way.copy(),
-            LineKind::Moves => self.joins.union(&self.gives_way),
+            LineKind::HasSharers => self.has_sharers,
+            LineKind::HasFreshSharers => self.has_fresh_sharers,
+            LineKind::Joins => self.joins,
+            LineKind::MustSend => self.must_send,
+            LineKind::GivesWay => self.gives_way,
+            LineKind::CouldGiveWay => self.could_give_way,
+            LineKind::Moves => self.joins.union(self.gives_way),
         }
     }
 }

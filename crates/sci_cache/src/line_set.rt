@@ -4,7 +4,7 @@ use sci_words::MAX_LINES;
 use std::marker::Model;
 
 /// A set of lines. Contracts see it as a number with a bit for each line.
-#[derive(Debug, Drop)]
+#[derive(Clone, Copy, Debug, PartialEq, Eq)]
 pub struct LineSet {
     bits: u64,
 }
@@ -15,10 +15,12 @@ impl Model for LineSet {
     ghost Value = { ℕ };
 
     ghost view = { λ set. set.bits };
+
+    ghost inverse = { λ bits. record { bits = bits } };
 }
 
 impl LineSet {
-    ghost use Rattle.std.specs.{Prelude.{◌≡◌, ◌≢◌, ◌<◌, ◌≤◌, ◌&&◌, ℕ, true, false, not, None, IfSome}, Int.Bits.{bit_or}};
+    ghost use Rattle.std.specs.Prelude.{◌≡◌, ◌≢◌, ◌<◌, ◌≤◌, ◌&&◌, ◌||◌, ℕ, true, false, not, None, IfSome};
     ghost use Rattle.sci_words.specs.declared.limits.TheConstants.{MAX_LINES};
     ghost use Rattle.sci_cache.specs.LineSet.{IsBefore, is_in};
 
@@ -29,11 +31,13 @@ impl LineSet {
         LineSet { bits: 0 }
     }
 
-    /// The same set.
-    pub fn copy(&self) -> LineSet
-        ensures { result ≡ self.now }
+    /// Whether a line is in the set.
+    pub fn contains(self, line: u8) -> bool
+        ensures inside { result ≡ is_in self line }
+        ensures small { result ≡ true → line < MAX_LINES }
     {
-        LineSet { bits: self.bits }
+        let bits = self.bits;
+        line < MAX_LINES && (bits >> line) & 1 == 1
     }
 
     /// Puts a line into the set or takes it out. Requires that a machine can have such a line.
@@ -51,8 +55,8 @@ impl LineSet {
     }
 
     /// The lines that are in this set, in another, or in both.
-    pub fn union(&self, other: &LineSet) -> LineSet
-        ensures { result ≡ bit_or self.now other.now }
+    pub fn union(self, other: LineSet) -> LineSet
+        ensures { (line : ℕ) → is_in result line ≡ (is_in self line || is_in other line) }
     {
         LineSet {
             bits: self.bits | other.bits,
@@ -60,8 +64,8 @@ impl LineSet {
     }
 
     /// The lines that are in this set and not in another.
-    pub fn difference(&self, other: &LineSet) -> LineSet
-        ensures { (line : ℕ) → is_in result line ≡ (is_in self.now line && not (is_in other.now line)) }
+    pub fn difference(self, other: LineSet) -> LineSet
+        ensures { (line : ℕ) → is_in result line ≡ (is_in self line && not (is_in other line)) }
     {
         LineSet {
             bits: self.bits & !other.bits,
@@ -69,8 +73,8 @@ impl LineSet {
     }
 
     /// The lines that are in this set and in another.
-    pub fn intersection(&self, other: &LineSet) -> LineSet
-        ensures { (line : ℕ) → is_in result line ≡ (is_in self.now line && is_in other.now line) }
+    pub fn intersection(self, other: LineSet) -> LineSet
+        ensures { (line : ℕ) → is_in result line ≡ (is_in self line && is_in other line) }
     {
         LineSet {
             bits: self.bits & other.bits,
@@ -78,11 +82,12 @@ impl LineSet {
     }
 
     /// The least line of the set from a line on, or None if there is none.
-    pub fn next_from(&self, from: u8) -> Option<u8>
+    pub fn next_from(self, from: u8) -> Option<u8>
         ensures order { IfSome result (λ line. from ≤ line) }
-        ensures found { IfSome result (λ line. is_in self.now line ≡ true) }
+        ensures small { IfSome result (λ line. line < MAX_LINES) }
+        ensures found { IfSome result (λ line. is_in self line ≡ true) }
         ensures between { (line : ℕ) → from ≤ line → IsBefore line result →
-            is_in self.now line ≡ false }
+            is_in self line ≡ false }
     {
         let bits = self.bits;
         if from >= MAX_LINES {

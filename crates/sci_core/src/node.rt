@@ -5,7 +5,7 @@ ghost use Rattle.sci_words.specs.Operation.{has_words};
 
 use crate::pending::{Pending, PendingOps};
 use crate::taking::Taking;
-use sci_cache::{Cache, Held, LineKind};
+use sci_cache::{Cache, Held, LineKind, LineSet};
 use sci_history::Entry;
 use sci_home::{Home, is_for_home};
 use sci_packets::{Body, Packet};
@@ -70,15 +70,15 @@ fn read_words(act: Act)
 }
 
 impl Node {
-    ghost use Rattle.std.specs.Prelude.{◌≡◌, ◌≢◌, ◌<◌, ◌≤◌, ◌%◌, ◌&&◌, ℕ, length, Some, None, Ok, Err, true, false, IfOk, IfSome, IsErr, IsSome};
-    ghost use Rattle.std.specs.Prelude.{MatchOption, MatchBool, is_some, not, IsTrue, option_map, option_copied};
+    ghost use Rattle.std.specs.Prelude.{◌≡◌, ◌≢◌, ◌<◌, ◌≤◌, ◌%◌, ℕ, length, Some, None, Ok, Err, true, false, IfOk, IfSome, IsErr, IsSome};
+    ghost use Rattle.std.specs.Prelude.{MatchOption, MatchBool, is_some, IsTrue, option_map, option_copied};
     ghost use Rattle.sci_words.specs.declared.limits.TheConstants.{MAX_LINES, MAX_OPERATIONS};
     ghost use Rattle.sci_core.specs.{Size.{size_of}, Taking.{IsTakable, node_taking}, Work.{IsIssued, IsLogged}};
     ghost use Rattle.sci_core.specs.Node.{IsAtRest, NodeOf, opening_node, lines_of, home_of, pending_on, IsForNode, IsServable, node_issuing};
     ghost use Rattle.sci_core.specs.Node.{node_performing, node_asking, node_serving, node_refusing, node_replying, node_accepting};
     ghost use Rattle.sci_core.specs.Node.{may_issue as may_issue_of, serving_at_home, serving_in_cache, answering};
     ghost use Rattle.sci_home.specs.Serving.{is_for_home, IsForHome};
-    ghost use Rattle.sci_cache.specs.{Held.{state_of}, LineSet.{IsBefore}, Kinds.{could_give_way, is_of}};
+    ghost use Rattle.sci_cache.specs.{Held.{state_of}, LineSet.{is_in}, Kinds.{could_give_way, is_of}};
     ghost use Rattle.sci_cache.specs.Cache.{has_slot, letter_of, line_of};
 
     /// The node with the number `me` in a machine of this size, whose processor may issue `limit` operations.
@@ -196,7 +196,7 @@ impl Node {
         ensures none { result ≡ None → node_performing self.old line ≡ None }
         ensures same { result ≡ None → self.new ≡ self.old }
     {
-        // Lent, since most tries are of an operation that waits for contents.
+        // Lent: where nodes contend for a line, most tries are of an operation that waits for contents.
         let pending = self.pending.get(line)?;
         let (reply, version) = self.cache.perform(&pending.op)?;
         let entry = Entry {
@@ -416,61 +416,22 @@ impl Node {
         self.pending.get(line).copied()
     }
 
-    /// The least line from a line on whose state is of a kind, or None if there is none. It looks at no other line.
-    pub fn next_of(&self, kind: LineKind, from: u8) -> Option<u8>
-        ensures order { IfSome result (λ line. from ≤ line) }
-        ensures here { IfSome result (λ line. line < lines_of self.now) }
-        ensures small { IfSome result (λ line. line < MAX_LINES) }
-        ensures found { IfSome result
-            (λ line. is_of kind (line_of self.now.cache line).state ≡ true) }
-        ensures between { (line : ℕ) → from ≤ line → IsBefore line result →
-            is_of kind (line_of self.now.cache line).state ≡ false }
+    /// The lines whose state is of a kind. It looks at no line.
+    pub fn lines_of(&self, kind: LineKind) -> LineSet
+        ensures each { (line : ℕ) →
+            is_in result line ≡ is_of kind (line_of self.now.cache line).state }
+        ensures here { (line : ℕ) → is_in result line ≡ true → line < lines_of self.now }
+        ensures small { (line : ℕ) → is_in result line ≡ true → line < MAX_LINES }
     {
-        self.cache.next_of(kind, from)
+        self.cache.lines_of(kind)
     }
 
-    /// The least line from a line on with an operation pending, or None if there is none. It looks at no other line.
-    pub fn next_pending(&self, from: u8) -> Option<u8>
-        ensures order { IfSome result (λ line. from ≤ line) }
-        ensures here { IfSome result (λ line. line < lines_of self.now) }
-        ensures small { IfSome result (λ line. line < MAX_LINES) }
-        ensures found { IfSome result (λ line. IsSome (pending_on self.now line)) }
-        ensures between { (line : ℕ) → from ≤ line → IsBefore line result →
-            pending_on self.now line ≡ None }
+    /// The lines with an operation pending. It looks at no line.
+    pub fn pending_lines(&self) -> LineSet
+        ensures each { (line : ℕ) → is_in result line ≡ is_some (pending_on self.now line) }
+        ensures here { (line : ℕ) → is_in result line ≡ true → line < lines_of self.now }
     {
-        self.pending.next_from(from)
-    }
-
-    /// The least line from a line on with an operation pending whose state is of a kind, or None if there is none. It looks
-    /// at no other line.
-    pub fn next_pending_of(&self, kind: LineKind, from: u8) -> Option<u8>
-        ensures order { IfSome result (λ line. from ≤ line) }
-        ensures here { IfSome result (λ line. line < lines_of self.now) }
-        ensures small { IfSome result (λ line. line < MAX_LINES) }
-        ensures found { IfSome result
-            (λ line. is_of kind (line_of self.now.cache line).state ≡ true) }
-        ensures pending { IfSome result (λ line. IsSome (pending_on self.now line)) }
-        ensures between { (line : ℕ) → from ≤ line → IsBefore line result →
-            (is_some (pending_on self.now line) && is_of kind (line_of self.now.cache line).state)
-            ≡ false }
-    {
-        self.pending.next_in(&self.cache.lines_of(kind), from)
-    }
-
-    /// The least line from a line on with an operation pending whose state isn't of a kind, or None if there is none. It
-    /// looks at no other line.
-    pub fn next_pending_not_of(&self, kind: LineKind, from: u8) -> Option<u8>
-        ensures order { IfSome result (λ line. from ≤ line) }
-        ensures here { IfSome result (λ line. line < lines_of self.now) }
-        ensures small { IfSome result (λ line. line < MAX_LINES) }
-        ensures found { IfSome result
-            (λ line. is_of kind (line_of self.now.cache line).state ≡ false) }
-        ensures pending { IfSome result (λ line. IsSome (pending_on self.now line)) }
-        ensures between { (line : ℕ) → from ≤ line → IsBefore line result →
-            (is_some (pending_on self.now line)
-            && not (is_of kind (line_of self.now.cache line).state)) ≡ false }
-    {
-        self.pending.next_outside(&self.cache.lines_of(kind), from)
+        self.pending.lines()
     }
 
     /// The answer that waits to be sent, if one does.

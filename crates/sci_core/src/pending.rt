@@ -34,12 +34,12 @@ impl Model for PendingOps {
 }
 
 impl PendingOps {
-    ghost use Rattle.std.specs.Prelude.{◌≡◌, ◌<◌, ◌≤◌, ◌&&◌, ℕ, true, false, not, Some, None, IfOk, IfSome, IsSome, is_some, length};
+    ghost use Rattle.std.specs.Prelude.{◌≡◌, ◌<◌, ◌≤◌, ℕ, Some, None, IfOk, is_some, length};
     ghost use Rattle.std.specs.Prelude.{option_copied, replicate, slice_index_or, slice_set};
     ghost use Rattle.sci_words.specs.declared.limits.TheConstants.{MAX_LINES};
-    ghost use Rattle.sci_cache.specs.LineSet.{IsBefore, is_in};
+    ghost use Rattle.sci_cache.specs.LineSet.{is_in};
 
-    /// Of so many lines, none of which has an operation pending. Refused if memory is.
+    /// No operation pending on any of this many lines. Refused if memory is.
     pub(crate) fn new(alloc: Global, lines: u8) -> Result<PendingOps, AllocError>
         requires { lines ≤ MAX_LINES }
         ensures { IfOk result (λ pending. pending ≡ replicate lines None) }
@@ -62,7 +62,7 @@ impl PendingOps {
         ops.extend_from_slice(&self.ops)?;
         Ok(PendingOps {
             ops,
-            lines: self.lines.copy(),
+            lines: self.lines,
         })
     }
 
@@ -94,56 +94,10 @@ impl PendingOps {
         self.lines.put(line, false);
     }
 
-    /// The least line of a set from a line on with an operation pending, or None if there is none.
-    pub(crate) fn next_in(&self, set: &LineSet, from: u8) -> Option<u8>
-        ensures order { IfSome result (λ line. from ≤ line) }
-        ensures here { IfSome result (λ line. line < length self.now) }
-        ensures small { IfSome result (λ line. line < MAX_LINES) }
-        ensures inside { IfSome result (λ line. is_in set.now line ≡ true) }
-        ensures found { IfSome result (λ line. IsSome (slice_index_or self.now line None)) }
-        ensures between { (line : ℕ) → from ≤ line → IsBefore line result →
-            (is_some (slice_index_or self.now line None) && is_in set.now line) ≡ false }
+    /// The lines on which an operation is pending.
+    pub(crate) fn lines(&self) -> LineSet
+        ensures { (line : ℕ) → is_in result line ≡ is_some (slice_index_or self.now line None) }
     {
-        let line = self.lines.intersection(set).next_from(from)?;
-        if usize::from(line) < self.ops.len() {
-            Some(line)
-        } else {
-            None
-        }
-    }
-
-    /// The least line outside a set from a line on with an operation pending, or None if there is none.
-    pub(crate) fn next_outside(&self, set: &LineSet, from: u8) -> Option<u8>
-        ensures order { IfSome result (λ line. from ≤ line) }
-        ensures here { IfSome result (λ line. line < length self.now) }
-        ensures small { IfSome result (λ line. line < MAX_LINES) }
-        ensures outside { IfSome result (λ line. is_in set.now line ≡ false) }
-        ensures found { IfSome result (λ line. IsSome (slice_index_or self.now line None)) }
-        ensures between { (line : ℕ) → from ≤ line → IsBefore line result →
-            (is_some (slice_index_or self.now line None) && not (is_in set.now line)) ≡ false }
-    {
-        let line = self.lines.difference(set).next_from(from)?;
-        if usize::from(line) < self.ops.len() {
-            Some(line)
-        } else {
-            None
-        }
-    }
-
-    /// The least line from a line on with an operation pending, or None if there is none.
-    pub(crate) fn next_from(&self, from: u8) -> Option<u8>
-        ensures order { IfSome result (λ line. from ≤ line) }
-        ensures here { IfSome result (λ line. line < length self.now) }
-        ensures small { IfSome result (λ line. line < MAX_LINES) }
-        ensures found { IfSome result (λ line. IsSome (slice_index_or self.now line None)) }
-        ensures between { (line : ℕ) → from ≤ line → IsBefore line result →
-            slice_index_or self.now line None ≡ None }
-    {
-        let line = self.lines.next_from(from)?;
-        if usize::from(line) < self.ops.len() {
-            Some(line)
-        } else {
-            None
-        }
+        self.lines
     }
 }

@@ -177,10 +177,8 @@ impl Machine {
     {
         let extent = self.extent();
         'nodes: for node in 0..extent.nodes {
-            'lines: for line in 0..extent.lines {
-                if self.node(node).pending(line).is_some() {
-                    return Some((node, line));
-                }
+            if let Some(line) = self.node(node).pending_lines().next_from(0) {
+                return Some((node, line));
             }
         }
         None

@@ -1,8 +1,11 @@
 -- The least number that passes a test, among more and more of them.
-use Rattle.std.proofs.Common.{◌≡◌, ℕ, zero, suc, ◌+◌, ◌-◌, ◌<◌, ◌≤◌, Bool, true, false, cond, List, [], ◌∷◌, ◌++◌, Option, Some, None, refl, sym, ap, ◌∙◌}
-use Rattle.std.proofs.{Common.{arith}, lemmas.List.Folds.{find-append}}
+use Rattle.std.proofs.Common.{◌≡◌, ℕ, zero, suc, ◌+◌, ◌-◌, ◌<◌, ◌≤◌, ◌&&◌, Bool, true, false, cond, List, [], ◌∷◌, ◌++◌, Option, Some, None, refl, sym, ap, ◌∙◌}
+use Rattle.std.proofs.{Common.{arith}, lemmas.{Bool.{and_parts}, List.Folds.{find-append}, Option.{IfSome_then}}}
 use Rattle.std.specs.{Prelude.{IfSome}, Bool.{then_some}, Option.{option_or}, List.{find, range_with_len}}
-use Rattle.sci_cache.specs.LineSet.{IsBefore}
+use Rattle.sci_words.specs.declared.limits.TheConstants.{MAX_LINES}
+use Rattle.sci_cache.specs.LineSet.{IsBefore, is_in}
+use Rattle.sci_core.specs.Node.{NodeOf, lines_of}
+use Rattle.sci_policy.specs.Lines.{least}
 
 -- numbers up to a place, and those from it on
 pub range_parts : (a n m : ℕ) → range_with_len a (n + m) ≡ range_with_len a n ++ range_with_len (a + n) m
@@ -59,3 +62,27 @@ found_at p n (Some k) here passes none =
     let least : find p (range_with_len 0 (k + 1)) ≡ Some k =
     find_more p k ∙ (ap (λ (o : Option ℕ). option_or o (then_some (p k) k)) (sym before) ∙ ap (λ (b : Bool). option_or None (then_some b k)) passes) in
     sym (longer p (k + 1) n k (omega arith) least)
+
+-- the least line of a set is the least that passes, if the set has those that pass
+pub least_is : (node : NodeOf) (set : ℕ) (test : ℕ → Bool) (found : Option ℕ) → ((line : ℕ) → is_in set line ≡ test line)
+    → ((line : ℕ) → is_in set line ≡ true → line < lines_of node) → IfSome found (λ line. is_in set line ≡ true)
+    → ((line : ℕ) → 0 ≤ line → IsBefore line found → is_in set line ≡ false) → found ≡ least node test
+least_is node set test found same here is before =
+    found_at test (lines_of node) found (IfSome_then found is here) (IfSome_then found is (λ line i. sym (same line) ∙ i))
+    (λ line below first. sym (same line) ∙ before line (omega arith) first)
+
+-- what two tests say together, where the second matters only if the first passes
+both_say : (a b p q : Bool) → a ≡ p → (a ≡ true → b ≡ q) → (a && b) ≡ (p && q)
+both_say true b p q first second = ap (λ (x : Bool). x && b) first ∙ ap (λ (x : Bool). p && x) (second refl)
+both_say false b p q first second = ap (λ (x : Bool). x && q) first
+
+-- the least line of what two sets have in common is the least that passes the tests of both
+pub least_of_both : (node : NodeOf) (one other both : ℕ) (p q : ℕ → Bool) (result : Option ℕ) → ((line : ℕ) → is_in one line ≡ p line)
+    → ((line : ℕ) → is_in one line ≡ true → line < lines_of node) → ((line : ℕ) → is_in one line ≡ true → line < MAX_LINES)
+    → ((line : ℕ) → is_in both line ≡ (is_in one line && is_in other line)) → ((line : ℕ) → line < MAX_LINES → is_in other line ≡ q line)
+    → IfSome result (λ line. is_in both line ≡ true) → ((line : ℕ) → 0 ≤ line → IsBefore line result → is_in both line ≡ false)
+    → result ≡ least node (λ line. p line && q line)
+least_of_both node one other both p q result each here small cut second is before =
+    least_is node both (λ line. p line && q line) result
+    (λ line. cut line ∙ both_say (is_in one line) (is_in other line) (p line) (q line) (each line) (λ in_one. second line (small line in_one)))
+    (λ line in_both. here line (and_parts (is_in one line) (is_in other line) (sym (cut line) ∙ in_both)).0) is before

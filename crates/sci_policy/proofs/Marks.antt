@@ -1,5 +1,5 @@
 -- A set of lines that is marked line by line, from the least on.
-use Rattle.std.proofs.Common.{◌≡◌, ◌≢◌, ◌⊎◌, ℕ, ◌+◌, ◌<◌, ◌≤◌, Bool, true, false, List, length, get_or, set, replicate, ◌||◌, refl, sym, ap, ◌∙◌, arith}
+use Rattle.std.proofs.Common.{◌≡◌, ◌≢◌, ◌⊎◌, ℕ, ◌+◌, ◌<◌, ◌≤◌, Bool, true, false, List, length, get_or, set, replicate, refl, sym, ap, ◌∙◌, arith}
 use Rattle.std.proofs.{Common.{inl, inr}, lemmas.Bool.{cases_eq, cases_lt}}
 use Rattle.std.proofs.lemmas.List.{ext_get_or, get_or_past, get_or-replicate, get_or-set_other, get_or-set_same, length-replicate, length-set}
 use Rattle.std.proofs.lemmas.List.FromFn.{get_or-map-range_with_len, length-map-range_with_len}
@@ -55,86 +55,31 @@ mark tested from line b marks le lt none is was = record {
     below_at k below (inr ne) (inl before) = get_or-set_other marks line k b false ne ∙ was.below k before
     below_at k below (inr ne) (inr after) = get_or-set_other marks line k b false ne ∙ (was.above k after ∙ sym (none k after (omega arith)))
 
-pub marked : (tested : ℕ → Bool) (from : ℕ) (marks : List Bool) → ((k : ℕ) → from ≤ k → tested k ≡ false) → AreMarked tested from marks → marks ≡ set_of tested
-marked tested from marks none was = is_set_of tested marks was.long (λ k small. at k (cases_lt k from))
+pub marked : (tested : ℕ → Bool) (from : ℕ) (marks : List Bool) → ((k : ℕ) → from ≤ k → k < MAX_LINES → tested k ≡ false)
+    → AreMarked tested from marks → marks ≡ set_of tested
+marked tested from marks none was = is_set_of tested marks was.long (λ k small. at k small (cases_lt k from))
   where
-    at : (k : ℕ) → (k < from) ⊎ (from ≤ k) → get_or marks k false ≡ tested k
-    at k (inl lower) = was.below k lower
-    at k (inr higher) = was.above k higher ∙ sym (none k higher)
-
--- ---- a set of lines, with more lines besides
-
--- up to a line a set has those of before and those of a test, and from it on those of before
-pub record AreJoined (before tested : ℕ → Bool) (from : ℕ) (marks : List Bool) : Type 0 where
-  pub long : length marks ≡ MAX_LINES
-  pub below : (k : ℕ) → k < from → k < MAX_LINES → get_or marks k false ≡ (before k || tested k)
-  pub above : (k : ℕ) → from ≤ k → k < MAX_LINES → get_or marks k false ≡ before k
-
-pub none_joined : (before tested : ℕ → Bool) (marks : List Bool) → marks ≡ set_of before → AreJoined before tested 0 marks
-none_joined before tested marks same = record {
-  long = ap length same ∙ length_of before;
-  below = λ k lt small. absurd (omega arith);
-  above = λ k from small. ap (λ (m : List Bool). get_or m k false) same ∙ in_set before k small;
-}
-
-or_false : (a b : Bool) → b ≡ false → a ≡ (a || b)
-or_false true b e = refl
-or_false false b e = sym e
-
-or_true : (a b : Bool) → b ≡ true → true ≡ (a || b)
-or_true true b e = refl
-or_true false b e = sym e
-
-pub joined_up_to : (before tested : ℕ → Bool) (from to : ℕ) (marks : List Bool) → from ≤ to → ((k : ℕ) → from ≤ k → k < to → tested k ≡ false)
-    → AreJoined before tested from marks → AreJoined before tested to marks
-joined_up_to before tested from to marks le none was = record {
-  long = was.long;
-  below = λ k lt small. elim (cases_lt k from) [
-    | inl lower ↦ was.below k lower small
-    | inr higher ↦ was.above k higher small ∙ or_false (before k) (tested k) (none k higher lt)
-  ];
-  above = λ k higher small. was.above k (omega arith) small;
-}
-
-pub join : (before tested : ℕ → Bool) (line : ℕ) (marks : List Bool) → line < MAX_LINES → tested line ≡ true → AreJoined before tested line marks
-    → AreJoined before tested (line + 1) (set marks line true)
-join before tested line marks here passes was = record {
-  long = length-set marks line true ∙ was.long;
-  below = λ k lt small. elim (cases_eq k line) [
-    | inl same ↦ (let long = was.long in let inside : line < length marks = omega arith in
-        ap (λ (n : ℕ). get_or (set marks line true) n false) same
-        ∙ (get_or-set_same marks line true false inside ∙ (or_true (before line) (tested line) passes ∙ ap (λ (n : ℕ). before n || tested n) (sym same))))
-    | inr ne ↦ get_or-set_other marks line k true false ne ∙ was.below k (omega arith) small
-  ];
-  above = λ k higher small. (let ne : k ≢ line = (λ same. omega arith) in get_or-set_other marks line k true false ne ∙ was.above k (omega arith) small);
-}
-
-pub joined : (before tested : ℕ → Bool) (from : ℕ) (marks : List Bool) → ((k : ℕ) → from ≤ k → tested k ≡ false) → AreJoined before tested from marks
-    → marks ≡ set_of (λ k. before k || tested k)
-joined before tested from marks none was = is_set_of (λ k. before k || tested k) marks was.long (λ k small. at k small (cases_lt k from))
-  where
-    at : (k : ℕ) → k < MAX_LINES → (k < from) ⊎ (from ≤ k) → get_or marks k false ≡ (before k || tested k)
-    at k small (inl lower) = was.below k lower small
-    at k small (inr higher) = was.above k higher small ∙ or_false (before k) (tested k) (none k higher)
+    at : (k : ℕ) → k < MAX_LINES → (k < from) ⊎ (from ≤ k) → get_or marks k false ≡ tested k
+    at k small (inl lower) = was.below k lower
+    at k small (inr higher) = was.above k higher ∙ sym (none k higher small)
 
 -- ---- a set of lines by bits, as a list
-
--- a set is that of its lines
-pub whole : (bits : ℕ) (marks : List Bool) → set_of (is_in bits) ≡ marks → marks ≡ set_of (has marks)
-whole bits marks same = is_set_of (has marks) marks (ap length (sym same) ∙ length_of (is_in bits)) (λ k small. refl)
 
 -- no line is in the set of none
 pub none_in : (set : ℕ) → ((line : ℕ) → is_in set line ≡ false) → set_of (is_in set) ≡ replicate MAX_LINES false
 none_in set none = sym (is_set_of (is_in set) (replicate MAX_LINES false) (length-replicate MAX_LINES false) (λ k small. unmarked k ∙ sym (none k)))
 
-pub inside : (bits : ℕ) (marks : List Bool) (k : ℕ) → set_of (is_in bits) ≡ marks → k < MAX_LINES → is_in bits k ≡ true → get_or marks k false ≡ true
-inside bits marks k same small is = ap (λ (m : List Bool). get_or m k false) (sym same) ∙ (in_set (is_in bits) k small ∙ is)
-
-pub outside : (bits : ℕ) (marks : List Bool) (k : ℕ) → set_of (is_in bits) ≡ marks → (k < MAX_LINES → is_in bits k ≡ false) → get_or marks k false ≡ false
-outside bits marks k same free = ap (λ (m : List Bool). get_or m k false) (sym same) ∙ elim (cases_lt k MAX_LINES) [
-  | inl small ↦ in_set (is_in bits) k small ∙ free small
-  | inr past ↦ past_set (is_in bits) k past
+-- whether a set has a line is whether the list says so, if no set has a line of no machine
+pub has_bit : (bits line : ℕ) (b : Bool) → b ≡ is_in bits line → (b ≡ true → line < MAX_LINES) → b ≡ has (set_of (is_in bits)) line
+has_bit bits line true is small = is ∙ sym (in_set (is_in bits) line (small refl))
+has_bit bits line false is small = elim (cases_lt line MAX_LINES) [
+  | inl below ↦ is ∙ sym (in_set (is_in bits) line below)
+  | inr past ↦ sym (past_set (is_in bits) line past)
 ]
+
+-- sets of the same lines are the same list
+pub set_same : (p q : ℕ → Bool) → ((line : ℕ) → line < MAX_LINES → p line ≡ q line) → set_of p ≡ set_of q
+set_same p q same = is_set_of q (set_of p) (length_of p) (λ line small. in_set p line small ∙ same line small)
 
 -- one line is put in or taken out
 pub put_in : (old new line : ℕ) (b : Bool) → line < MAX_LINES → is_in new line ≡ b → ((other : ℕ) → other ≢ line → is_in new other ≡ is_in old other)

@@ -4,6 +4,7 @@ use Rattle.std.proofs.Common.{Option, Some, None, refl, sym, ap, subst, ◌∙�
 use Rattle.std.proofs.lemmas.{Bool.{cases_Bool, false_from_ne_true}, List.{append-nil}}
 use Rattle.std.proofs.lemmas.List.Elements.{filter-append, filter_agree}
 use Rattle.std.specs.{Prelude.{IfSome, is_some, option_map}, List.{range_with_len}}
+use Rattle.sci_cache.specs.LineSet.{is_in}
 use Rattle.sci_core.specs.{Node.{NodeOf, pending_on}, declared.pending.Pending.{Pending}}
 use Rattle.sci_policy.specs.Lines.{all_lines, has_pending, older, oldest, oldest_of, serial_in, serial_on}
 use Rattle.sci_policy.specs.Scan.{is_older_than}
@@ -161,37 +162,38 @@ none_up_to node IsMeant k n found le none was =
     let whole : k + (n - k) ≡ n = omega arith in
     subst (λ (m : ℕ). IsFoundBelow node IsMeant m found) whole (none_between node IsMeant k (n - k) found (λ j from below. none j from (omega arith)) was)
 
--- ---- lines of a kind
+-- ---- lines of a set
 
--- a test of the lines of a kind by another test
-abbrev pub IsNarrowed : (ℕ → Bool) → ((ℕ → Bool) → Type 0) → (ℕ → Bool) → Type 0
-IsNarrowed kind IsMeant test = (tested : ℕ → Bool) × (IsMeant tested × ((line : ℕ) → test line ≡ (kind line && tested line)))
+-- a test of the lines of a set by another test
+abbrev pub IsNarrowed : ℕ → ((ℕ → Bool) → Type 0) → (ℕ → Bool) → Type 0
+IsNarrowed set IsMeant test = (tested : ℕ → Bool) × (IsMeant tested × ((line : ℕ) → test line ≡ (is_in set line && tested line)))
 
-not_both : (pending kind tested test : Bool) → (pending && kind) ≡ false → test ≡ (kind && tested) → (pending && test) ≡ false
-not_both false kind tested test none is = refl
+not_both : (pending inside tested test : Bool) → inside ≡ false → test ≡ (inside && tested) → (pending && test) ≡ false
+not_both false inside tested test none is = refl
 not_both true false tested test none is = is
 not_both true true tested test none is = cc
 
--- a line that has no operation pending or isn't of the kind is passed over
-pub of_no_kind : (node : NodeOf) (kind : ℕ → Bool) (IsMeant : (ℕ → Bool) → Type 0) (line : ℕ) → (has_pending node line && kind line) ≡ false
-    → IsPassedOver node (IsNarrowed kind IsMeant) line
-of_no_kind node kind IsMeant line none = λ test is. not_both (has_pending node line) (kind line) (is.0 line) (test line) none (is.1.1 line)
+-- a line that isn't in the set is passed over
+pub not_in : (node : NodeOf) (set : ℕ) (IsMeant : (ℕ → Bool) → Type 0) (line : ℕ) → is_in set line ≡ false → IsPassedOver node (IsNarrowed set IsMeant) line
+not_in node set IsMeant line none = λ test is. not_both (has_pending node line) (is_in set line) (is.0 line) (test line) none (is.1.1 line)
 
--- what a test says of a line of the kind
-pub of_kind : (kind : ℕ → Bool) (IsMeant : (ℕ → Bool) → Type 0) (line : ℕ) (b : Bool) → kind line ≡ true
-    → ((tested : ℕ → Bool) → IsMeant tested → tested line ≡ b) → (test : ℕ → Bool) → IsNarrowed kind IsMeant test → test line ≡ b
-of_kind kind IsMeant line b here says test is = is.1.1 line ∙ (ap (λ (k : Bool). k && is.0 line) here ∙ says is.0 is.1.0)
+-- what a test says of a line of the set
+pub said_of : (set : ℕ) (IsMeant : (ℕ → Bool) → Type 0) (line : ℕ) (b : Bool) → is_in set line ≡ true
+    → ((tested : ℕ → Bool) → IsMeant tested → tested line ≡ b) → (test : ℕ → Bool) → IsNarrowed set IsMeant test → test line ≡ b
+said_of set IsMeant line b here says test is = is.1.1 line ∙ (ap (λ (k : Bool). k && is.0 line) here ∙ says is.0 is.1.0)
 
--- tests that say the same of each line find the same one
-pub oldest_same : (node : NodeOf) (p q : ℕ → Bool) → ((line : ℕ) → p line ≡ q line) → oldest node p ≡ oldest node q
-oldest_same node p q same = ap (oldest_of node) (filter_agree _ _ (λ line. ap (λ (b : Bool). has_pending node line && b) (same line)) (all_lines node))
+implied : (pending inside test : Bool) → (pending ≡ true → test ≡ true → inside ≡ true) → (pending && (inside && test)) ≡ (pending && test)
+implied false inside test only = refl
+implied true true test only = refl
+implied true false true only = only refl refl
+implied true false false only = refl
 
-implied : (kind test : Bool) → (test ≡ true → kind ≡ true) → (kind && test) ≡ test
-implied true test only = refl
-implied false true only = only refl
-implied false false only = refl
+-- a set that has each line with an operation pending that passes needn't be asked for
+pub oldest_in_set : (node : NodeOf) (set : ℕ) (test : ℕ → Bool) → ((line : ℕ) → has_pending node line ≡ true → test line ≡ true → is_in set line ≡ true)
+    → oldest node (λ line. is_in set line && test line) ≡ oldest node test
+oldest_in_set node set test only =
+    ap (oldest_of node) (filter_agree _ _ (λ line. implied (has_pending node line) (is_in set line) (test line) (only line)) (all_lines node))
 
--- a kind of lines that has all that pass needn't be asked for
-pub oldest_of_kind : (node : NodeOf) (kind test : ℕ → Bool) → ((line : ℕ) → test line ≡ true → kind line ≡ true)
-    → oldest node (λ line. kind line && test line) ≡ oldest node test
-oldest_of_kind node kind test only = oldest_same node _ _ (λ line. implied (kind line) (test line) (only line))
+-- what is in both of two sets is in their intersection
+pub in_both : (b c d : Bool) → b ≡ (c && d) → c ≡ true → d ≡ true → b ≡ true
+in_both b c d both one other = both ∙ rw (one, other) refl

@@ -1,8 +1,8 @@
 //! The sets of lines that a policy remembers.
 
-ghost use Rattle.std.specs.Prelude.{◌≡◌, ◌<◌, ◌≤◌, ℕ, true, false, IfSome, replicate, slice_set};
+ghost use Rattle.std.specs.Prelude.{◌≡◌, ◌<◌, ◌||◌, ℕ, false, replicate, slice_set};
 ghost use Rattle.sci_words.specs.declared.limits.TheConstants.{MAX_LINES};
-ghost use Rattle.sci_cache.specs.LineSet.{IsBefore};
+ghost use Rattle.sci_cache.specs.LineSet.{is_in};
 ghost use Rattle.sci_policy.specs.Policy.{has as has_line, set_of};
 
 use sci_cache::LineSet;
@@ -35,24 +35,11 @@ impl LineMarks {
         }
     }
 
-    /// The same set.
-    pub(crate) fn copy(&self) -> LineMarks
-        ensures same { result ≡ self.now }
-        ensures whole { self.now ≡ set_of (has_line self.now) }
-    {
-        LineMarks {
-            set: self.set.copy(),
-        }
-    }
-
     /// Whether a line is in the set.
     pub(crate) fn has(&self, line: u8) -> bool
         ensures { result ≡ has_line self.now line }
     {
-        match self.next_from(line) {
-            Some(found) => found == line,
-            None => false,
-        }
+        self.set.contains(line)
     }
 
     /// Puts a line into the set or takes it out. Nothing changes if it is no line of any machine.
@@ -64,15 +51,20 @@ impl LineMarks {
         }
     }
 
-    /// The least line of the set from a line on, or None if there is none.
-    pub(crate) fn next_from(&self, from: u8) -> Option<u8>
-        ensures order { IfSome result (λ line. from ≤ line) }
-        ensures small { IfSome result (λ line. line < MAX_LINES) }
-        ensures found { IfSome result (λ line. has_line self.now line ≡ true) }
-        ensures between { (line : ℕ) → from ≤ line → IsBefore line result →
-            has_line self.now line ≡ false }
+    /// The lines that are in the set or in another.
+    pub(crate) fn union(&self, other: LineSet) -> LineMarks
+        ensures { result ≡ set_of (λ line. has_line self.now line || is_in other line) }
     {
-        let line = self.set.next_from(from)?;
-        if line < MAX_LINES { Some(line) } else { None }
+        LineMarks {
+            set: self.set.union(other),
+        }
+    }
+
+    /// The lines of the set.
+    pub(crate) fn lines(&self) -> LineSet
+        ensures { (line : ℕ) → line < MAX_LINES →
+            is_in result line ≡ has_line self.now line }
+    {
+        self.set
     }
 }

@@ -1,29 +1,17 @@
 //! What a policy sees of a node's lines.
 
-ghost use Rattle.std.specs.Prelude.{◌≡◌, ◌<◌, ◌≤◌, ◌&&◌, ℕ, Bool, true, false, None, Some, IfSome, option_map};
-ghost use Rattle.sci_words.specs.declared.limits.TheConstants.{MAX_LINES};
-ghost use Rattle.sci_cache.specs.{LineSet.{IsBefore}, Held.{state_of}, State.{Out, is_out as is_out_in}};
+ghost use Rattle.std.specs.Prelude.{◌≡◌, ◌<◌, ◌&&◌, ℕ, Bool, true, false, None, Some, IfSome, option_map};
+ghost use Rattle.sci_cache.specs.{LineSet.{is_in}, Held.{state_of}, State.{Out, is_out as is_out_in}};
 ghost use Rattle.sci_cache.specs.Kinds.{has_fresh_sharers as has_fresh_sharers_in, is_of};
 ghost use Rattle.sci_policy.specs.Policy.{awaits_home as awaits_home_in, is_busy_now as is_busy_now_in};
-ghost use Rattle.sci_policy.specs.Lines.{can_drain as can_drain_in, has_maker as has_maker_on, has_pending as has_pending_on, is_head as is_head_in};
+ghost use Rattle.sci_policy.specs.Lines.{can_drain as can_drain_in, has_maker as has_maker_on, is_head as is_head_in};
 ghost use Rattle.sci_policy.specs.Lines.{least, oldest as oldest_with, own_ask as own_ask_in, state_on};
-ghost use Rattle.sci_policy.specs.Scan.{IsTest, is_among, is_older_than};
+ghost use Rattle.sci_policy.specs.Scan.{IsTest, is_older_than};
 ghost use Rattle.sci_core.specs.Node.{lines_of};
 
-use sci_cache::{Held, LineKind};
+use sci_cache::{Held, LineKind, LineSet};
 use sci_core::Node;
 use sci_words::AskKind;
-
-/// Some of the lines with an operation pending.
-#[derive(Clone, Copy)]
-pub(crate) enum Among {
-    /// All of them.
-    All,
-    /// Those of a kind.
-    Of(LineKind),
-    /// Those that aren't of a kind.
-    NotOf(LineKind),
-}
 
 /// The state of a line, or None if there is no such line.
 pub(crate) fn held_on(node: &Node, line: u8) -> Option<&Held>
@@ -92,13 +80,6 @@ pub(crate) fn is_out(node: &Node, line: u8) -> bool
     matches!(held_on(node, line), Some(Held::Out(_)) | None)
 }
 
-/// Whether an operation is pending on a line.
-pub(crate) fn has_pending(node: &Node, line: u8) -> bool
-    ensures { result ≡ has_pending_on node.now line }
-{
-    node.pending(line).is_some()
-}
-
 /// Whether a maker is pending on a line.
 pub(crate) fn has_maker(node: &Node, line: u8) -> bool
     ensures { result ≡ has_maker_on node.now line }
@@ -128,40 +109,24 @@ pub(crate) fn own_ask(node: &Node, line: u8) -> Option<AskKind>
     }
 }
 
-/// The least line of a kind, or None if there is none. It looks at no other line.
+/// The least line of a kind, or None if there is none. It looks at no line.
 pub(crate) fn least_of(node: &Node, kind: LineKind) -> Option<u8>
     ensures { result ≡ least node.now (λ line. is_of kind (state_on node.now line)) }
 {
-    node.next_of(kind, 0)
+    node.lines_of(kind).next_from(0)
 }
 
-/// Of the lines of a kind the least of which something is true, or None if there is none. It looks at no other line.
-pub(crate) fn least_with<F: Fn(u8) -> bool>(node: &Node, kind: LineKind, test: F) -> Option<u8>
-    requires { (line : ℕ) → line < lines_of node.now → F.pre test line }
+/// Of the lines of a set, with an operation pending, the one whose operation is the oldest of those of which something is
+/// true. It looks at no other line. Requires that the node has these lines.
+pub(crate) fn oldest<F: Fn(u8) -> bool>(node: &Node, lines: LineSet, test: F) -> Option<u8>
+    requires here { (line : ℕ) → is_in lines line ≡ true → line < lines_of node.now }
+    requires test { (line : ℕ) → line < lines_of node.now → F.pre test line }
     ensures { (tested : ℕ → Bool) → IsTest (lines_of node.now) (F.post test) tested →
-        result ≡ least node.now (λ line. is_of kind (state_on node.now line) && tested line) }
-{
-    let mut from = 0;
-    'lines: while let Some(line) = node.next_of(kind, from) {
-        if test(line) {
-            return Some(line);
-        }
-        from = line + 1;
-    }
-    None
-}
-
-/// Among lines with an operation pending, of those of which something is true, the one whose operation is the oldest. It
-/// looks at no other line.
-pub(crate) fn oldest<F: Fn(u8) -> bool>(node: &Node, among: Among, test: F) -> Option<u8>
-    requires { (line : ℕ) → line < lines_of node.now → F.pre test line }
-    ensures { (tested : ℕ → Bool) → IsTest (lines_of node.now) (F.post test) tested →
-        result ≡ oldest_with node.now
-        (λ line. is_among among (state_on node.now line) && tested line) }
+        result ≡ oldest_with node.now (λ line. is_in lines line && tested line) }
 {
     let mut found = None;
     let mut from = 0;
-    'pending: while let Some(line) = next_pending(node, among, from) {
+    'lines: while let Some(line) = lines.next_from(from) {
         from = line + 1;
         let Some(pending) = node.pending(line) else {
             continue;
@@ -171,23 +136,6 @@ pub(crate) fn oldest<F: Fn(u8) -> bool>(node: &Node, among: Among, test: F) -> O
         }
     }
     found.map(|(line, _)| line)
-}
-
-/// The least line from a line on among lines with an operation pending, or None if there is none.
-fn next_pending(node: &Node, among: Among, from: u8) -> Option<u8>
-    ensures order { IfSome result (λ line. from ≤ line) }
-    ensures here { IfSome result (λ line. line < lines_of node.now) }
-    ensures small { IfSome result (λ line. line < MAX_LINES) }
-    ensures found { IfSome result
-        (λ line. is_among among (state_on node.now line) ≡ true) }
-    ensures between { (line : ℕ) → from ≤ line → IsBefore line result →
-        (has_pending_on node.now line && is_among among (state_on node.now line)) ≡ false }
-{
-    match among {
-        Among::All => node.next_pending(from),
-        Among::Of(kind) => node.next_pending_of(kind, from),
-        Among::NotOf(kind) => node.next_pending_not_of(kind, from),
-    }
 }
 
 /// Whether a serial is below that of what was found, if anything was.

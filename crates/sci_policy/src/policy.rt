@@ -1,9 +1,10 @@
 //! The policy: what a controller decides by itself.
 
-ghost use Rattle.std.specs.Prelude.{◌≡◌, ◌<◌, ◌||◌, ℕ, Bool, None, IfSome, true};
+ghost use Rattle.std.specs.Prelude.{◌≡◌, ◌<◌, None, IfSome, true};
+ghost use Rattle.sci_words.specs.declared.limits.TheConstants.{MAX_LINES};
 ghost use Rattle.sci_policy.specs.{declared.policy.TheConstants.{PATIENCE}, Lines.{state_on}};
-ghost use Rattle.sci_policy.specs.Policy.{is_cread, set_of};
-ghost use Rattle.sci_cache.specs.{Cache.{letter_of}, Kinds.{is_of}, State.{Out}};
+ghost use Rattle.sci_policy.specs.Policy.{is_cread};
+ghost use Rattle.sci_cache.specs.{Cache.{letter_of}, LineSet.{is_in}, State.{Out}};
 
 use crate::decision::Decision;
 use crate::line_marks::LineMarks;
@@ -12,14 +13,14 @@ use crate::lines::{
 };
 use crate::rules::{perform_wanted, ruled};
 use crate::want::Want;
-use sci_cache::LineKind;
+use sci_cache::{LineKind, LineSet};
 use sci_core::Node;
 use sci_packets::{Body, Packet};
 use sci_words::AskKind;
 use std::marker::Model;
 
 /// A policy's patience: how often it is asked what comes next, with nothing that could be performed, until it has its
-/// node give up lists that others may wait for. In one turn of so many, requests that wait are let go.
+/// node give up lists that others may wait for. In one turn of this many, requests that wait are let go.
 pub const PATIENCE: u8 = 64;
 
 /// What a node's controller decides by itself: which event comes next, and which requests of others it keeps or refuses.
@@ -41,19 +42,6 @@ impl Model for Policy {
     ghost Value = { PolicyOf };
 
     ghost view = { λ policy. record { draining = policy.draining; due = policy.due; patience = policy.patience; turns = policy.turns; served = policy.served } };
-}
-
-/// A set of lines, with the lines of a kind besides. It looks at no other line.
-fn with_kind(mut lines: LineMarks, node: &Node, kind: LineKind) -> LineMarks
-    ensures { (before : ℕ → Bool) → lines ≡ set_of before →
-        result ≡ set_of (λ line. before line || is_of kind (state_on node.now line)) }
-{
-    let mut from = 0;
-    'lines: while let Some(line) = node.next_of(kind, from) {
-        lines.put(line, true);
-        from = line + 1;
-    }
-    lines
 }
 
 impl Policy {
@@ -110,9 +98,10 @@ impl Policy {
     fn still_draining(&self, node: &Node) -> LineMarks
         ensures { result ≡ set_of (still_draining self.now node.now) }
     {
+        let draining = self.draining.lines();
         let mut lines = LineMarks::new();
         let mut from = 0;
-        'draining: while let Some(line) = self.draining.next_from(from) {
+        'draining: while let Some(line) = draining.next_from(from) {
             lines.put(line, can_drain(node, line));
             from = line + 1;
         }
@@ -123,16 +112,15 @@ impl Policy {
     fn draining_at_last(&self, node: &Node) -> LineMarks
         ensures { result ≡ set_of (draining_at_last self.now node.now) }
     {
-        let lines = self.still_draining(node);
-        with_kind(lines, node, LineKind::HasSharers)
+        self.still_draining(node)
+            .union(node.lines_of(LineKind::HasSharers))
     }
 
     /// The lines that are due when patience has ended.
     fn due_at_last(&self, node: &Node) -> LineMarks
         ensures { result ≡ set_of (due_at_last self.now node.now) }
     {
-        let lines = self.due.copy();
-        with_kind(lines, node, LineKind::HasFreshSharers)
+        self.due.union(node.lines_of(LineKind::HasFreshSharers))
     }
 
     /// What the rules want.
@@ -170,18 +158,20 @@ impl Policy {
         }
     }
 
-    /// Whether a line is draining.
-    pub(crate) fn is_draining(&self, line: u8) -> bool
-        ensures { result ≡ has_line self.now.draining line }
+    /// The lines that are draining.
+    pub(crate) fn draining(&self) -> LineSet
+        ensures { (line : ℕ) → line < MAX_LINES →
+            is_in result line ≡ has_line self.now.draining line }
     {
-        self.draining.has(line)
+        self.draining.lines()
     }
 
-    /// Whether a line is due.
-    pub(crate) fn is_due(&self, line: u8) -> bool
-        ensures { result ≡ has_line self.now.due line }
+    /// The lines that are due.
+    pub(crate) fn due(&self) -> LineSet
+        ensures { (line : ℕ) → line < MAX_LINES →
+            is_in result line ≡ has_line self.now.due line }
     {
-        self.due.has(line)
+        self.due.lines()
     }
 
     /// Whether a request is refused: a Cread for a line that is draining, or that is Head while a maker of this node is
@@ -239,7 +229,7 @@ impl Policy {
         self.served = Some(j);
     }
 
-    /// The node whose requests a turn looks at first, of so many nodes: the one after the node noted last, or 0 if none
+    /// The node whose requests a turn looks at first, of this many nodes: the one after the node noted last, or 0 if none
     /// was noted or it isn't one of them. Requires that there is a node.
     pub fn first_sender(&self, nodes: u8) -> u8
         requires { 1 ≤ nodes }

@@ -1,18 +1,18 @@
 //! The rules: what a node wants to do for its own lines and operations.
 
-ghost use Rattle.std.specs.Prelude.{◌≡◌, ℕ, true, None, is_some};
-ghost use Rattle.sci_policy.specs.{Lines.{state_on}, Scan.{is_among}};
+ghost use Rattle.std.specs.Prelude.{◌≡◌, ◌<◌, ℕ, true, None, is_some};
+ghost use Rattle.sci_cache.specs.LineSet.{is_in};
+ghost use Rattle.sci_core.specs.Node.{lines_of};
+ghost use Rattle.sci_policy.specs.Lines.{has_pending as has_pending_on};
 ghost use Rattle.sci_policy.specs.Policy.{ask_of as ask_of_line, operation_asks as asked_by_operation, operation_wanted as operation_wanted_by};
 ghost use Rattle.sci_policy.specs.Policy.{due_wanted as due_wanted_by, perform_wanted as perform_wanted_by, purge_wanted as purge_wanted_by};
 ghost use Rattle.sci_policy.specs.Policy.{send_wanted as send_wanted_by, ruled as ruled_by, slot_wanted as slot_wanted_by};
 ghost use Rattle.sci_policy.specs.Policy.{contents_wanted as contents_wanted_by};
 
-use crate::lines::{
-    Among, has_maker, has_pending, held_on, is_out, least_of, least_with, oldest, own_ask,
-};
+use crate::lines::{has_maker, held_on, is_out, least_of, oldest, own_ask};
 use crate::policy::Policy;
 use crate::want::Want;
-use sci_cache::{Held, LineKind};
+use sci_cache::{Held, LineKind, LineSet};
 use sci_core::Node;
 use sci_words::AskKind;
 
@@ -21,9 +21,10 @@ pub(crate) fn perform_wanted(node: &Node) -> Option<Want>
     ensures { result ≡ perform_wanted_by node.now }
 {
     node.performs_on_lines_with_contents();
-    let line = oldest(node, Among::Of(LineKind::CouldGiveWay), |line| {
-        node.may_perform(line)
-    });
+    let lines = node
+        .pending_lines()
+        .intersection(node.lines_of(LineKind::CouldGiveWay));
+    let line = oldest(node, lines, |line| node.may_perform(line));
     line.map(|line| Want::Perform(line))
 }
 
@@ -41,9 +42,11 @@ pub(crate) fn ruled(policy: &Policy, node: &Node) -> Option<Want>
 fn purge_wanted(policy: &Policy, node: &Node) -> Option<Want>
     ensures { result ≡ purge_wanted_by policy.now node.now }
 {
-    let line = least_with(node, LineKind::HasSharers, |line| {
-        policy.is_draining(line) || has_pending(node, line)
-    });
+    let wanted = policy.draining().union(node.pending_lines());
+    let line = node
+        .lines_of(LineKind::HasSharers)
+        .intersection(wanted)
+        .next_from(0);
     line.map(|line| Want::Ask(line, AskKind::Purge))
 }
 
@@ -59,7 +62,10 @@ fn send_wanted(node: &Node) -> Option<Want>
 fn due_wanted(policy: &Policy, node: &Node) -> Option<Want>
     ensures { result ≡ due_wanted_by policy.now node.now }
 {
-    let line = least_with(node, LineKind::HasFreshSharers, |line| policy.is_due(line));
+    let line = node
+        .lines_of(LineKind::HasFreshSharers)
+        .intersection(policy.due())
+        .next_from(0);
     line.map(|line| Want::Ask(line, AskKind::Claim))
 }
 
@@ -86,7 +92,7 @@ fn slot_wanted(node: &Node) -> Option<Want>
     if node.has_slot() || least_of(node, LineKind::GivesWay).is_some() {
         return None;
     }
-    let line = oldest(node, Among::All, |_line| true)?;
+    let line = oldest(node, node.pending_lines(), |_line| true)?;
     if !is_out(node, line) {
         return None;
     }
@@ -105,14 +111,16 @@ fn contents_wanted(node: &Node) -> Option<Want>
 }
 
 /// The lines whose operations can ask for something. With no slot free a line without an entry asks for nothing.
-fn lines_that_ask(node: &Node) -> Among
-    ensures { (line : ℕ) → is_some (asked_by_operation node.now line) ≡ true →
-        is_among result (state_on node.now line) ≡ true }
+fn lines_that_ask(node: &Node) -> LineSet
+    ensures here { (line : ℕ) → is_in result line ≡ true → line < lines_of node.now }
+    ensures all { (line : ℕ) → has_pending_on node.now line ≡ true →
+        is_some (asked_by_operation node.now line) ≡ true → is_in result line ≡ true }
 {
+    let pending = node.pending_lines();
     if node.has_slot() {
-        Among::NotOf(LineKind::Moves)
+        pending.difference(node.lines_of(LineKind::Moves))
     } else {
-        Among::Of(LineKind::CouldGiveWay)
+        pending.intersection(node.lines_of(LineKind::CouldGiveWay))
     }
 }
 

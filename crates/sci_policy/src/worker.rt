@@ -18,7 +18,7 @@ pub trait Worker {
     // What no call changes of a worker: the machine that it is part of, and its place there.
     ghost stays: { Self → Self → Type 0 };
 
-    // Whether so many turns lead the worker from one state to another, with what it submits and performs between them.
+    // Whether this many turns lead the worker from one state to another, with what it submits and performs between them.
     ghost turned: { Self → ℕ → Self → Type 0 };
 
     /// Submits an operation, and gives its serial. Refused, unchanged, with the first of `SubmitFault`'s causes that

@@ -1,6 +1,6 @@
 use Rattle.std.proofs.Common.{refl, ap, ◌∙◌}
-use Rattle.sci_cache.specs.{Held.{state_of}, Kinds.{is_of}, LineKinds.{set_of}, LineSet.{is_in}}
-use Rattle.sci_cache.proofs.{KindSets.{for_each_kind}, LineSets.{in_either}}
+use Rattle.sci_cache.specs.{Held.{state_of}, Kinds.{is_of}, LineKinds.{has_line}, LineSet.{is_in}}
+use Rattle.sci_cache.proofs.KindSets.{for_each_kind}
 use Rattle.sci_cache.proofs.line_kinds.LineKinds.note.Goals as goal
 
 pub returns-clause-here : goal.returns-clause-here
@@ -10,11 +10,11 @@ returns-clause-here c = for_each_kind _ c.args.line (λ of. is_of of (state_of c
 
 pub returns-clause-others : goal.returns-clause-others
 returns-clause-others c = λ kind other ne.
-    for_each_kind _ other (λ of. is_in (set_of of c.args.self.now) other)
+    for_each_kind _ other (λ of. has_line of c.args.self.now other)
     (c.put.ensures.others other ne ∙ ap (λ sets. is_in sets.has_sharers other) c.self.view_is)
     (c.put-2.ensures.others other ne ∙ ap (λ sets. is_in sets.has_fresh_sharers other) c.self.view_is)
     (c.put-3.ensures.others other ne ∙ ap (λ sets. is_in sets.joins other) c.self.view_is)
     (c.put-4.ensures.others other ne ∙ ap (λ sets. is_in sets.must_send other) c.self.view_is)
     (c.put-5.ensures.others other ne ∙ ap (λ sets. is_in sets.gives_way other) c.self.view_is)
     (c.put-6.ensures.others other ne ∙ ap (λ sets. is_in sets.could_give_way other) c.self.view_is)
-    (in_either c.args.self.now.joins c.args.self.now.gives_way other) kind
+    refl kind

@@ -5,4 +5,4 @@ use Rattle.sci_cache.proofs.line_set.LineSet.intersection.Goals as goal
 
 pub returns : goal.returns
 returns c = λ line. in_both c.self.inside.bits c.other.inside.bits line
-    ∙ (ap (λ set. is_in set line && is_in c.other.inside.bits line) c.self.view_is ∙ ap (λ set. is_in c.args.self.now line && is_in set line) c.other.view_is)
+    ∙ (ap (λ set. is_in set line && is_in c.other.inside.bits line) c.self.view_is ∙ ap (λ set. is_in c.args.self line && is_in set line) c.other.view_is)

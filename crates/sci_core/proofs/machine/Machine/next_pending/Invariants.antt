@@ -4,8 +4,4 @@ use Rattle.sci_core.specs.{Core.{node_at}, Node.{pending_on}}
 use Rattle.sci_core.proofs.machine.Machine.next_pending.Given as goal
 
 abbrev pub invariant-nodes : goal.invariant-nodes
-invariant-nodes l = (n line : ℕ) → n < l.node → line < l.extent.lines → pending_on (node_at l.self n) line ≡ None
-
-abbrev pub invariant-lines : goal.invariant-lines
-invariant-lines l = ((n line : ℕ) → n < l.node → line < l.extent.lines → pending_on (node_at l.self n) line ≡ None)
-    × ((line : ℕ) → line < l.line → pending_on (node_at l.self l.node) line ≡ None)
+invariant-nodes l = (n line : ℕ) → n < l.node → line < l.self.size.lines → pending_on (node_at l.self n) line ≡ None
