@@ -1,7 +1,7 @@
 #!/usr/bin/env python3
 """Looks for proofs of a crate that the tactic `grind` finds by itself, and leaves those short:
 
-    scripts/make/shorten.py CRATE [LINES]    bodies of so many lines and more: 4 without the number
+    scripts/make/shorten.py CRATE [LINES]    bodies of LINES lines and more: 4 without the number
 
 Each lemma with one such clause gets the body `grind (arith, ..)`, with the lemmas that its body cited. `rt check` says which of
 these are no proofs, and they get their bodies back, until the crate is proved. Read what is left before you commit it, and run
@@ -36,7 +36,7 @@ def lemmas_in(lines):
 
 
 def clauses_of(lines, least):
-    """The clauses of at least so many lines whose proof isn't recursive."""
+    """The clauses of at least this many lines whose proof isn't recursive."""
     declared, known = lemmas_in(lines)
     for start, line in enumerate(lines):
         found = re.match(r"([a-z_][\w\-']*)\b", line)

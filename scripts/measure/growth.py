@@ -1,7 +1,7 @@
 #!/usr/bin/env python3
 """Prints how the cost of each command grows with its input: two tables, of sizes and of nodes.
 
-    scripts/measure/growth.py [RUNS]    the least processor time of so many runs of each, 5 if it isn't said
+    scripts/measure/growth.py [RUNS]    the least processor time of RUNS runs of each, 5 if it isn't said
 
 A size is a number of operations of a script, of events of a schedule, of entries of a log, or of packets. The slope is that of
 the time from the last size but one to the last: 1 if twice the input takes twice the time. The second table has the packets and

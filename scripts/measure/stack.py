@@ -1,7 +1,7 @@
 #!/usr/bin/env python3
 """Prints the least stack, in KB, with which each command still does its work, in steps of 4 (RLIMIT_STACK):
 
-    scripts/measure/stack.py [TRIES]    a size is enough if so many runs in a row end well: 20 without the number
+    scripts/measure/stack.py [TRIES]    a size is enough if TRIES runs in a row end well: 20 without the number
 
 The input is of 16 nodes: a script, a schedule and a log of 4,800 operations, events and entries, and 2,400 packets. Threads
 get the same limit as the first one, since the C library takes it for their stacks. It needs the built programs."""
@@ -47,7 +47,7 @@ def inputs():
 
 
 def ends_well(program, words, given, size):
-    """Whether a run with so many KB of stack isn't ended by a signal."""
+    """Whether a run with this many KB of stack isn't ended by a signal."""
     limit = lambda: resource.setrlimit(resource.RLIMIT_STACK, (size * 1024, size * 1024))
     try:
         ran = subprocess.run([program, *words.split()], input=given, stdout=subprocess.DEVNULL, stderr=subprocess.DEVNULL, preexec_fn=limit, env={})

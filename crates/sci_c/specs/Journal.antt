@@ -5,7 +5,7 @@ use Rattle.sci_words.specs.Stamped.{zero_stamped}
 use Rattle.sci_history.specs.{declared.entry.Entry.{Entry}, Audit.{AreWithin}, Placed.{log_of}}
 use Rattle.sci_c_values.specs.declared.entry.SciEntry.{SciEntry}
 
--- the logs of a machine of so many nodes, and its last contents
+-- the logs of a machine of this many nodes, and its last contents
 pub record JournalOf : Type 0 where
   pub nodes : ℕ
   pub logs : List (List Entry)

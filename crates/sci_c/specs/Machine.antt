@@ -37,7 +37,7 @@ pub record IsSending (c : SciEvent) (machine : Core) : Type 0 where
   pub enabled : IsSome (stepping machine event)
   pub sends : IsTrue (is_sending event)
 
--- the machine has come to rest by so many events
+-- the machine has come to rest by this many events
 pub record IsSettling (count : ℕ) (before after : Core) : Type 0 where
   pub settled : IsSettled after
   pub leads : Leads settles before after count

@@ -27,7 +27,7 @@ pub record IsCycleIn (old new : List SciEntry) (used : ℕ) (journal : JournalOf
   pub no_shortcut : HasNoShortcut steps
   pub stand : StandOver (map step_struct steps) old new used
 
--- so many entries have an order, or are such a cycle
+-- this many entries have an order, or are such a cycle
 pub record IsOrderOf (used : ℕ) (journal : JournalOf) : Type 0 where
   pub order : List Entry
   pub is_order : IsSequentialOrder journal.logs journal.last order

@@ -1,7 +1,7 @@
 -- What is written over the first items of an array.
 use Rattle.std.specs.Prelude.{◌≡◌, ℕ, ◌++◌, List, drop, length}
 
--- the items stand there, and are so many
+-- the items stand there, and are this many
 pub record StandOver {A : Type 0} (items old new : List A) (used : ℕ) : Type 0 where
   pub written : new ≡ items ++ drop used old
   pub length_is : used ≡ length items

@@ -8,7 +8,7 @@ ghost use Rattle.sci_words.specs.declared.limits.TheConstants.{WORDS_PER_LINE};
 use crate::random::Random;
 use sci_words::{Act, AskKind, LockOp, Op};
 
-/// A line, of so many: mostly one of the first two, so that many nodes share it. 0 if there is none.
+/// A line of a machine with this many lines, mostly one of the first two, so that many nodes share it. 0 if there is none.
 pub fn any_line(random: &mut Random, lines: u8) -> u8
     ensures drawn { result
         ≡ drawn (if drawn 3 random.old == 0 then lines else min lines 2) (after random.old) }

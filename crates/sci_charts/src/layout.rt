@@ -29,7 +29,7 @@ const ROW: u64 = 30;
 /// How far labels begin to the right of their columns.
 pub const LABEL: u64 = 8;
 
-/// After so many rows the names of the nodes stand once more.
+/// After this many rows the names of the nodes stand once more.
 pub const ROWS: u32 = 40;
 
 /// The line of a schedule in which its first event stands.

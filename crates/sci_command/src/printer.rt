@@ -9,7 +9,7 @@ use crate::writing::write_answer;
 use sci_text::{Tap, write_text};
 use std::io::Write;
 
-/// So many bytes wait before they are written.
+/// This many bytes wait before they are written.
 const WAITING_BYTES: usize = 65_536;
 
 /// Writes what waits of a text, unless a write has failed.

@@ -99,7 +99,7 @@ entry_rank (FreshJoining p sent c) = 2
 entry_rank (FreshHead f c) = 2
 entry_rank _ = 1
 
--- at most so many, of all lines in all nodes
+-- at most this many, of all lines in all nodes
 abbrev pub rank : Core → ℕ
 rank core = sum_by (λ n. sum_by (λ line. entry_rank (state_at core line n)) (range_with_len 0 core.size.lines)) (range_with_len 0 core.size.nodes)
 

@@ -1,4 +1,4 @@
--- How often a gate rests in so many turns.
+-- How often a gate rests in this many turns.
 use Rattle.std.proofs.Common.{◌≡◌, ◌≤◌, ◌<◌, ◌+◌, ◌*◌, ℕ, arith, true, false, Bool, List, [], ◌∷◌, ◌++◌, length, cond, if◌then◌else◌, length-append, refl}
 use Rattle.std.proofs.{Common.{ap, ◌∙◌, inl, inr}, lemmas.List.{Elements.{filter_map-append}, Sums.{sum_by-append}}}
 use Rattle.std.specs.Prelude.{◌⊎◌}
@@ -18,7 +18,7 @@ told_both first second = ap (λ (l : List Entry). length l) (filter_map-append e
 pub row_is_short : (round : Round) (restless : ℕ) → restless ≤ 15 → in_a_row round restless ≤ 16
 row_is_short round restless few = grind arith
 
--- A gate has heard these calls in so many turns, of which the last ones in a row had neither an entry nor a rest.
+-- A gate has heard these calls in this many turns, of which the last ones in a row had neither an entry nor a rest.
 pub record HasGone {G : Type 0} (hears : G → List Call → G → Type 0) (gate later : G) (old new : DriverOf) (before after : NodeOf) (turns restless : ℕ) : Type
     0 where
   pub calls : List Call

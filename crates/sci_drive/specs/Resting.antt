@@ -26,6 +26,6 @@ pub data AreBehind (round : Round) (restless next : ℕ) (calls : List Call) : T
   NotYet : calls ≡ AllDone false ∷ rests_if (is_rest_due round restless) → next ≡ row_after round restless → AreBehind round restless next calls
   AllAreDone : calls ≡ AllDone true ∷ [] → next ≡ in_a_row round restless → AreBehind round restless next calls
 
--- So many turns with these calls of the gate are at most 16 for each entry and each rest, and 16 more.
+-- This many turns with these calls of the gate are at most 16 for each entry and each rest, and 16 more.
 abbrev pub RestsInTime : ℕ → List Call → Type 0
 RestsInTime turns calls = turns ≤ RESTLESS_TURNS * (times_rested calls + length (told calls) + 1)

@@ -76,7 +76,7 @@ pub record GoesRound {G E : Type 0} (hears : G → List Call → G → Type 0) (
 
 -- ---- many rounds
 
--- So many rounds, one after another, with the gate's calls behind each, and so many turns in a row at their end without an entry
+-- This many rounds, one after another, with the gate's calls behind each, and this many turns in a row at their end without an entry
 -- or a rest.
 abbrev pub GoRounds : {G : Type 0} → (G → List Call → G → Type 0) → ℕ → ℕ → G → G → DriverOf → DriverOf → NodeOf → NodeOf → Type 0
 GoRounds hears zero restless gate later old new before after = (restless ≡ 0) × (gate ≡ later) × (old ≡ new) × (before ≡ after)

@@ -29,7 +29,7 @@ pub struct Ran {
     pub turns: u32,
 }
 
-/// Drives a worker through a script, a round at a time, for at most so many turns. It ends finished as soon as the
+/// Drives a worker through a script, a round at a time, for at most this many turns. It ends finished as soon as the
 /// whole script is answered and the gate says that all are done. The gate's rest is called after each turn in which
 /// nothing moved, and after 16 turns in a row without an entry or a rest. Up to four operations are pending at once,
 /// each on another line, and they may be performed in another order than the script's.
@@ -146,7 +146,7 @@ impl<'a> Driver<'a> {
         gate.all_done()
     }
 
-    /// Goes on with the script, a round at a time, for at most so many turns. It ends finished as soon as the whole script
+    /// Goes on with the script, a round at a time, for at most this many turns. It ends finished as soon as the whole script
     /// is answered and the gate says that all are done. The gate's rest is called after each turn in which nothing moved,
     /// and after 16 turns in a row without an entry or a rest. Requires the worker that this driver has driven. Refused if
     /// a turn of the worker is.

@@ -19,7 +19,7 @@ first_failing fails before [] = None
 first_failing fails before (entry ∷ entries) =
     if fails before entry then Some entry else first_failing fails (before ++ entry ∷ []) entries
 
--- every entry is on one of so many lines, and on a word of it
+-- every entry is on one of this many lines, and on a word of it
 abbrev pub IsWithin : ℕ → Entry → Type 0
 IsWithin lines entry = (entry.op.line < lines) × (entry.op.word < WORDS_PER_LINE)
 
@@ -135,7 +135,7 @@ abbrev pub IsFound : List Entry → Stamped → Option LineFault → Type 0
 IsFound entries last None = HasNoFault entries last
 IsFound entries last (Some fault) = IsLineFault entries last fault.kind fault.at
 
--- what is found on each of the first lines, so many of them
+-- what is found on each of the first lines, this many of them
 pub record AreFound (logs : List (List Entry)) (last : List Stamped) (lines : ℕ) (faults : List (Option LineFault)) : Type 0 where
   pub many : length faults ≡ lines
   pub each : (line : ℕ) → line < lines → IsFound (on_line line logs) (stamped_at last line) (slice_index_or faults line None)

@@ -34,7 +34,7 @@ pub record IsCycle (logs : List (List Entry)) (steps : List Step) : Type 0 where
   pub entries : AllByRecursion (IsInLog logs) steps
   pub round : IsRound steps
 
--- in a round of so many entries, the next one to this place
+-- in a round of this many entries, the next one to this place
 abbrev pub IsNextIn : (many here there : ℕ) → Type 0
 IsNextIn many here there = (there ≡ here + 1) ⊎ ((here + 1 ≡ many) × (there ≡ 0))
 

@@ -67,7 +67,7 @@ pub record IsPlacing (logs : List (List Entry)) (count : ℕ) (lines : List Line
 abbrev pub IsStuckAt : List LineState → List (List Entry) → ℕ → Type 0
 IsStuckAt lines rests node = (entry : Entry) (rest : List Entry) → log_of rests node ≡ entry ∷ rest → CanFollow (state_of lines entry.op.line) entry → ⊥
 
--- logs that are lawful with some last contents, on so many lines, each with the number of its loads at each version
+-- logs that are lawful with some last contents, on this many lines, each with the number of its loads at each version
 pub record AreOrderable (logs : List (List Entry)) (loads : List (List ℕ)) : Type 0 where
   pub last : List Stamped
   pub lawful : Lawful logs last

@@ -22,7 +22,7 @@ fn add_log<'a>(lists: &mut Vec<Vec<&'a Entry>>, log: &'a [Entry]) -> Result<(), 
     Ok(())
 }
 
-/// The entries on each of so many lines, by node, then by place in the log.
+/// The entries on each of this many lines, by node, then by place in the log.
 pub fn by_line<'a>(
     alloc: Global,
     logs: &'a Logs,

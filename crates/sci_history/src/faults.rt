@@ -15,7 +15,7 @@ use std::collections::BTreeSet;
 
 const NODES: usize = MAX_NODES as usize;
 
-/// A line's entries are copied if they are at most so many, which one log can have.
+/// A line's entries are copied if they are at most this many, which one log can have.
 const MAX_COPIED: usize = MAX_OPERATIONS as usize;
 
 /// A fault of one line.

@@ -21,7 +21,7 @@ lane_number nodes cell = lane_place nodes cell.kind cell.sender cell.receiver
 
 -- ---- words
 
--- where the cell begins that is used after so many packets
+-- where the cell begins that is used after this many packets
 unfoldable pub cell_place : ℕ → ℕ → ℕ
 cell_place lane turn = (lane * LANE_CELLS + turn % LANE_CELLS) * CELL_WORDS
 

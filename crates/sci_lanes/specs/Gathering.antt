@@ -135,7 +135,7 @@ abbrev pub AreKept : List EndOf → List EndOf → List Part → Type 0
 AreKept ends left parts = (place : ℕ) (end : EndOf) → slice_get ends place ≡ Some end
     → ((k : ℕ) × (slice_get left k ≡ Some end)) ⊎ ((me_of end.part < length parts) × (slice_index_or parts (me_of end.part) no_part ≡ end.part))
 
--- a vector with nothing in it that has room for so many
+-- a vector with nothing in it that has room for this many
 abbrev pub HasRoom : {X Z : Type 0} → ℕ → Vec X Z → Type 0
 HasRoom count v = (v.items ≡ []) × (vec_len v ≡ 0) × (count ≤ vec_capacity v)
 

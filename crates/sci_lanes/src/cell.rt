@@ -24,7 +24,7 @@ pub struct CellId {
 }
 
 impl CellId {
-    /// The number of the cell's lane among all those of a machine of so many nodes: the lanes of requests stand before
+    /// The number of the cell's lane among all those of a machine of this many nodes: the lanes of requests stand before
     /// those of answers, for each sender in order those to each receiver in order.
     pub(crate) fn lane(&self, nodes: u8) -> usize
         ensures { result ≡ lane_number nodes self.now }
@@ -44,7 +44,7 @@ impl CellId {
         self.kind.index() * usize::from(nodes) + usize::from(sender)
     }
 
-    /// Where a word of the cell stands in the table of a machine of so many nodes.
+    /// Where a word of the cell stands in the table of a machine of this many nodes.
     #[tactic(auto, unfolding(crate::specs::Cells::cell_place))]
     pub(crate) fn place(&self, nodes: u8, index: usize) -> usize
         requires { index < CELL_WORDS }
@@ -56,7 +56,7 @@ impl CellId {
     }
 }
 
-/// Where the first cell of each lane to a node begins in the table of a machine of so many nodes, in the order of inboxes.
+/// Where the first cell of each lane to a node begins in the table of a machine of this many nodes, in the order of inboxes.
 /// Refused if memory is.
 pub(crate) fn first_places(alloc: Global, me: u8, nodes: u8) -> Result<Vec<usize>, AllocError>
     ensures { IfOk result (λ places. ArePlaces nodes me (replicate (2 * nodes) 0) places.items) }
@@ -70,7 +70,7 @@ pub(crate) fn first_places(alloc: Global, me: u8, nodes: u8) -> Result<Vec<usize
     Ok(places)
 }
 
-/// Where the own word of a node stands in the table of a machine of so many nodes.
+/// Where the own word of a node stands in the table of a machine of this many nodes.
 pub(crate) fn own_word(nodes: u8, node: u8) -> usize
     ensures { result ≡ own_place nodes node }
 {

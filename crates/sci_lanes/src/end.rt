@@ -79,7 +79,7 @@ impl LaneEnd {
     ghost use Rattle.sci_core.specs.{declared.lane.LaneKind.TheVariants.{Requests}, Core.{lane_of, side}};
     ghost use Rattle.sci_core.specs.Node.{node_issuing, node_performing};
 
-    /// The end of a node in a machine of so many nodes, in which nothing was done yet. Refused if memory is.
+    /// The end of a node in a machine of this many nodes, in which nothing was done yet. Refused if memory is.
     pub(crate) fn new(
         alloc: Global,
         seat: NodeSeat,

@@ -132,7 +132,7 @@ struct Room {
 }
 
 impl Room {
-    /// Memory for the gathering of so many nodes.
+    /// Memory for the gathering of this many nodes.
     fn new(alloc: Global, nodes: u8) -> Result<Room, AllocError>
         requires few { nodes ≤ MAX_NODES }
         ensures fresh { IfOk result (IsFresh nodes) }

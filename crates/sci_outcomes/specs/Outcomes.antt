@@ -36,7 +36,7 @@ is_written operations place = list_any (λ p. may_write place p.1) operations
 abbrev pub written_on : List (ℕ × Op) → ℕ → List Place
 written_on operations line = filter (is_written operations) (map (λ word. record { line = line; word = word }) (range_with_len 0 WORDS_PER_LINE))
 
--- the words of so many lines that some of the operations may write, by line, then by place
+-- the words of this many lines that some of the operations may write, by line, then by place
 abbrev pub written_places : ℕ → List (ℕ × Op) → List Place
 written_places lines operations = flat_map (written_on operations) (range_with_len 0 lines)
 
@@ -44,7 +44,7 @@ written_places lines operations = flat_map (written_on operations) (range_with_l
 abbrev pub held_at : List Stamped → Place → Held
 held_at last place = record { line = place.line; word = place.word; value = slice_index (stamped_at last place.line).line place.word }
 
--- the place is one of so many lines
+-- the place is one of this many lines
 abbrev pub IsPlaceWithin : ℕ → Place → Type 0
 IsPlaceWithin lines place = (place.line < lines) × (place.word < WORDS_PER_LINE)
 

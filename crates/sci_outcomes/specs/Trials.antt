@@ -53,7 +53,7 @@ abbrev pub AreSightings : ScriptValue → Turns → Issuing → List Sighting �
 AreSightings script turns issuing seen =
     (number : ℕ) (d : Sighting) → number < length seen → IsSightingOf script (turns_of_run turns number) issuing (slice_index_or seen number d)
 
--- the rows of what was seen of so many runs of the script, in their order
+-- the rows of what was seen of this many runs of the script, in their order
 pub record AreOutcomes (script : ScriptValue) (turns : Turns) (issuing : Issuing) (runs : ℕ) (rows : List Row) : Type 0 where
   pub seen : List Sighting
   pub many : length seen ≡ runs

@@ -42,7 +42,7 @@ fn push_written(
     Ok(())
 }
 
-/// The words of so many lines that some of the operations may write, by line, then by place. Refused if memory is.
+/// The words of this many lines that some of the operations may write, by line, then by place. Refused if memory is.
 pub(crate) fn written_places(
     alloc: Global,
     lines: u8,

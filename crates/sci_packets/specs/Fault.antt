@@ -5,7 +5,7 @@ use Rattle.sci_packets.specs.declared.fault.PacketFault.TheVariants.{Short, Unkn
 use Rattle.sci_packets.specs.declared.{command.Command.{Command}, header.Header.{Header}}
 use Rattle.sci_packets.specs.{Fields.{header_in, word_bytes}, Table.{identifier_of, command_with, body_fault}}
 
--- the first fault of a header whose packet has so many bytes, if it has this command
+-- the first fault of a header whose packet has this many bytes, if it has this command
 unfoldable pub header_fault : Option Command → Header → ℕ → Option PacketFault
 header_fault None h length = Some UnknownCommand
 header_fault (Some command) h length =

@@ -59,7 +59,7 @@ pub record SpellsInWords (p : Packet) (words : List ℕ) : Type 0 where
   pub packet : IsPacket p
   pub spelled_so : words ≡ words_of p
 
--- each packet whose first word this is has so many words
+-- each packet whose first word this is has this many words
 abbrev pub CountsWords : ℕ → ℕ → Type 0
 CountsWords first count = (p : Packet) (rest : List ℕ) → SpellsInWords p (first ∷ rest) → count ≡ length (first ∷ rest)
 

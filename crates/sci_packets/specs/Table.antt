@@ -155,7 +155,7 @@ unfoldable pub is_misnamed : Command → Option ℕ → Bool
 is_misnamed command identifier =
     if must_name command then is_none identifier else (if may_name command then false else is_some identifier)
 
--- what is wrong with the identifier of a packet of so many bytes or, if the command takes them, with its contents
+-- what is wrong with the identifier of a packet of this many bytes or, if the command takes them, with its contents
 unfoldable pub body_fault : Command → Option ℕ → ℕ → Option PacketFault
 body_fault command identifier length =
     if is_misnamed command identifier then Some BadIdentifier

@@ -15,7 +15,7 @@ use sci_words::Extent;
 use std::alloc::Global;
 use std::test::*;
 
-/// Walks on a machine of so many nodes, lines and slots: of how many seeds, and how many events each tries.
+/// Walks on a machine of this many nodes, lines and slots: of how many seeds, and how many events each tries.
 type Walks = (u8, u8, u8, u16, u16);
 
 /// An error if the logs aren't lawful, or have no one order of all entries.

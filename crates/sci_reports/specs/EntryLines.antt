@@ -28,7 +28,7 @@ entries_in list = entries_of (entry_refs list)
 abbrev pub on_line_from : ℕ → ℕ → List Entry → List (ℕ × Entry)
 on_line_from line first entries = filter (λ it. is_on_line line it.1) (enumerate_from first entries)
 
--- the entries of logs on a line of memory, behind so many lines of text
+-- the entries of logs on a line of memory, behind this many lines of text
 abbrev pub numbered_on : ℕ → ℕ → List (List Entry) → List (ℕ × Entry)
 numbered_on line before logs = on_line_from line (before + 1) (flat_map (λ log. log) logs)
 
@@ -36,7 +36,7 @@ numbered_on line before logs = on_line_from line (before + 1) (flat_map (λ log.
 abbrev pub IsOpening : List ℕ → ℕ → Type 0
 IsOpening text count = (BeginsLog text × (count ≡ 1)) ⊎ ((BeginsLog text → ⊥) × (count ≡ 0))
 
--- how many lines come before the entries of a text of so many lines of memory
+-- how many lines come before the entries of a text of this many lines of memory
 abbrev pub IsBeforeEntries : List ℕ → ℕ → ℕ → Type 0
 IsBeforeEntries text lines before = (opening : ℕ) × IsOpening text opening × (before ≡ opening + lines)
 

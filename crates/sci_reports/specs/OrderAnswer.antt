@@ -84,7 +84,7 @@ IsVerdictOf keeps logs last (Fault line kind at) = IsFault logs last line kind a
 IsVerdictOf keeps logs last (Order order) = Lawful logs last × IsOrderVerdict (kept keeps logs) last (Order order)
 IsVerdictOf keeps logs last (Cycle steps) = Lawful logs last × IsOrderVerdict (kept keeps logs) last (Cycle steps)
 
--- What a search for an order finds is written, where so many lines of the text come before the entries. It is Done exactly if
+-- What a search for an order finds is written, where this many lines of the text come before the entries. It is Done exactly if
 -- the logs are lawful and there is such an order
 pub record IsFound (request : OrderRequest) (before : ℕ) (logs : List (List Entry)) (last : List Stamped) (text : List ℕ) (outcome : Outcome) : Type 0 where
   pub verdict : OrderVerdict

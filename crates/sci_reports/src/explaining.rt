@@ -17,7 +17,7 @@ use sci_text::{Tap, logs_of, read_input};
 use std::alloc::{AllocError, Global};
 use std::io::Read;
 
-/// What a note of a line of memory is about, of a log with so many lines of text before its entries.
+/// What a note of a line of memory is about, of a log with this many lines of text before its entries.
 fn subject_of<'a>(
     alloc: Global,
     before: usize,
@@ -54,7 +54,7 @@ fn piece(alloc: Global, fault: LineFault, subject: &Subject) -> Result<Vec<u8>, 
     Ok(text)
 }
 
-/// What is written of all lines of memory, of a log with so many lines of text before its entries.
+/// What is written of all lines of memory, of a log with this many lines of text before its entries.
 fn notes(alloc: Global, before: usize, logs: &Logs, last: &Last) -> Result<Vec<u8>, AllocError>
     requires within { AreWithin (length last.now) logs.now }
     requires lines { length last.now ≤ before }

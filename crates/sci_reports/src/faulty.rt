@@ -19,7 +19,7 @@ const NODES: usize = MAX_NODES as usize;
 pub enum Cause<'a> {
     /// This entry before it made its version already.
     MadeBefore(Numbered<'a>),
-    /// The line has so many makers, which should make the versions from 1 to their number; the second number is the least
+    /// The line has this many makers, which should make the versions from 1 to their number; the second number is the least
     /// version from 1 on that no entry makes.
     FewMakers(u64, u64),
     /// The word was another one when its turn came: this one, which that entry made, if it isn't the zero that was there

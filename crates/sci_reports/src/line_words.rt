@@ -51,7 +51,7 @@ pub fn is_number(word: &str) -> bool {
 }
 
 impl Limits {
-    /// The numbers from 0 on of which there are so many.
+    /// The numbers from 0 on of which there are this many.
     pub fn below(count: u64) -> Limits {
         Limits {
             least: 0,

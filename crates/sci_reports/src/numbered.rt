@@ -70,7 +70,7 @@ fn place_of(log: &[Entry], entry: &Entry) -> Option<usize>
     None
 }
 
-/// The number of the text's line on which an entry stands, behind so many lines before all entries. None if it isn't in the
+/// The number of the text's line on which an entry stands, behind this many lines before all entries. None if it isn't in the
 /// logs. A node has at most 65,536 entries.
 pub fn line_of_entry(logs: &Logs, before: usize, entry: &Entry) -> Option<usize>
     requires few { (n : ℕ) → length (log_of logs.now n) ≤ MAX_OPERATIONS }
@@ -105,7 +105,7 @@ fn add_log<'a>(
     Ok(())
 }
 
-/// The entries on a line of memory, in the order of the text, behind so many lines of text before all entries. A node has at
+/// The entries on a line of memory, in the order of the text, behind this many lines of text before all entries. A node has at
 /// most 65,536 entries.
 pub fn entries_on<'a>(
     alloc: Global,

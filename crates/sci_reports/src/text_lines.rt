@@ -48,7 +48,7 @@ fn last_lines(text: &[u8]) -> usize {
         .count()
 }
 
-/// What can stand on a line of a log in format 1, behind so many others.
+/// What can stand on a line of a log in format 1, behind this many others.
 fn form_in_format_1(text: &[u8], before: usize) -> Form {
     let lines = last_lines(text);
     let says_last = match line_of(text, before.saturating_add(1)) {
@@ -64,7 +64,7 @@ fn form_in_format_1(text: &[u8], before: usize) -> Form {
     })
 }
 
-/// What can stand on a line of a log, behind so many others.
+/// What can stand on a line of a log, behind this many others.
 fn form_in_log(text: &[u8], before: usize) -> Form {
     if !text.starts_with(b"log ") {
         return form_in_format_1(text, before);

@@ -29,7 +29,7 @@ pub(crate) struct Busy<N> {
 }
 
 impl<N: Nodes + Drop> Busy<N> {
-    /// The nodes of a machine with so many nodes and lines, which have nothing to do.
+    /// The nodes of a machine with this many nodes and lines, which have nothing to do.
     pub(crate) fn new(alloc: Global, nodes: N, count: u8, lines: u8) -> Result<Busy<N>, Fail> {
         let mut scripts = Vec::new(alloc);
         for _node in 0..count {
@@ -47,7 +47,7 @@ impl<N: Nodes + Drop> Busy<N> {
         })
     }
 
-    /// The nodes of a machine with so many nodes and one line, each of which has these operations on word 0 to do.
+    /// The nodes of a machine with this many nodes and one line, each of which has these operations on word 0 to do.
     pub(crate) fn sharing(
         alloc: Global,
         nodes: N,

@@ -33,7 +33,7 @@ impl Model for ByHand {
 }
 
 impl ByHand {
-    /// A machine in which nothing was done yet. Each node may issue so many operations, at most 100. Refused if memory
+    /// A machine in which nothing was done yet. Each node may issue this many operations, at most 100. Refused if memory
     /// is.
     pub(crate) fn new(alloc: Global, extent: Extent, limit: u32) -> Result<ByHand, AllocError> {
         let (lanes, ends) = Lanes::new(alloc, extent, limit.clamp(1, 100))?;

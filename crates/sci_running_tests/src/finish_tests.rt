@@ -114,7 +114,7 @@ fn a_lost_station_is_missing(rt: HostRuntime) -> Result<(), Fail> {
     Ok(())
 }
 
-/// Three stations that add to one word, after so many rounds.
+/// Three stations that add to one word, after this many rounds.
 fn adding(alloc: Global, rounds: usize) -> Result<Running, Fail> {
     let mut running = Running::of(alloc, (3, 1, 1), 1)?;
     for node in 0..3 {

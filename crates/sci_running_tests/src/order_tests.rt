@@ -120,7 +120,7 @@ fn random_orders_end(rt: HostRuntime) -> Result<(), Fail> {
     Ok(())
 }
 
-/// A random operation on one of so many lines.
+/// A random operation on one of this many lines.
 fn any_op(random: &mut Random, lines: u8) -> Op {
     let line = random.below(lines);
     let act = match random.below(3) {

@@ -53,7 +53,7 @@ all_opened s issuing recorder extent limit all drivers policies opens nodes line
           (opened_work s issuing n (opening_node n size) (opened_fresh n size)));
     }
 
--- so many operations as a node has at most
+-- as many operations as a node has at most
 room_for : {Z : Type 0} (s : ScriptValue) (limit : ℕ) (all : List (Vec Op Z)) → length all ≡ s.nodes
     → ((k : ℕ) (own : Vec Op Z) → k < s.nodes → (slice_index_or all k own).items ≡ operations_of k s.operations)
     → All (λ (own : Vec Op Z). length own.items ≤ limit) all → (n : ℕ) → n < s.nodes → length (operations_of n s.operations) ≤ limit

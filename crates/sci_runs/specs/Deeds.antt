@@ -45,7 +45,7 @@ Does n (Works e ∷ deeds) before old after new = (next : Core) × IsWorkOf n e 
 Does n (Turns progress ∷ deeds) before old after new =
     (policy : PolicyOf) × (next : Core) × IsWholeTurn n before old policy next progress × Does n deeds policy next after new
 
--- so many turns of node n, with what it issues and performs between them
+-- this many turns of node n, with what it issues and performs between them
 pub record Takes (n turns : ℕ) (before : PolicyOf) (old : Core) (after : PolicyOf) (new : Core) : Type 0 where
   pub deeds : List Deed
   pub many : turns_among deeds ≡ turns

@@ -42,7 +42,7 @@ pub record IsRound (n : ℕ) (old new : Moment) : Type 0 where
   pub drivers : StaysBut n old.drivers new.drivers
   pub policies : StaysBut n old.policies new.policies
 
--- so many rounds, of the nodes that come in this order
+-- this many rounds, of the nodes that come in this order
 abbrev pub Played : ℕ → ℕ → Order → Moment → Order → Moment → Type 0
 Played nodes zero order old later new = (order ≡ later) × (old ≡ new)
 Played nodes (suc rounds) order old later new =
@@ -57,7 +57,7 @@ pub record Begins (script : ScriptValue) (issuing : Issuing) (first : Moment) : 
   pub drivers : (node : ℕ) (d : DriverOf) → node < script.nodes → driver_at first node d ≡ opening_driver (operations_of node script.operations) issuing
   pub policies : (node : ℕ) → policy_at first node ≡ opening_policy
 
--- The schedule has the events of so many rounds by the policy: they begin anew, and lead to the state behind the schedule.
+-- The schedule has the events of this many rounds by the policy: they begin anew, and lead to the state behind the schedule.
 pub record IsPlayed (script : ScriptValue) (issuing : Issuing) (seed : Option ℕ) (rounds : ℕ) (schedule : ScheduleValue) : Type 0 where
   pub first : Moment
   pub begins : Begins script issuing first

@@ -8,7 +8,7 @@ abbrev pub first_order : Option ℕ → Order
 first_order None = Circle 0
 first_order (Some seed) = Drawn (seeded seed)
 
--- the node whose turn comes next, of so many
+-- the node whose turn comes next, of this many
 abbrev pub next_node : ℕ → Order → ℕ
 next_node nodes (Circle next) = if nat_lt next nodes then next else 0
 next_node nodes (Drawn state) = drawn nodes state

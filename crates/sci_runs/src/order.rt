@@ -25,7 +25,7 @@ impl Order {
         }
     }
 
-    /// The node whose turn comes next, of so many nodes. Requires that there is a node.
+    /// The node whose turn comes next, of this many nodes. Requires that there is a node.
     pub(crate) fn next(&mut self, nodes: u8) -> u8
         requires { 0 < nodes }
         ensures node { result ≡ next_node nodes self.old }

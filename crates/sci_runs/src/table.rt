@@ -46,7 +46,7 @@ impl<'a> Model for Table<'a> {
     }) };
 }
 
-/// The most operations of a node, and at least 1: so many entries of its log need room. Requires that each has at most 65,536.
+/// The most operations of a node, and at least 1: this many entries of its log need room. Requires that each has at most 65,536.
 fn most_operations(operations: &[Vec<Op>]) -> u32
     requires few { All (λ own. length own.items ≤ MAX_OPERATIONS) operations.now }
     ensures some { 1 ≤ result }
@@ -127,7 +127,7 @@ impl<'a> Table<'a> {
         }
     }
 
-    /// The nodes take turns in this order, at most so many, until each operation of the script has its entry. Requires that
+    /// The nodes take turns in this order, at most this many, until each operation of the script has its entry. Requires that
     /// no event was lost. Refused if memory is, or if there are more than 500,000 events.
     pub(crate) fn go_on(&mut self, order: &mut Order, turns: u64) -> Result<Ran, RunFault>
         requires recorded { self.old.recorder.lost ≡ None }

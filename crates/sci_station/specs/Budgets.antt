@@ -1,7 +1,7 @@
 -- How many steps on words a turn may still make.
 use Rattle.std.specs.Prelude.{◌≡◌, ◌≤◌, ◌+◌, ℕ, Option, Some, None, is_none, unwrap_or}
 
--- so many steps fewer, or still no limit
+-- this many steps fewer, or still no limit
 abbrev pub HasLess : ℕ → Option ℕ → Option ℕ → Type 0
 HasLess steps None None = Unit {0}
 HasLess steps (Some old) (Some new) = new + steps ≡ old

@@ -73,7 +73,7 @@ impl StationPost {
         }
     }
 
-    /// Allows a turn so many more steps on words, or as many as it likes. The node is one of a state.
+    /// Allows a turn this many more steps on words, or as many as it likes. The node is one of a state.
     pub(crate) fn allow(&mut self, left: Option<u32>)
         ensures allowed { self.new ≡ record self.old { left = left } }
         ensures shown { IsShown self.new.end.part }

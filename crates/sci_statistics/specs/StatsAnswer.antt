@@ -129,7 +129,7 @@ line_part passages line = line_text line (line_figures (on_line line passages))
 unfoldable pub node_part : List Passage → ℕ → List ℕ
 node_part passages n = figures_text (group_of (codes "node.") n) (node_rows (node_figures (at_node n passages))) ++ waits_text n (node_waits n passages)
 
--- the one that is asked for, or all of so many
+-- the one that is asked for, or all of this many
 abbrev pub shown : Option ℕ → ℕ → List ℕ
 shown None count = range_with_len 0 count
 shown (Some n) count = n ∷ []

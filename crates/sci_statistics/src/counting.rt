@@ -27,7 +27,7 @@ pub struct StatsRequest {
     pub node: Option<u8>,
 }
 
-/// Which of so many lines, or nodes, are shown: the one that is asked for, or all.
+/// Which of this many lines, or nodes, are shown: the one that is asked for, or all.
 #[derive(Clone, Copy)]
 struct Shown {
     asked: Option<u8>,

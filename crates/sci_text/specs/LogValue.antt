@@ -50,7 +50,7 @@ pub record AreNumbersWithin (form : Form) (lines : ℕ) (entry : Entry) : Type 0
   pub line : entry.op.line < lines
   pub word : entry.op.word < WORDS_PER_LINE
 
--- an entry of such a form, whose line is one of so many
+-- an entry of such a form, whose line is one of this many
 pub record EntryFits (form : Form) (lines : ℕ) (entry : Entry) : Type 0 where
   pub numbers : AreNumbersWithin form lines entry
   pub operands : ActFits entry.op.act

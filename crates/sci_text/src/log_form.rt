@@ -111,7 +111,7 @@ impl Form {
         }
     }
 
-    /// Whether the numbers of an entry are within the limits, if there are so many lines.
+    /// Whether the numbers of an entry are within the limits, if there are this many lines.
     pub fn admits(&self, lines: usize, entry: &Entry) -> bool
         ensures yes { OnTrue result (AreNumbersWithin self.now lines entry.now) }
         ensures no { OnFalse result (AreNumbersWithin self.now lines entry.now → ⊥) }

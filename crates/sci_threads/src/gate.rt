@@ -7,7 +7,7 @@ use std::alloc::{AllocError, Global};
 use std::sync::atomic::{AtomicU64, Ordering};
 use std::{hint, thread};
 
-/// So many rests after an answer are spins, each of as many pauses. All further rests are yields.
+/// This many rests after an answer are spins, each of as many pauses. All further rests are yields.
 const SPINS: u32 = 4;
 
 /// Lets a node submit each operation as soon as it can, counts the nodes that are done, and yields the thread where
@@ -25,7 +25,7 @@ pub struct YieldingGate<'a> {
 impl<'a> YieldingGate<'a> {
     ghost use Rattle.std.specs.Prelude.{◌≡◌, IfOk, length};
 
-    /// One gate for each of so many nodes, which count those that are done in one word. It is 0 before the run. Refused
+    /// One gate for each of this many nodes, which count those that are done in one word. It is 0 before the run. Refused
     /// if memory is.
     pub fn for_nodes(
         alloc: Global,

@@ -11,7 +11,7 @@ use std::alloc::AllocError;
 /// How many turns a node takes before it looks whether all have begun.
 const SLICE: u32 = 10_000;
 
-/// After so many looks a node gives up waiting for the others to begin.
+/// After this many looks a node gives up waiting for the others to begin.
 const PATIENCE: u32 = 25;
 
 /// A node's share of a run: its station with the driver that drives it, its gate, how many turns it may still take, and
@@ -34,7 +34,7 @@ impl<'a, G: Gate> Share<'a, G> {
         }
     }
 
-    /// Goes on for at most so many turns, unless it has ended.
+    /// Goes on for at most this many turns, unless it has ended.
     pub(crate) fn go_on(&mut self, turns: u32)
         requires well { IsWell self.old.driver self.old.station.end self.old.finished }
         ensures well { IsWell self.new.driver self.new.station.end self.new.finished }

@@ -11,7 +11,7 @@ pub(crate) struct Start {
 }
 
 impl Start {
-    /// None of so many nodes has begun.
+    /// None of this many nodes has begun.
     pub(crate) fn new(nodes: usize) -> Start {
         Start {
             nodes: nodes as u64,

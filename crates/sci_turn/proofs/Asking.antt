@@ -11,7 +11,7 @@ use Rattle.sci_turn.specs.Far.{HasAskedAll}
 use Rattle.sci_turn.proofs.LongerTurns.{moved_more, moved_still}
 use Rattle.sci_words.specs.declared.event.Event.TheVariants as event
 
--- so many asks at least since some turn came so far
+-- this many asks at least since some turn came so far
 abbrev pub AsksSo : ℕ → PolicyOf → PostOf → PolicyOf → PostOf → Progress → Progress → Type 0
 AsksSo count before old after new told tells =
     (policy : PolicyOf) (start : PostOf) → HasMoved policy start before old told

@@ -168,7 +168,7 @@ fn take_all<P: Post>(
     Ok(())
 }
 
-/// The node that comes after another in a circle of so many.
+/// The node that comes after another in a circle of this many.
 fn after(node: u8, nodes: u8) -> u8
     requires { node < nodes }
     ensures { result ≡ (node + 1) % nodes }

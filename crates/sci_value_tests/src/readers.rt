@@ -51,7 +51,7 @@ pub(crate) fn refused_lines<F: Format>(
     Ok(())
 }
 
-/// That a front has this fault with so many nines and the end of the line behind it.
+/// That a front has this fault with this many nines and the end of the line behind it.
 pub(crate) fn refused_nines<F: Format>(
     rt: &(impl Abort + AllocGlobal),
     front: &[u8],
@@ -125,7 +125,7 @@ pub(crate) fn repeated(
     Ok(text)
 }
 
-/// Gives so many bytes `m`, as much as each buffer has room for.
+/// Gives this many bytes `m`, as much as each buffer has room for.
 #[derive(Drop)]
 pub(crate) struct Many(pub(crate) usize);
 

@@ -53,7 +53,7 @@ fn go_round(steps: &[Step], after: &[u8]) -> bool {
     node == 0
 }
 
-/// The cycle that is found in rings goes through node 0 and has so many entries.
+/// The cycle that is found in rings goes through node 0 and has this many entries.
 fn expect_ring(alloc: Global, after: &[u8], more: &str, count: usize) -> Result<(), Fail> {
     let (logs, last) = rings(alloc, after, more)?;
     match sequential_order(alloc, &logs, &last)? {

@@ -7,7 +7,7 @@ use std::alloc::Global;
 use std::io;
 use std::io::{ErrorKind, Read, Write};
 
-/// Takes up to so many bytes of each write, except that the call of number `fails_at` fails or takes nothing, and
+/// Takes up to this many bytes of each write, except that the call of number `fails_at` fails or takes nothing, and
 /// notes how large each buffer was; for a flush it notes 1,000.
 #[derive(Drop)]
 struct Taking {

@@ -23,7 +23,7 @@ IsWalkFault walk dead kinds.TooMany line = ⊥
 IsWalkFault walk dead kinds.Read line = ⊥
 IsWalkFault walk dead kinds.Write line = ⊥
 
--- a schedule of a machine of just this size, with just so many events
+-- a schedule of a machine of just this size, with just this many events
 pub record IsWalked (nodes lines slots count : ℕ) (schedule : ScheduleValue) : Type 0 where
   pub good : IsSchedule schedule
   pub nodes_are : schedule.nodes ≡ nodes

@@ -17,7 +17,7 @@ use std::alloc::{AllocError, Global};
 /// How many events are drawn for an enabled one, at most.
 const DRAWS: u16 = 10_000;
 
-/// The node that stands so many steps behind another in the circle of all nodes.
+/// The node that stands this many steps behind another in the circle of all nodes.
 fn turn(first: u8, steps: u8, nodes: u8) -> u8
     requires first { first < nodes }
     requires steps { steps < nodes }
@@ -99,7 +99,7 @@ struct Circle {
     nodes: u8,
 }
 
-/// How many steps behind the first node of a circle, and no fewer than so many, a node stands that passes. None if there is
+/// How many steps behind the first node of a circle, and no fewer than this many, a node stands that passes. None if there is
 /// none in the circle.
 fn steps_to_one<F: Fn(&Node) -> bool>(
     machine: &Machine,
@@ -120,7 +120,7 @@ fn steps_to_one<F: Fn(&Node) -> bool>(
     None
 }
 
-/// How many steps behind an event's own node, and no fewer than so many, the first node stands where the event may be
+/// How many steps behind an event's own node, and no fewer than this many, the first node stands where the event may be
 /// enabled, as far as a quick look tells: a node that is passed over doesn't enable it. None if there is none in the circle
 /// of all nodes. Each sort of event has its own walk, since most draws walk the whole circle.
 fn steps_to(machine: &Machine, event: &Event, least: u8, extent: Extent) -> Option<u8>
@@ -204,7 +204,7 @@ fn next_event(
     Ok(event)
 }
 
-/// A schedule of so many events of a machine of this size, drawn from a seed. About `share` in a hundred of them are any
+/// A schedule of this many events of a machine of this size, drawn from a seed. About `share` in a hundred of them are any
 /// events, and the others are enabled when they come. The same numbers give the same schedule. Refused if memory is.
 pub fn schedule_of(
     alloc: Global,

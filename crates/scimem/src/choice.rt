@@ -28,7 +28,7 @@ pub enum Command {
     Oracle,
     /// Write the log of the machine after a schedule.
     Replay,
-    /// Write the log of a run with one thread a node, each for at most so many turns, 1 to 1,000,000,000.
+    /// Write the log of a run with one thread a node, each for at most this many turns, 1 to 1,000,000,000.
     Threads { turns: u32 },
     /// Write a line for each packet of the input.
     Decode,

@@ -70,7 +70,7 @@ of a schedule:
 
 of five numbers:
   random N M C EVENTS SEED [--dead K]
-                    a schedule of so many events, at most 500,000, of a machine
+                    a schedule of EVENTS events, at most 500,000, of a machine
                     of N nodes, M lines and C slots a node. The events are drawn
                     from the seed, each enabled when it comes, but for about K
                     in a hundred, 0 to 100. Standard input isn't read.

@@ -22,7 +22,7 @@ pub short_log : (core : Core) (n : ℕ) → IsWellFormed core → core.size.limi
 short_log core n well few lt = let part = well.each_part n lt in let most = part.most in let logged = part.fits.logged in let issued = part.fits.issued in
     omega arith
 
--- the node that comes after so many others has their number, and its log is its own
+-- the node that comes after this many others has their number, and its log is its own
 pub record IsNextNode (core : Core) (n : ℕ) (node : NodeOf) : Type 0 where
   pub here : node_at core n ≡ node
   pub below : n < core.size.nodes

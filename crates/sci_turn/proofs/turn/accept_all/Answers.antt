@@ -5,7 +5,7 @@ use Rattle.sci_turn.specs.{Posts.{IsSamePost, PostOf, lane_to, nodes_in}, Idle.{
 use Rattle.sci_turn.proofs.{Moments.{node_stays, so_after, so_now, so_still}, LongerTurns.{goes_then}}
 use Rattle.sci_turn.proofs.turn.accept_all.Goals as goal
 
--- a node that is there before is one of so many
+-- a node that is there before is one of this many
 below_nodes : (from nodes : ℕ) (old mid : PostOf) → IsSamePost old mid → nodes ≡ nodes_in old → from < nodes_in mid → from < nodes
 below_nodes from nodes old mid same is lt = subst (λ (n : ℕ). from < n) (sym is) (subst (λ (size : Size). from < size.nodes) same.size lt)
 

@@ -1,4 +1,4 @@
--- So many moves were made, and the weight of what is under way fell by as much.
+-- This many moves were made, and the weight of what is under way fell by as much.
 use Rattle.sci_core.specs.Draining.{weight}
 use Rattle.sci_core.proofs.Settling.Moves.{Drained}
 use Rattle.sci_core.proofs.machine.Machine.drain.Given as goal

@@ -1,4 +1,4 @@
--- So many events were made, and each pending operation takes nine at most.
+-- This many events were made, and each pending operation takes nine at most.
 use Rattle.sci_core.specs.Settling.{pending_count}
 use Rattle.sci_core.proofs.Settling.PendingRuns.{Worked}
 use Rattle.sci_core.proofs.machine.Machine.settle.Given as goal
