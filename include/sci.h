@@ -287,7 +287,7 @@ sci_status sci_machine_settle(sci_machine *machine, uint32_t *events);
 **   SCI_MISUSE      The object keeps no machine. */
 sci_status sci_machine_last(const sci_machine *machine, uint8_t line, sci_stamped *contents);
 
-/* Tells the one node that may change a line or is about to (Machine::authority).
+/* Gives the one node that may change a line or is about to (Machine::authority).
 **
 **   SCI_OK
 **   SCI_NOT_ENABLED No node may: the home has the line alone.
@@ -380,7 +380,7 @@ sci_status sci_node_refuse(sci_node *node, const uint8_t *packet, size_t length)
 **   SCI_MISUSE      The object keeps no node. */
 sci_status sci_node_accept(sci_node *node, const uint8_t *packet, size_t length);
 
-/* Tells the operation that is pending on a line, and its serial. An operand that its act doesn't have is 0 (Node::pending).
+/* Gives the operation that is pending on a line, and its serial. An operand that its act doesn't have is 0 (Node::pending).
 **
 **   SCI_OK
 **   SCI_NOT_ENABLED None is pending there.
@@ -396,7 +396,7 @@ sci_status sci_node_pending(const sci_node *node, uint8_t line, sci_op *op, uint
 **   SCI_MISUSE      The object keeps no node. */
 sci_status sci_node_home(const sci_node *node, uint8_t line, sci_stamped *contents);
 
-/* Tells whether no operation is pending and no line has an entry: 1, and else 0 (Node::is_at_rest).
+/* Gives whether no operation is pending and no line has an entry: 1, and else 0 (Node::is_at_rest).
 **
 **   SCI_OK
 **   SCI_MISUSE      The object keeps no node. */
@@ -438,7 +438,7 @@ sci_status sci_logs_set_last(sci_logs *logs, uint8_t line, const sci_stamped *co
 /* Reads the last contents of a line (Last::get). The statuses are those of sci_logs_set_last. */
 sci_status sci_logs_last(const sci_logs *logs, uint8_t line, sci_stamped *contents);
 
-/* Tells how many nodes and lines there are.
+/* Gives how many nodes and lines there are.
 **
 **   SCI_OK
 **   SCI_MISUSE      The object keeps no logs. */

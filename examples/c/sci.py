@@ -161,7 +161,7 @@ SIGNATURES = {
 
 
 def library():
-    """The library with its signatures. The structs have the sizes that it tells."""
+    """The library with its signatures. The structs have the sizes that it reports."""
     found = ctypes.CDLL(os.environ.get("SCI_LIBRARY", "libsci.so"))
     for name, arguments in SIGNATURES.items():
         function = getattr(found, f"sci_{name}")

@@ -1,4 +1,4 @@
-/* The structs lie as the library has them: sizes and offsets, and the sizes that the library itself tells. */
+/* The structs lie as the library has them: sizes and offsets, and the sizes that the library itself reports. */
 #include <stdio.h>
 
 #include "sci.h"

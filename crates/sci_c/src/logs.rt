@@ -106,7 +106,7 @@ pub extern "C" fn sci_logs_last(object: &mut SciObject, line: u8, contents: &mut
     SCI_OK
 }
 
-/// Tells how many nodes and lines logs have.
+/// Gives how many nodes and lines logs have.
 #[unsafe(no_mangle)]
 pub extern "C" fn sci_logs_size(object: &mut SciObject, nodes: &mut u8, lines: &mut u8) -> u32
     ensures nodes { result ≡ SCI_OK → On logs_in object.old.value (λ journal. nodes.new ≡ journal.nodes) }

@@ -124,7 +124,7 @@ pub extern "C" fn sci_machine_last(
     SCI_OK
 }
 
-/// Tells the one node that may change a line or is about to. Not enabled if the home has the line alone.
+/// Gives the one node that may change a line or is about to. Not enabled if the home has the line alone.
 #[unsafe(no_mangle)]
 pub extern "C" fn sci_machine_authority(object: &mut SciObject, line: u8, node: &mut u8) -> u32
     ensures found { result ≡ SCI_OK → On machine_in object.old.value (IsAuthorityOf line node.new) }

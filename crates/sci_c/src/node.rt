@@ -164,7 +164,7 @@ pub extern "C" fn sci_node_take_answer(
     }
 }
 
-/// Tells the operation that is pending on a line, and its serial.
+/// Gives the operation that is pending on a line, and its serial.
 #[unsafe(no_mangle)]
 pub extern "C" fn sci_node_pending(
     object: &mut SciObject,
@@ -191,7 +191,7 @@ pub extern "C" fn sci_node_pending(
     }
 }
 
-/// Tells whether no operation is pending and no line has an entry: 1, and else 0.
+/// Gives whether no operation is pending and no line has an entry: 1, and else 0.
 #[unsafe(no_mangle)]
 pub extern "C" fn sci_node_is_at_rest(object: &mut SciObject, at_rest: &mut u32) -> u32
     ensures rest { result ≡ SCI_OK → On node_in object.old.value (λ node. (at_rest.new ≡ 1) ↔ IsAtRest node) }

@@ -3,7 +3,7 @@
 /// Why a cache makes no request.
 #[derive(Clone, Copy, Debug, PartialEq, Eq)]
 pub enum AskFault {
-    /// The line has no entry, and every version slot is taken. It is told only if the state asks this kind.
+    /// The line has no entry, and every version slot is taken. It is reported only if the state asks this kind.
     NoSlot,
     /// The line's state doesn't ask this kind. This is checked first.
     NotNow,

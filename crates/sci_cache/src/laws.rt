@@ -48,7 +48,7 @@ pub fn rolling_passes_a_link_on()
         link_of (serving_roll state n link).0 None ≡ Some link }
 {}
 
-/// What an entry is told of the one before it changes no link.
+/// What an entry learns of the one before it changes no link.
 pub fn telling_keeps_link()
     ensures { (state : CacheState) (n before : ℕ) (answer : Option Body) →
         link_of (serving_setback state n before).0 answer ≡ link_of state answer }

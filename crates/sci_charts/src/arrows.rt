@@ -153,7 +153,7 @@ impl Arrows {
 
     /// A packet is sent in a row, or before the first one.
     fn send(&mut self, packet: &Packet, row: Option<u32>) -> Result<(), AllocError> {
-        // Makes an option, so that the prover is told of the types inside a packet.
+        // Makes an option, so that the prover learns the types inside a packet.
         let _told = Some(*packet);
         let place = self.passages.len();
         let beside = self.to_itself(packet).min(3) as u8;

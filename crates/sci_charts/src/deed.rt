@@ -74,7 +74,7 @@ fn mark_of(event: &Event, sent: Option<Packet>, taken: Option<Packet>) -> Mark
     }
 }
 
-/// Applies an event, and tells what it did. Refused if memory is.
+/// Applies an event, and reports what it did. Refused if memory is.
 pub fn mark_after(machine: &mut Machine, event: &Event) -> Result<Mark, AllocError>
     ensures dead { IfOk result (λ mark. is_dead mark ≡ is_none (stepping machine.old event.now)) }
     ensures letter { IfOk result (λ mark. letter_in mark

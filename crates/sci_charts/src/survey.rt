@@ -110,7 +110,7 @@ impl Survey {
         self.note_row(number, event)
     }
 
-    /// Notes the row of an event whose label is told.
+    /// Notes the row of an event whose label is made.
     fn note_row(&mut self, number: u64, event: &Event) -> Result<(), AllocError> {
         let at = self.plan.layout.place(u16::from(node_of(event)), self.rows);
         let label = self.label.text();

@@ -9,7 +9,7 @@ use sci_text::{Tap, read_script, whole_number};
 use std::env;
 use std::process::ExitCode;
 
-/// How often the script is run, and whether the time of each run is told, by the program's words. None if they are others.
+/// How often the script is run, and whether the time of each run is printed, by the program's words. None if they are others.
 fn asked(rt: &HostRuntime) -> Option<(u64, bool)> {
     let mut words = env::args(rt).ok()?.skip(1);
     let times = whole_number(words.next()?.as_bytes())?;

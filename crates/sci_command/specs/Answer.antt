@@ -12,7 +12,7 @@ IsWrittenOf (Ok answer) text outcome = (text ≡ answer.text.items) × (outcome 
 IsWrittenOf (Err fault) text outcome = Refuses fault text × (outcome ≡ Refused)
 
 -- What a command writes for the text that a reader gives, and how it ends: what is made of the bytes that were read, or the
--- refusal of a fault that is told.
+-- refusal of a fault that is reported.
 abbrev pub IsAnswerBy : (List ℕ → List ℕ → Outcome → Type 0) → (TextFaultKind → Option (List ℕ) → Bool → ℕ → Type 0) → Option (List ℕ) → Bool → List ℕ
     → Outcome → Type 0
 IsAnswerBy is_made is_told known failed text Done = IsReadAs known failed (λ bytes. is_made bytes text Done)
@@ -26,7 +26,7 @@ IsDoneBy is_made is_told known failed text Done = IsReadAs known failed (λ byte
 IsDoneBy is_made is_told known failed text Unlawful = ⊥
 IsDoneBy is_made is_told known failed text Refused = IsRefusalBy (λ kind line. is_told kind known failed line) text
 
--- what a command gives for the bytes of a reader, which has failed or not: an answer to them, or a fault that is told of them
+-- what a command gives for the bytes of a reader, which has failed or not: an answer to them, or a fault of them
 abbrev pub IsAnswered : (Option (List ℕ) → Bool → List ℕ → Outcome → Type 0) → (TextFaultKind → Option (List ℕ) → Bool → ℕ → Type 0) → Option (List ℕ) → Bool
     → Result Answer TextFault → Type 0
 IsAnswered is_answer is_told known failed (Ok answer) = is_answer known failed answer.text.items answer.outcome

@@ -21,7 +21,7 @@ line_refusal line kind = codes "refused at line" ++ (field line ++ (codes ": " +
 abbrev pub Refuses : TextFault → List ℕ → Type 0
 Refuses fault text = (text ≡ line_refusal fault.line fault.kind) ⊎ ((0 < fault.line) × (text ≡ line_refusal 0 Memory))
 
--- the refusal of a fault that is told
+-- the refusal of a fault that is reported
 pub record IsRefusalBy (told : TextFaultKind → ℕ → Type 0) (text : List ℕ) : Type 0 where
   pub line : ℕ
   pub kind : TextFaultKind

@@ -1,4 +1,4 @@
--- The line that tells what an audit found.
+-- The line that says what an audit found.
 use Rattle.std.specs.Prelude.{ℕ, List, [], ◌∷◌, ◌++◌, codes, Option, Some, None}
 use Rattle.sci_history.specs.declared.verdict.FaultKind.{FaultKind}
 use Rattle.sci_history.specs.declared.verdict.FaultKind.TheVariants.{VersionTwice, VersionMissing, WrongReply, OutOfOrder, LastDiffers}

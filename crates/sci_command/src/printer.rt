@@ -55,7 +55,7 @@ pub fn print_piece<W: Write>(writer: &mut Tap<W>, waiting: &mut Vec<u8>, piece: 
     }
 }
 
-/// Writes what waits of the answer of a command that ends so, and tells how it ends then: it is Refused if a write failed.
+/// Writes what waits of the answer of a command that ends so, and reports how it ends then: it is Refused if a write failed.
 pub fn print_end<W: Write>(writer: &mut Tap<W>, waiting: &[u8], outcome: Outcome) -> Outcome
     ensures front { (start : Option (List ℕ)) (text : List ℕ) → IsPrinted start
         (W.contents (tapped writer.old)) (has_failed writer.old) waiting.now text

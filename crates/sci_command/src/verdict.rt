@@ -1,4 +1,4 @@
-//! The line that tells what an audit found.
+//! The line that says what an audit found.
 
 ghost use Rattle.std.specs.Prelude.{◌≡◌, ◌++◌, IfOk, OnOk};
 ghost use Rattle.sci_command.specs.VerdictLine.{kind_text, named_text, verdict_text};

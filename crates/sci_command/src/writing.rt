@@ -8,7 +8,7 @@ use crate::outcome::Outcome;
 use sci_text::{Tap, write_text};
 use std::io::Write;
 
-/// Writes the answer of a command that ends so, and tells how it ends then: it is Refused if a write failed.
+/// Writes the answer of a command that ends so, and reports how it ends then: it is Refused if a write failed.
 pub fn write_answer<W: Write>(writer: &mut Tap<W>, text: &[u8], outcome: Outcome) -> Outcome
     ensures front { WritesFront
         (W.contents (tapped writer.old)) (W.contents (tapped writer.new)) text.now }

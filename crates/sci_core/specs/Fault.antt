@@ -9,7 +9,7 @@ is_sending (Ask n line kind) = true
 is_sending (Reply n) = true
 is_sending _ = false
 
--- The fault that is told of an event that would lead to this state, or to none: it is not enabled, or it is an Ask or a
+-- The fault that is reported of an event that would lead to this state, or to none: it is not enabled, or it is an Ask or a
 -- Reply that is enabled, and memory was refused.
 abbrev pub IsFaultOf : Option Core → Event → ApplyFault → Type 0
 IsFaultOf next event NotEnabled = next ≡ None

@@ -1,4 +1,4 @@
--- What each event does, told by its node's side alone: what the node does with it, and where its one packet is put or
+-- What each event does, by its node's side alone: what the node does with it, and where its one packet is put or
 -- comes from.
 use Rattle.std.specs.Prelude.{◌≡◌, ◌<◌, ℕ, List, [], ◌∷◌, Option, None, option_map}
 use Rattle.sci_words.specs.declared.{event.{AskKind.{AskKind}, Event.{Event}}, operation.Op.{Op}}

@@ -91,7 +91,7 @@ impl Lane {
         ensures ok { OnOk result (self.new ≡ self.old ++ letter_of packet.now ∷ []) }
         ensures err { OnErr result (self.new ≡ self.old) }
     {
-        // Makes an option, so that the prover is told of the types inside a packet.
+        // Makes an option, so that the prover learns the types inside a packet.
         let _told = Some(*packet);
         push(&mut self.packets, *packet)
     }

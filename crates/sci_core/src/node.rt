@@ -40,7 +40,7 @@ impl Model for Node {
     ghost invariant = { λ node. FitsInside node.me node.extent node.cache (vec_capacity node.log) node.limit × IsNode (record { cache = node.cache; homes = node.homes.items; pending = node.pending; issued = node.issued; limit = node.limit; log = node.log.items; waiting = option_map letter_of node.waiting }) };
 }
 
-/// Reads the operands of an operation, which tells the prover that they are words.
+/// Reads the operands of an operation, so that the prover knows that they are words.
 fn read_words(act: Act)
     ensures { has_words act ≡ true }
 {
@@ -244,7 +244,7 @@ impl Node {
         if line >= self.extent.lines {
             return None;
         }
-        // By a `match`: the prover isn't told of the types inside a packet at `.ok()`.
+        // By a `match`: at `.ok()` the prover doesn't learn the types inside a packet.
         match self.cache.ask(line, kind) {
             Ok(packet) => Some(packet),
             Err(_) => None,

@@ -9,7 +9,7 @@ use sci_cache::Held;
 use sci_words::{AskKind, Event};
 use std::alloc::AllocError;
 
-/// Whom a look among the nodes is for, by what they have of a line: one that has to tell another, the head of the
+/// Which node is looked for, by what it has of a line: one that has to tell another who is before it, the head of the
 /// list, or one that is to join before a node.
 #[derive(Clone, Copy)]
 pub(crate) enum Wanted {

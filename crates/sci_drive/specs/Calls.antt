@@ -1,4 +1,4 @@
--- What is asked of a gate, and what it is told, while a worker is driven.
+-- What is asked of a gate, and what is reported to it, while a worker is driven.
 use Rattle.std.specs.Prelude.{◌≡◌, ◌⊎◌, ◌<◌, ◌≤◌, ◌+◌, ℕ, All, Bool, true, false, List, [], ◌∷◌, ◌++◌, Option, Some, None, count_by, if◌then◌else◌}
 use Rattle.std.specs.List.{Contains, filter_map}
 use Rattle.sci_history.specs.declared.entry.Entry.{Entry}
@@ -13,12 +13,12 @@ pub data Call : Type 0 where
   AllDone : (all : Bool) → Call
   Rest : Call
 
--- the entry that a call tells of
+-- the entry that a call reports
 abbrev pub entry_told : Call → Option Entry
 entry_told (Answered entry) = Some entry
 entry_told _ = None
 
--- the entries that the gate is told of, in the order of the calls
+-- the entries that are reported to the gate, in the order of the calls
 abbrev pub told : List Call → List Entry
 told calls = filter_map entry_told calls
 
@@ -26,7 +26,7 @@ abbrev pub is_done : Call → Bool
 is_done Done = true
 is_done _ = false
 
--- how often the gate is told that the whole script is answered
+-- how often the gate hears that the whole script is answered
 abbrev pub times_done : List Call → ℕ
 times_done calls = count_by is_done calls
 
@@ -51,12 +51,12 @@ Allows _ = Unit {0}
 abbrev pub AllowAll : List Call → Type 0
 AllowAll calls = All Allows calls
 
--- an entry is told of only after its operation was allowed, by one of these calls or before them
+-- an entry is reported only after its operation was allowed, by one of these calls or before them
 abbrev pub AreAllowed : ℕ → List Call → Type 0
 AreAllowed before calls = (front back : List Call) (entry : Entry) → calls ≡ front ++ Answered entry ∷ back
     → (entry.serial < before) ⊎ Contains front (MayIssue entry.serial true)
 
--- no entry is told of after the gate was told that the whole script is answered
+-- no entry is reported after the gate has heard that the whole script is answered
 abbrev pub EndWithDone : List Call → Type 0
 EndWithDone calls = (front back : List Call) → calls ≡ front ++ Done ∷ back → told back ≡ []
 
@@ -64,8 +64,8 @@ EndWithDone calls = (front back : List Call) → calls ≡ front ++ Done ∷ bac
 abbrev pub EndWithAllDone : List Call → Type 0
 EndWithAllDone calls = (front : List Call) × (calls ≡ front ++ AllDone true ∷ [])
 
--- The calls that a driver makes while it drives a node from one moment to another: it tells of each entry once, in the order
--- of the log; it submits what was allowed, and nothing else; and it tells once that the script is answered, as the last.
+-- The calls that a driver makes while it drives a node from one moment to another: it reports each entry once, in the order
+-- of the log; it submits what was allowed, and nothing else; and it reports once that the script is answered, as the last.
 pub record AreCalls (old new : DriverOf) (before after : NodeOf) (calls : List Call) : Type 0 where
   pub told_all : after.log ≡ before.log ++ told calls
   pub submitted : (index : ℕ) → old.next ≤ index → index < new.next → Contains calls (MayIssue index true)
@@ -80,8 +80,8 @@ pub record IsHeard {G : Type 0} (hears : G → List Call → G → Type 0) (gate
   pub heard : hears gate calls later
   pub are : AreCalls old new before after calls
 
--- The calls of a whole run, from which a node has come with its log: the gate is told of each of its entries once, in the order
--- of the log; what was submitted was allowed; and the gate is told at most once that the script is answered, as the last.
+-- The calls of a whole run, from which a node has come with its log: the gate hears each of its entries once, in the order
+-- of the log; what was submitted was allowed; and the gate hears at most once that the script is answered, as the last.
 pub record AreCallsOf (node : NodeOf) (calls : List Call) : Type 0 where
   pub told_all : node.log ≡ told calls
   pub submitted : (index : ℕ) → index < node.issued → Contains calls (MayIssue index true)

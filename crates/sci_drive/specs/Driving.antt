@@ -8,7 +8,7 @@ use Rattle.sci_drive.specs.declared.driver.Issuing.{Issuing, TheVariants.{InOrde
 use Rattle.sci_drive.specs.Script.{IsFrontOf, IsNamedBy, times_answered}
 
 -- a script, when its operations are submitted, how many of them were, the lines on which one is pending, by serial, and
--- whether the gate was told that the whole script is answered
+-- whether the gate has heard that the whole script is answered
 pub record DriverOf : Type 0 where
   pub script : List Op
   pub issuing : Issuing

@@ -20,7 +20,7 @@ pub enum Issuing {
 }
 
 /// A script that is being driven. Contracts see the script, when its operations are submitted, how many of them were, the
-/// lines on which one is pending, and whether the gate was told that the whole script is answered.
+/// lines on which one is pending, and whether the gate has heard that the whole script is answered.
 #[derive(Drop)]
 pub struct Driver<'a> {
     script: &'a [Op],
@@ -94,11 +94,11 @@ impl<'a> Driver<'a> {
     ///
     /// - submits the next operation if the gate allows it and none is pending, or, if it issues ahead, fewer than four
     ///   are, none of them on its line;
-    /// - performs what can be performed, by serial, and tells the gate of each entry;
+    /// - performs what can be performed, by serial, and reports each entry to the gate;
     /// - takes one turn;
-    /// - the first time that the whole script is answered, tells the gate that it is done.
+    /// - the first time that the whole script is answered, reports to the gate that it is done.
     ///
-    /// It tells whether an operation was answered, and what the turn did. Requires that the worker is the
+    /// It gives whether an operation was answered, and what the turn did. Requires that the worker is the
     /// one that this driver has driven. Refused if the worker's turn is.
     pub fn round<W: Worker, G: Gate>(
         &mut self,

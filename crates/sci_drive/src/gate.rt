@@ -1,8 +1,8 @@
-//! What is asked and told while a script is driven.
+//! What is asked and reported while a script is driven.
 
 use sci_history::Entry;
 
-/// A gate lets a worker go on with its script, and is told of its answers.
+/// A gate lets a worker go on with its script, and hears its answers.
 pub trait Gate {
     ghost use Rattle.std.specs.Prelude.{List, [], ◌∷◌, ◌++◌};
     ghost use Rattle.sci_drive.specs.Calls.{AllDone, Answered, Call, Done, MayIssue, Rest};
@@ -14,11 +14,11 @@ pub trait Gate {
     fn may_issue(&mut self, index: u32) -> bool
         ensures { hears self.old (MayIssue index result ∷ []) self.new };
 
-    /// Told of each entry as soon as its operation is performed.
+    /// Called with each entry as soon as its operation is performed.
     fn answered(&mut self, entry: &Entry)
         ensures { hears self.old (Answered entry.now ∷ []) self.new };
 
-    /// Told once that the whole script is answered.
+    /// Called once, when the whole script is answered.
     fn done(&mut self)
         ensures { hears self.old (Done ∷ []) self.new };
 

@@ -4,7 +4,7 @@ use crate::gate::Gate;
 use sci_history::Entry;
 
 /// A gate that is always open: each operation may be submitted as soon as it can be. It waits for nobody, and takes no note
-/// of what it is told.
+/// of what it hears.
 #[derive(Drop)]
 pub struct OpenGate;
 

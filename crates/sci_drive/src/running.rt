@@ -40,9 +40,9 @@ pub struct Ran {
 /// However it ends:
 ///
 /// - Each entry has the operation that its serial names, and no serial stands twice.
-/// - The gate was told of each entry once, in the order of the log.
-/// - An operation was submitted only if `may_issue` had answered true for it, and its entry was told after that.
-/// - `done` was called once at most, and no entry was told after it.
+/// - Each entry was reported to the gate once, in the order of the log.
+/// - An operation was submitted only if `may_issue` had answered true for it, and its entry was reported after that.
+/// - `done` was called once at most, and no entry was reported after it.
 /// - Unless a turn was refused, it is as many rounds of a driver as it took turns, one after another (`Driver::round`). Behind
 ///   each the gate rests exactly if nothing moved, or it was the 16th in a row without an entry or a rest; but not behind the
 ///   last of a run that has finished.

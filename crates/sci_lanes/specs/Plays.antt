@@ -1,4 +1,4 @@
--- What each kind of step on a word tells its seat, which has one part. A word's place tells its lane, its cell and its
+-- What each kind of step on a word shows its seat, which has one part. A word's place tells its lane, its cell and its
 -- number in the cell.
 use Rattle.std.specs.Prelude.{◌*◌, ◌≡◌, ◌≢◌, ℕ, ◌/◌, ◌%◌, true, []}
 use Rattle.atomic_table.specs.Table.{Me, Step}

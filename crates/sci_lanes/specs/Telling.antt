@@ -1,4 +1,4 @@
--- What a part of a state tells of it, and what a step needs.
+-- What a part of a state shows of it, and what a step needs.
 use Rattle.std.specs.Prelude.{◌≡◌, ℕ, ◌+◌, ◌<◌, ◌≤◌, true, List, [], ◌∷◌, ◌++◌, length, slice_index, slice_index_or, Option, Some}
 use Rattle.atomic_table.specs.Table.{Me}
 use Rattle.sci_words.specs.declared.event.Event.{Event, TheVariants.{Serve, Refuse, Accept}}
@@ -27,7 +27,7 @@ size_in part = record { nodes = part.node.cache.nodes; lines = lines_of part.nod
 abbrev pub state_of : Part → Core
 state_of part = run (size_in part) part.schedule
 
--- ---- what is told
+-- ---- what is shown
 
 -- the oldest packet of a lane, with whose words those found agree as far as both go
 pub record IsFront (lane : List Letter) (found : List ℕ) : Type 0 where
@@ -103,7 +103,7 @@ pub record IsTaken (part : Part) (lane : ℕ) (event : Event) (schedule : List E
   pub rest : List Letter
   pub front : lane_taken (run (size_in part) (part.schedule ++ made.others)) event ≡ letter_of packet ∷ rest
 
--- What each step tells its seat: its view becomes the next part, which is of the same node and of a state, and knows the
+-- What each step shows its seat: its view becomes the next part, which is of the same node and of a state, and knows the
 -- whole schedule, as far as it has come.
 pub record Tells (how : List Event → Type 0) (part next : Part) (seat : Me (Unit {0}) View) : Type 0 where
   pub schedule : List Event

@@ -276,7 +276,7 @@ fn read_lane(words: &[u64], lane: usize, turn: u8, mut packets: VecDeque<Packet>
     Lane::of_packets(packets)
 }
 
-/// Ends a deque with the packet whose words begin at a place, and tells whether there is one. Words that are of no packet
+/// Ends a deque with the packet whose words begin at a place, and gives whether there is one. Words that are of no packet
 /// have none, too.
 fn read_cell(packets: &mut VecDeque<Packet>, words: &[u64], place: usize) -> bool
     requires inside { place < length words.now }

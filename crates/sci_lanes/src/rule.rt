@@ -1,4 +1,4 @@
-//! The rule of the table, and what each kind of step tells.
+//! The rule of the table, and what each kind of step shows.
 
 ghost use Rattle.sci_words.specs.declared.event.Event.{Event, TheVariants.{Reply}};
 ghost use Rattle.sci_core.specs.Node.{NodeOf, no_node};

@@ -17,8 +17,8 @@ use std::alloc::AllocError;
 /// times what the policy wants. A lane takes at most four packets here. Requires that there is such a node.
 ///
 /// - The policy counts the turn, decides each request that is taken, and wants each ask.
-/// - What is told counts the events. A line that is told of has an operation that can be performed.
-/// - Nothing is told only if there was nothing to do. Then no operation is pending at the node, or there are other nodes
+/// - The report counts the events. A line that it names has an operation that can be performed.
+/// - Nothing is reported only if there was nothing to do. Then no operation is pending at the node, or there are other nodes
 ///   and some line awaits an answer.
 ///
 /// Refused if memory is, for a lane; what was done before is kept.

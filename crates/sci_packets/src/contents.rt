@@ -15,7 +15,7 @@ pub const LONG: usize = 88;
 /// The words of a packet with contents.
 pub const LONG_WORDS: usize = 11;
 
-/// Reads the words of a line, which tells the prover that they are words.
+/// Reads the words of a line, so that the prover knows that they are words.
 fn read_words(line: &Line)
     ensures width { length line.now ≡ WORDS_PER_LINE }
     ensures fits { (i : ℕ) → slice_index line.now i < 2 ^ 64 }

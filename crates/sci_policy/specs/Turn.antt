@@ -1,4 +1,4 @@
--- What a node does in a turn, and what is told of it.
+-- What a node does in a turn, and what is reported of it.
 use Rattle.std.specs.Prelude.{◌≡◌, ℕ, ◌+◌, nat_lt, Bool, true, false, not, ◌&&◌, ◌||◌, ◌==◌, is_none, if◌then◌else◌, List, count_by, Option, Some, None}
 use Rattle.std.specs.{Prelude.{is_some, IfSome, IsSome}, List.{list_any}}
 use Rattle.sci_words.specs.declared.{limits.TheConstants.{WORDS_PER_LINE}, event.Event.{Event}, operation.Op.{Op}}
@@ -48,7 +48,7 @@ abbrev pub more_if : Bool → ℕ → ℕ
 more_if true n = capped (n + 1)
 more_if false n = n
 
--- what is told after one event more
+-- the report after one event more
 abbrev pub counted : Progress → Event → Progress
 counted progress e = record progress {
   accepted = more_if (is_accept e) progress.accepted;
@@ -57,21 +57,21 @@ counted progress e = record progress {
   asked = progress.asked || is_ask e;
 }
 
--- what is told of a turn counts its events
+-- the report of a turn counts its events
 pub record Counts (events : List Event) (progress : Progress) : Type 0 where
   pub accepted : progress.accepted ≡ capped (count_by is_accept events)
   pub served : progress.served ≡ capped (count_by is_service events)
   pub replied : progress.replied ≡ list_any is_reply events
   pub asked : progress.asked ≡ list_any is_ask events
 
--- what is told of a turn in which no event was made
+-- the report of a turn in which no event was made
 pub record MadeNothing (progress : Progress) : Type 0 where
   pub accepted : progress.accepted ≡ 0
   pub served : progress.served ≡ 0
   pub replied : progress.replied ≡ false
   pub asked : progress.asked ≡ false
 
--- the line that is told of, if any, has an operation that can be performed
+-- the line that is reported, if any, has an operation that can be performed
 abbrev pub MayPerform : NodeOf → Option ℕ → Type 0
 MayPerform node ready = IfSome ready (λ line. IsSome (node_performing node line))
 
@@ -86,7 +86,7 @@ submit_fault node op =
     else if not (nat_lt node.issued node.limit) then Some LogFull
     else None
 
--- ---- what is told of a turn that found nothing to do
+-- ---- the report of a turn that found nothing to do
 
 abbrev pub is_idle : Progress → Bool
 is_idle progress = (progress.accepted == 0 && progress.served == 0) && ((not progress.replied && not progress.asked) && is_none progress.ready)

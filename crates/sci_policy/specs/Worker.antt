@@ -24,8 +24,8 @@ abbrev pub SidesLead : NodeOf → List Event → NodeOf → Type 0
 SidesLead old [] new = old ≡ new
 SidesLead old (e ∷ events) new = (next : NodeOf) × Makes (side old e) next × SidesLead next events new
 
--- A turn of a node: its sides of events of its own, none of them an Issue or a Perform. What is told of it counts them, and
--- a line that is told of has an operation that can be performed.
+-- A turn of a node: its sides of events of its own, none of them an Issue or a Perform. Its report counts them, and
+-- a line that it names has an operation that can be performed.
 pub record IsNodeTurn (old new : NodeOf) (progress : Progress) : Type 0 where
   pub events : List Event
   pub leads : SidesLead old events new

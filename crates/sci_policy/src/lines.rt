@@ -116,8 +116,8 @@ pub(crate) fn least_of(node: &Node, kind: LineKind) -> Option<u8>
     node.lines_of(kind).next_from(0)
 }
 
-/// Of the lines of a set, with an operation pending, the one whose operation is the oldest of those of which something is
-/// true. It looks at no other line. Requires that the node has these lines.
+/// Among the lines of a set that have an operation pending and pass a test, the one whose operation is the oldest, or None
+/// if there is none. It looks at no other line. Requires that the node has these lines.
 pub(crate) fn oldest<F: Fn(u8) -> bool>(node: &Node, lines: LineSet, test: F) -> Option<u8>
     requires here { (line : ℕ) → is_in lines line ≡ true → line < lines_of node.now }
     requires test { (line : ℕ) → line < lines_of node.now → F.pre test line }

@@ -42,8 +42,8 @@ pub trait Worker {
         ensures stays { stays self.old self.new };
 
     /// Takes a turn: takes what others sent, and sends what comes next. No operation is submitted or performed by it.
-    /// What it tells counts its events, and a line that it calls ready has an operation that can be performed. It tells
-    /// of nothing only if nothing is pending, or there are other nodes and some line awaits an answer. Refused if memory
+    /// Its report counts its events, and a line that it calls ready has an operation that can be performed. It reports
+    /// nothing only if nothing is pending, or there are other nodes and some line awaits an answer. Refused if memory
     /// is.
     fn turn(&mut self) -> Result<Progress, AllocError>
         ensures turn { IfOk result (IsNodeTurn (node self.old) (node self.new)) }

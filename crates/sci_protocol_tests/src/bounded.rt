@@ -42,7 +42,7 @@ impl Bounded {
         Ok(self.machine.run(schedule.events())?)
     }
 
-    /// Applies an event, and tells whether it was enabled.
+    /// Applies an event, and gives whether it was enabled.
     pub fn apply(&mut self, event: &Event) -> Result<bool, Fail> {
         match self.machine.apply(event) {
             Ok(()) => Ok(true),
@@ -56,12 +56,12 @@ impl Bounded {
         self.machine.obstacle_to(event)
     }
 
-    /// Brings the machine to rest, and tells how many events that took.
+    /// Brings the machine to rest, and gives how many events that took.
     pub fn settle(&mut self) -> Result<u32, Fail> {
         Ok(self.machine.settle()?)
     }
 
-    /// Takes all packets that are under way, and tells how many events that took.
+    /// Takes all packets that are under way, and gives how many events that took.
     pub fn drain(&mut self) -> Result<u32, Fail> {
         Ok(self.machine.drain()?)
     }

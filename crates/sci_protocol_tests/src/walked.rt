@@ -176,7 +176,7 @@ impl Walked {
         })
     }
 
-    /// Applies an event and carries the packets as it says; tells whether it was enabled.
+    /// Applies an event and carries the packets as it says; gives whether it was enabled.
     pub fn step(&mut self, event: &Event) -> Result<bool, Fail> {
         match *event {
             Event::Issue { node, .. } => self.issue(event, node),

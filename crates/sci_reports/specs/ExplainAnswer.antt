@@ -8,7 +8,7 @@ use Rattle.sci_command.specs.declared.outcome.Outcome.{Outcome, TheVariants.{Don
 use Rattle.sci_command.specs.{Answer.{IsAnswerBy}, VerdictLine.{verdict_text}}
 use Rattle.sci_history.specs.declared.verdict.Verdict.TheVariants as verdicts
 
--- of a line without a fault nothing is written; of another the line of an audit that tells the fault, and then a note
+-- of a line without a fault nothing is written; of another the line of an audit that names the fault, and then a note
 abbrev pub IsNote : ℕ → Option LineFault → List ℕ → Type 0
 IsNote line None text = text ≡ []
 IsNote line (Some fault) text = (note : List ℕ) × (text ≡ verdict_text (verdicts.Fault line fault.kind fault.at) ++ note)

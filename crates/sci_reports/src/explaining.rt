@@ -99,9 +99,9 @@ fn explained(alloc: Global, before: usize, logs: &Logs, last: &Last) -> Result<A
     }
 }
 
-/// Reads a log to its end and audits it: `lawful` is Done. Of a log that isn't lawful it tells the first fault of each line of
-/// memory that has one, lowest lines first, and is Unlawful:
-/// - the line of an audit that tells the fault;
+/// Reads a log to its end and audits it: `lawful` is Done. Of a log that isn't lawful it reports the first fault of each
+/// line of memory that has one, lowest lines first, and is Unlawful:
+/// - the line of an audit that names the fault;
 /// - the line of the text that has the entry at fault, what was found there, and what one memory of one thread gives;
 /// - the entry at fault and those around it in the order of versions.
 ///

@@ -183,7 +183,7 @@ fn push_last(
     push_text(out, "\n")
 }
 
-/// Appends the lines that tell what a fault means.
+/// Appends the lines that say what a fault means.
 fn push_lines(
     out: &mut Vec<u8>,
     found: Option<FaultyEntry>,
@@ -203,7 +203,7 @@ fn push_lines(
     push_around(out, placed, found.at.text_line)
 }
 
-/// The lines that tell what a fault of a line of memory means, and the entries around it in the order of versions. Refused if
+/// The lines that say what a fault of a line of memory means, and the entries around it in the order of versions. Refused if
 /// memory is.
 pub fn note_of(alloc: Global, fault: LineFault, subject: &Subject) -> Result<Vec<u8>, AllocError> {
     let placed = placed(alloc, &subject.entries)?;

@@ -67,7 +67,7 @@ fn ends_join_purge_and_write_back(rt: HostRuntime) -> Result<(), Fail> {
     ends_with(&last, 8, 2)
 }
 
-/// Node 2 has stored 7 and writes the line back. Node 1 is told that node 2 is the head, and node 0 asks itself for the
+/// Node 2 has stored 7 and writes the line back. Node 1 learns that node 2 is the head, and node 0 asks itself for the
 /// line. The packets of all three are under way.
 const THREE_UNDER_WAY: &[u8] = b"machine 3 1 1\n\
     issue 2 store 0 0 7\nask 2 0 mread\nserve 2 0\nreply 0\naccept 0 2\nperform 2 0\n\

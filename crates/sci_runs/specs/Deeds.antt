@@ -8,7 +8,7 @@ use Rattle.sci_turn.specs.{Far.{HasAskedAll}, Idle.{IsIdleTurn}, Moves.{IsTurn}}
 use Rattle.sci_locked.specs.Lent.{post_at}
 use Rattle.sci_words.specs.declared.event.Event.TheVariants as event
 
--- a node issues an operation or performs one, or it takes a turn and tells what it did
+-- a node issues an operation or performs one, or it takes a turn and reports what it did
 pub data Deed : Type 0 where
   Works : (event : Event) → Deed
   Turns : (progress : Progress) → Deed
@@ -32,7 +32,7 @@ IsWorkOf n (event.Reply m) = ⊥
 IsWorkOf n (event.Accept from m) = ⊥
 
 -- A turn of node n to its end: its events are those that the policy decides, it asks until the policy wants no more or four
--- times, and it tells nothing only if there was nothing to do.
+-- times, and it reports nothing only if there was nothing to do.
 pub record IsWholeTurn (n : ℕ) (before : PolicyOf) (old : Core) (after : PolicyOf) (new : Core) (progress : Progress) : Type 0 where
   pub turn : IsTurn before (post_at n old) after (post_at n new) progress
   pub asks : HasAskedAll (turned before) (post_at n old) after (post_at n new) progress

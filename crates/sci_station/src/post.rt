@@ -14,8 +14,8 @@ use sci_words::{Event, Op};
 use std::marker::Model;
 
 /// An end of the lanes, with what its node remembers of them, and how many more steps on words a turn may make. Contracts
-/// see all of it. What is remembered is always so: a count that doesn't tell how many answers a node owes, or a kept packet
-/// that isn't the oldest of its lane, is refused.
+/// see all of it. What is remembered is always right: a count is the number of answers that a node owes, and a kept packet
+/// is the oldest of its lane.
 #[derive(Drop)]
 pub(crate) struct StationPost {
     end: LaneEnd,

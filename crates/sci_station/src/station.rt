@@ -104,11 +104,11 @@ impl Station {
     ///
     /// - Each event is the node's own, enabled when it comes. The policy counts the turn, decides each request that is
     ///   taken, and wants each ask.
-    /// - What is told counts the events. A line that is told of has an operation that can be performed.
+    /// - The report counts the events. A line that it names has an operation that can be performed.
     /// - It ends after four asks, at a line that can be performed, when the policy wants no more, or at a full lane.
-    /// - Nothing is told only if there was nothing to do: from no node an answer had come, and each request that had come
-    ///   is kept, or an answer waits that found its lane full. Then no operation is pending, or there are other nodes and
-    ///   some line awaits an answer.
+    /// - Nothing is reported only if there was nothing to do: from no node an answer had come, and each request that had
+    ///   come is kept, or an answer waits that found its lane full. Then no operation is pending, or there are other
+    ///   nodes and some line awaits an answer.
     pub fn turn(&mut self) -> Progress
         ensures turn { IsTurn self.old.policy (post_of self.old.end)
             self.new.policy (post_of self.new.end) result }
@@ -133,8 +133,8 @@ impl Station {
         progress
     }
 
-    /// Takes a turn that ends before it would make more than `steps` steps on words of the table, and tells how many it
-    /// made. What it didn't come to is not told. A packet that was partly sent or partly read is begun again in a later
+    /// Takes a turn that ends before it would make more than `steps` steps on words of the table, and gives how many it
+    /// made. What it didn't come to is not reported. A packet that was partly sent or partly read is begun again in a later
     /// turn.
     pub fn turn_within(&mut self, steps: u32) -> (Progress, u32)
         ensures turn { IsTurn self.old.policy (post_of self.old.end)

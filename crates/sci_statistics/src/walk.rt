@@ -66,7 +66,7 @@ fn performed(machine: &mut Machine, node: u8, line: u8) -> Option<Entry>
     }
 }
 
-/// Applies an event, and tells whether it was enabled. Refused if memory is.
+/// Applies an event, and gives whether it was enabled. Refused if memory is.
 pub fn applied(machine: &mut Machine, event: &Event) -> Result<bool, AllocError>
     ensures step { OnOk result (machine.new ≡ step machine.old event.now) }
     ensures enabled { IfOk result

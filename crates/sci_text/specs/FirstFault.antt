@@ -1,4 +1,4 @@
--- What is told of a text with a fault: the first line that has one, and of its faults the first. This is one theory for
+-- What is reported of a text with a fault: the first line that has one, and of its faults the first. This is one theory for
 -- scripts, schedules and logs.
 use Rattle.std.specs.Prelude.{◌≡◌, ℕ, ◌+◌, ◌<◌, ◌≤◌, ◌⊎◌, Bool, true, false, List, ◌++◌, length, Option, IfSome, Result, Ok, Err}
 use Rattle.sci_words.specs.declared.limits.TheConstants.{MAX_INPUT_BYTES, MAX_TEXT_LINE_BYTES}
@@ -45,7 +45,7 @@ abbrev pub IsFirstFault : {V : Type 0} → (List ℕ → TextFaultKind → Type 
     → (V → List ℕ → TextFaultKind → Type 0) → List ℕ → ℕ → TextFaultKind → Type 0
 IsFirstFault opening begins goes_on count fault input line kind = ((line ≡ 1) × opening input kind) ⊎ FaultAfter begins goes_on count fault input line kind
 
--- the line where a fault that is found on a line is told: 0 if memory was refused
+-- the line that is reported with a fault that is found on a line: 0 if memory was refused
 abbrev pub told_line : ℕ → TextFaultKind → ℕ
 told_line line Syntax = line
 told_line line Range = line
@@ -54,7 +54,7 @@ told_line line Read = line
 told_line line Write = line
 told_line line Memory = 0
 
--- the fault is of this kind, and told of this line
+-- the fault is of this kind, and reported of this line
 abbrev pub IsToldAt : ℕ → TextFaultKind → TextFault → Type 0
 IsToldAt line kind fault = (fault.kind ≡ kind) × (fault.line ≡ told_line line kind)
 
@@ -96,7 +96,7 @@ pub record IsFaultyLine (is_first : List ℕ → ℕ → TextFaultKind → Type 
 abbrev pub IsTooMany : (List ℕ → ℕ → TextFaultKind → Type 0) → Option (List ℕ) → ℕ → Type 0
 IsTooMany is_first known line = ((line ≡ 0) × IfSome known (λ input. MAX_INPUT_BYTES < length input)) ⊎ IsFaultyLine is_first known line TooMany
 
--- Which fault is told, and at which line. `known` is the input, if the reader's contents are known; `failed` says
+-- Which fault is reported, and at which line. `known` is the input, if the reader's contents are known; `failed` says
 -- whether a read failed. The whole input comes first, then the first line with a fault.
 abbrev pub IsTold : (List ℕ → ℕ → TextFaultKind → Type 0) → TextFaultKind → Option (List ℕ) → Bool → ℕ → Type 0
 IsTold is_first Read known failed line = (failed ≡ true) × (line ≡ 0)

@@ -69,7 +69,7 @@ impl TextFault {
     }
 }
 
-/// What came of a line: its fault is told of this line, or of the whole input if it is Memory.
+/// What came of a line: its fault is reported of this line, or of the whole input if it is Memory.
 pub fn at_line<T: Drop>(line: usize, read: Result<T, TextFaultKind>) -> Result<T, TextFault>
     ensures { MatchResult read (λ x. result ≡ Ok x) (λ kind. IsErrAnd result (IsToldAt line kind)) }
 {

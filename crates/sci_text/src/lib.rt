@@ -1,4 +1,4 @@
-//! Texts of scripts, schedules and logs: their grammar, readers that tell the first fault, and writers.
+//! Texts of scripts, schedules and logs: their grammar, readers that report the first fault, and writers.
 #![tactic(auto)]
 
 mod fault;

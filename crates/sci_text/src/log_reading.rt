@@ -34,7 +34,7 @@ pub fn read_logs<R: Read>(alloc: Global, reader: &mut Tap<R>) -> Result<(u8, Log
         → IsLogs input nodes logs last → length input ≤ MAX_INPUT_BYTES
         → R.remaining (tapped reader.old) ≡ Some input → GivesOnly (nodes, logs, last) result }
 
-    // Else the first fault is told.
+    // Else the first fault is reported.
     ensures fault { IfErr result (λ fault. IsTold IsLogFault fault.kind
         (R.remaining (tapped reader.old)) (has_failed reader.new) fault.line) }
     ensures again { is_called_again reader.new ≡ is_called_again reader.old }

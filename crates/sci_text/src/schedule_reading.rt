@@ -33,7 +33,7 @@ pub fn read_schedule<R: Read>(alloc: Global, reader: &mut Tap<R>) -> Result<Sche
         → R.remaining (tapped reader.old) ≡ Some (schedule_text schedule)
         → GivesOnly schedule result }
 
-    // Else the first fault is told.
+    // Else the first fault is reported.
     ensures fault { IfErr result (λ fault. IsTold IsScheduleFault fault.kind
         (R.remaining (tapped reader.old)) (has_failed reader.new) fault.line) }
     ensures again { is_called_again reader.new ≡ is_called_again reader.old }

@@ -32,7 +32,7 @@ pub fn read_script<R: Read>(alloc: Global, reader: &mut Tap<R>) -> Result<Script
         → length (script_text script) ≤ MAX_INPUT_BYTES
         → R.remaining (tapped reader.old) ≡ Some (script_text script) → GivesOnly script result }
 
-    // Else the first fault is told.
+    // Else the first fault is reported.
     ensures fault { IfErr result (λ fault. IsTold IsScriptFault fault.kind
         (R.remaining (tapped reader.old)) (has_failed reader.new) fault.line) }
     ensures again { is_called_again reader.new ≡ is_called_again reader.old }

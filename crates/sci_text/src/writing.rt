@@ -7,7 +7,7 @@ use crate::fault::{TextFault, TextFaultKind};
 use crate::tap::Tap;
 use std::io::Write;
 
-/// Writes all of a text, or tells that the writer failed: a prefix of the text may have gone out then, and nothing
+/// Writes all of a text, or reports that the writer failed: a prefix of the text may have gone out then, and nothing
 /// more is written.
 pub fn write_text<W: Write>(writer: &mut Tap<W>, text: &[u8]) -> Result<(), TextFault>
     requires { has_failed writer.old ≡ false }

@@ -82,7 +82,7 @@ effect_text core next e =
     moved_text (codes "  sent ") (letter_sent core e)
     ++ (moved_text (codes "  took ") (letter_taken core e) ++ (changes_of core next e ++ entry_text (entry_logged next e)))
 
--- the line that tells what stands in the way of an event, where the line that it names is in this state
+-- the line that says what stands in the way of an event, where the line that it names is in this state
 unfoldable pub reason_line : Obstacle → Event → List ℕ → List ℕ
 reason_line obstacle e state = codes "  not enabled: " ++ (obstacle_words obstacle e state ++ 10 ∷ [])
 

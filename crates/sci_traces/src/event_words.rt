@@ -212,7 +212,7 @@ pub fn push_changes(
     }
 }
 
-/// Appends the line that tells what stands in the way of an event.
+/// Appends the line that says what stands in the way of an event.
 #[tactic(auto, unfolding(crate::specs::TraceAnswer::reason_line))]
 fn push_reason_line(
     out: &mut Vec<u8>,

@@ -54,7 +54,7 @@ abbrev pub own_of : ℕ → List Event → List Event
 own_of n events = filter (λ e. node_of e == n) events
 
 -- A turn so far: what is known goes on by events, of which the node's own are those of its turn, none of them an Issue or a
--- Perform, and what is told counts them.
+-- Perform, and the report counts them.
 pub record HasMoved (before : PolicyOf) (old : PostOf) (after : PolicyOf) (new : PostOf) (progress : Progress) : Type 0 where
   pub same : IsSamePost old new
   pub more : List Event

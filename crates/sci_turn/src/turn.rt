@@ -14,9 +14,9 @@ use sci_core::LaneKind;
 use sci_policy::{Policy, Progress, Want};
 use sci_words::{AskKind, Event, LANE_CELLS};
 
-/// Takes a turn of a node, and tells what it did. It sends the answer that waits; accepts up to four answers from each node;
-/// serves or refuses up to four requests from each node, beginning after the one served last, and sends each answer; and
-/// asks up to four times what the policy wants.
+/// Takes a turn of a node, and reports what it did. It sends the answer that waits; accepts up to four answers from each
+/// node; serves or refuses up to four requests from each node, beginning after the one served last, and sends each answer;
+/// and asks up to four times what the policy wants.
 pub fn take_turn<P: Post>(
     post: &mut P,
     policy: &mut Policy,
@@ -257,8 +257,8 @@ fn take_seen<P: Post>(
     Ok(true)
 }
 
-/// Up to four times, the node asks what the policy wants. It ends at a line that can be performed, which is told, and at an
-/// ask whose lane has no room.
+/// Up to four times, the node asks what the policy wants. It ends at a line that can be performed, which it reports, and at
+/// an ask whose lane has no room.
 fn ask_some<P: Post>(
     post: &mut P,
     policy: &mut Policy,

@@ -64,7 +64,7 @@ pub(crate) fn refused_nines<F: Format>(
     Ok(())
 }
 
-/// That a text is read a byte at a time, and that a read which fails is told, whichever it is.
+/// That a text is read a byte at a time, and that a read which fails is reported, whichever it is.
 pub(crate) fn reads_fail_in_turn<F: Format>(rt: &(impl Abort + AllocGlobal), text: &[u8]) {
     for with in KINDS {
         for fails_at in 0..=text.len() + 1 {

@@ -1,4 +1,4 @@
-//! What the program tells of itself.
+//! What the program says of itself.
 
 /// The words that the program knows.
 pub const USAGE: &str =
