@@ -50,7 +50,7 @@ pub(crate) fn is_within(extent: Extent, event: Event) -> bool
 }
 
 impl Schedule {
-    ghost use Rattle.std.specs.Prelude.{◌≡◌, ◌<◌, [], OnOk, OnErr, IfErr, length};
+    ghost use Rattle.std.specs.Prelude.{◌≡◌, ◌<◌, [], None, OnOk, OnErr, IfErr, IfSome, length};
     ghost use Rattle.sci_words.specs.declared.limits.TheConstants.{MAX_EVENTS};
     ghost use Rattle.sci_text.specs.Schedule.{IsSchedule, with_event, EventRefusal};
 
@@ -107,5 +107,15 @@ impl Schedule {
             return Err(PushFault::Memory);
         };
         Ok(())
+    }
+
+    /// Takes the last event away, and gives it. None, unchanged, if there are no events.
+    pub fn pop(&mut self) -> Option<Event>
+        ensures popped { IfSome result (λ event. self.old ≡ with_event self.new event) }
+        ensures none { result ≡ None → self.old.events ≡ [] }
+        ensures same { result ≡ None → self.new ≡ self.old }
+        ensures good { IsSchedule self.new }
+    {
+        self.events.pop()
     }
 }

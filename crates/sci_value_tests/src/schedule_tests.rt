@@ -194,6 +194,12 @@ fn pushed_events(rt: HostRuntime) -> Result<(), Fail> {
         assert_eq!(rt; schedule.push(outside), Err(PushFault::Range));
     }
     assert_eq!(rt; schedule.events(), [event].as_slice());
+    let last = Event::Reply { node: 1 };
+    assert_eq!(rt; schedule.push(last), Ok(()));
+    assert_eq!(rt; schedule.pop(), Some(last));
+    assert_eq!(rt; schedule.events(), [event].as_slice());
+    assert_eq!(rt; schedule.pop(), Some(event));
+    assert_eq!(rt; schedule.pop(), None);
     Ok(())
 }
 
