@@ -6,3 +6,4 @@ pub mod Recording
 pub mod RunEnds
 pub mod WorkingNodes
 pub mod Playing
+pub mod Posting

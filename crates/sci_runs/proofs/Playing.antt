@@ -1,34 +1,44 @@
 -- What a node does, one deed after another, and rounds, one after another.
-use Rattle.std.proofs.Common.{◌≡◌, ℕ, List, [], ◌∷◌, Option, Some, None, Result, Ok, Err, IfOk, refl, sym, subst}
+use Rattle.std.proofs.Common.{◌≡◌, ℕ, List, [], ◌∷◌, ◌++◌, Option, Some, None, Result, Ok, Err, IfOk, refl, sym, subst}
 use Rattle.std.specs.{Prelude.{IfSome, IsErr}, declared.alloc.AllocError.{AllocError}}
 use Rattle.sci_words.specs.declared.event.Event.{Event}
-use Rattle.sci_core.specs.{Core.{Core, stepping}, Node.{NodeOf}}
+use Rattle.sci_core.specs.{Core.{stepping}, Node.{NodeOf}}
 use Rattle.sci_policy.specs.{declared.progress.Progress.{Progress}, Policy.{PolicyOf}}
 use Rattle.sci_drive.specs.{Calls.{AllowAll, Call}, declared.driver.Round.{Round}, Driving.{DriverOf}}
 use Rattle.sci_drive.specs.Rounds.{GoesRound}
 use Rattle.sci_runs.specs.{Deeds.{IsWholeTurn, IsWorkOf, Takes, Turns, Works, takes_nothing}, Played.{GoesOpenly}}
+use Rattle.sci_runs.specs.Recorded.{Course, RecorderOf, course_of}
 
 -- ---- deeds
 
-works : (n : ℕ) (p : PolicyOf) (x y : Core) (e : Event) → IsWorkOf n e → stepping x e ≡ Some y → Takes n 0 p x p y
-works n p x y e own steps = record { deeds = Works e ∷ []; many = refl; does = (y, own, steps, (refl, refl)) }
+works : (n : ℕ) (p : PolicyOf) (x : Course) (y : RecorderOf) (e : Event) → IsWorkOf n e → stepping x.core e ≡ Some y.core
+    → y.schedule.events ≡ x.events ++ e ∷ [] → Takes n 0 p x p (course_of y)
+works n p x y e own steps more =
+    subst (λ (events : List Event). Takes n 0 p x p (record { core = y.core; events = events })) (sym more)
+    (record { deeds = Works e ∷ []; many = refl; does = (y.core, own, steps, (refl, refl)) })
 
-stays : (n : ℕ) (p : PolicyOf) (x y : Core) → y ≡ x → Takes n 0 p x p y
-stays n p x y same = subst (λ (core : Core). Takes n 0 p x p core) (sym same) (takes_nothing n p x)
+stays : (n : ℕ) (p : PolicyOf) (x y : RecorderOf) → y ≡ x → Takes n 0 p (course_of x) p (course_of y)
+stays n p x y same = subst (λ (recorder : RecorderOf). Takes n 0 p (course_of x) p (course_of recorder)) (sym same) (takes_nothing n p (course_of x))
+
+-- what is known of a recorder that has lost no event
+abbrev pub TakesUnlost : ℕ → ℕ → PolicyOf → RecorderOf → PolicyOf → RecorderOf → Type 0
+TakesUnlost n turns p x q y = y.lost ≡ None → (x.lost ≡ None) × Takes n turns p (course_of x) q (course_of y)
 
 -- an operation that is submitted, or refused
-pub takes_submit : {T E : Type 0} (result : Result T E) (n : ℕ) (p : PolicyOf) (x y : Core) (e : Event) → IsWorkOf n e
-    → IfOk result (λ _. stepping x e ≡ Some y) → (IsErr result → y ≡ x) → Takes n 0 p x p y
-takes_submit (Ok serial) n p x y e own steps same = works n p x y e own steps
-takes_submit (Err fault) n p x y e own steps same = stays n p x y (same refl)
+pub takes_submit : {T E : Type 0} (result : Result T E) (n : ℕ) (p : PolicyOf) (x y : RecorderOf) (e : Event) → IsWorkOf n e
+    → (y.lost ≡ None → x.lost ≡ None) → IfOk result (λ _. stepping x.core e ≡ Some y.core)
+    → IfOk result (λ _. y.lost ≡ None → y.schedule.events ≡ x.schedule.events ++ e ∷ []) → (IsErr result → y ≡ x) → TakesUnlost n 0 p x p y
+takes_submit (Ok serial) n p x y e own before steps more same none = (before none, works n p (course_of x) y e own steps (more none))
+takes_submit (Err fault) n p x y e own before steps more same none = (before none, stays n p x y (same refl))
 
 -- an operation that is performed, or can't be
-pub takes_perform : {T : Type 0} (result : Option T) (n : ℕ) (p : PolicyOf) (x y : Core) (e : Event) → IsWorkOf n e
-    → IfSome result (λ _. stepping x e ≡ Some y) → (result ≡ None → y ≡ x) → Takes n 0 p x p y
-takes_perform (Some entry) n p x y e own steps same = works n p x y e own steps
-takes_perform None n p x y e own steps same = stays n p x y (same refl)
+pub takes_perform : {T : Type 0} (result : Option T) (n : ℕ) (p : PolicyOf) (x y : RecorderOf) (e : Event) → IsWorkOf n e
+    → (y.lost ≡ None → x.lost ≡ None) → IfSome result (λ _. stepping x.core e ≡ Some y.core)
+    → IfSome result (λ _. y.lost ≡ None → y.schedule.events ≡ x.schedule.events ++ e ∷ []) → (result ≡ None → y ≡ x) → TakesUnlost n 0 p x p y
+takes_perform (Some entry) n p x y e own before steps more same none = (before none, works n p (course_of x) y e own steps (more none))
+takes_perform None n p x y e own before steps more same none = (before none, stays n p x y (same refl))
 
-pub takes_turn : (n : ℕ) (p q : PolicyOf) (x y : Core) (progress : Progress) → IsWholeTurn n p x q y progress → Takes n 1 p x q y
+pub takes_turn : (n : ℕ) (p q : PolicyOf) (x y : Course) (progress : Progress) → IsWholeTurn n p x q y progress → Takes n 1 p x q y
 takes_turn n p q x y progress turn = record { deeds = Turns progress ∷ []; many = refl; does = (q, y, turn, (refl, refl)) }
 
 -- ---- rounds

@@ -1,7 +1,7 @@
 -- The schedule of a recorder, and an event more.
 use Rattle.std.proofs.Common.{◌≡◌, ℕ, ◌<◌, ◌^◌, Bool, true, false, if◌then◌else◌, arith, List, [], ◌∷◌, ◌++◌, Option, Some, None, refl, sym, ap, subst}
-use Rattle.std.proofs.{Common.{◌∙◌}, lemmas.Bool.{and_parts, ltb-true}}
-use Rattle.std.specs.Prelude.{◌&&◌, nat_lt, IsSome, option_map}
+use Rattle.std.proofs.{Common.{◌∙◌}, lemmas.{Bool.{and_parts, ltb-true}, List.{same_from_push}}}
+use Rattle.std.specs.Prelude.{◌&&◌, nat_lt, IfSome, IsSome, option_map}
 use Rattle.sci_words.specs.declared.{event.AskKind.{AskKind}, extent.Extent.{Extent}}
 use Rattle.sci_words.specs.declared.{limits.TheConstants.{MAX_OPERATIONS, WORDS_PER_LINE}, event.Event.{Event}}
 use Rattle.sci_words.specs.declared.operation.{Act.{Act, TheVariants.{Load, Store, Lock}}, LockOp.{LockOp}}
@@ -137,6 +137,40 @@ pub event_within : (core new : Core) (schedule : ScheduleValue) (e : Event) → 
 event_within core new schedule e sized reached steps =
     subst (λ (n : ℕ). IsEventWithin n schedule.lines e) (sym sized.nodes_are)
     (subst (λ (l : ℕ). IsEventWithin core.size.nodes l e) (sym sized.lines_are) (enabled_within core new e reached steps))
+
+within_some : (core : Core) (schedule : ScheduleValue) (e : Event) (o : Option Core) → IsOfSize core.size schedule → IsReached core → stepping core e ≡ o
+    → IsSome o → IsEventWithin schedule.nodes schedule.lines e
+within_some core schedule e None sized reached is some = cc
+within_some core schedule e (Some new) sized reached is some = event_within core new schedule e sized reached is
+
+pub enabled_fits : (core : Core) (schedule : ScheduleValue) (e : Event) → IsOfSize core.size schedule → IsReached core → IsEnabled core e
+    → IsEventWithin schedule.nodes schedule.lines e
+enabled_fits core schedule e sized reached enabled = within_some core schedule e (stepping core e) sized reached refl enabled
+
+-- an event that was recorded is taken away again
+same_schedule : (a b : ScheduleValue) → a.nodes ≡ b.nodes → a.lines ≡ b.lines → a.slots ≡ b.slots → a.events ≡ b.events → a ≡ b
+same_schedule a b nodes lines slots events =
+    ap (λ (n : ℕ). record a { nodes = n }) nodes
+    ∙ (ap (λ (l : ℕ). record a { nodes = b.nodes; lines = l }) lines
+    ∙ (ap (λ (s : ℕ). record a { nodes = b.nodes; lines = b.lines; slots = s }) slots ∙ ap (λ (es : List Event). record b { events = es }) events))
+
+unpushed : (old new : ScheduleValue) (e x : Event) → with_event old e ≡ with_event new x → new ≡ old
+unpushed old new e x is =
+    same_schedule new old (ap (λ (s : ScheduleValue). s.nodes) (sym is)) (ap (λ (s : ScheduleValue). s.lines) (sym is))
+    (ap (λ (s : ScheduleValue). s.slots) (sym is))
+    (sym (same_from_push old.events new.events e x (ap (λ (s : ScheduleValue). s.events) is)).0)
+
+none_pushed : (events : List Event) (e : Event) → events ++ e ∷ [] ≡ [] → ⊥
+none_pushed [] e is = cc
+none_pushed (x ∷ events) e is = cc
+
+pub popped : (old mid new : ScheduleValue) (e : Event) (o : Option Event) → mid ≡ with_event old e → IfSome o (λ x. mid ≡ with_event new x)
+    → (o ≡ None → mid.events ≡ []) → new ≡ old
+popped old mid new e (Some x) pushed taken none = unpushed old new e x (sym pushed ∙ taken)
+popped old mid new e None pushed taken none = absurd (none_pushed old.events e (sym (ap (λ (s : ScheduleValue). s.events) pushed) ∙ none refl))
+
+pub same_size : (old new : ScheduleValue) (e : Event) → new ≡ with_event old e → IsSameSize old new
+same_size old new e is = subst (IsSameSize old) (sym is) (record { nodes_are = refl; lines_are = refl; slots_are = refl })
 
 -- it is recorded, or lost
 pub recorder_on : (core new : Core) (old now : ScheduleValue) (was lost : Option RunFault) (e : Event)

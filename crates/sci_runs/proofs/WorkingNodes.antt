@@ -3,7 +3,7 @@ use Rattle.std.proofs.Common.{◌≡◌, ◌<◌, ◌≤◌, ℕ, arith, All, Ok
 use Rattle.std.proofs.lemmas.Bool.{cases_eq, cases_lt}
 use Rattle.std.proofs.lemmas.List.{get_or-map, get_or-set_other, get_or-set_same, get_or_past, length-map, length-set, map-set}
 use Rattle.std.specs.Prelude.{slice_index_or}
-use Rattle.sci_words.specs.declared.{extent.Extent.{Extent}, limits.TheConstants.{MAX_OPERATIONS}, operation.Op.{Op}}
+use Rattle.sci_words.specs.declared.{event.Event.{Event}, extent.Extent.{Extent}, limits.TheConstants.{MAX_OPERATIONS}, operation.Op.{Op}}
 use Rattle.sci_text.specs.Script.{ScriptValue}
 use Rattle.sci_core.specs.{Core.{Core, node_at, opening}, Node.{NodeOf, opening_node}, Size.{Size, size_of}}
 use Rattle.sci_lanes.proofs.Opening.{node_opened}
@@ -13,9 +13,9 @@ use Rattle.sci_drive.specs.Driving.{DriverOf, HasSubmittedNothing, IsDriven, IsI
 use Rattle.sci_drive.proofs.{Drives.{opens}, InOrder.{opens_in_order}}
 use Rattle.sci_threads.specs.Shares.{operations_of}
 use Rattle.sci_threads.proofs.RunStations.{opened_fresh, sized_for}
-use Rattle.sci_runs.specs.{Deeds.{Takes}, Played.{Begins, GoesOpenly, IsRound, Moment, StaysBut}}
+use Rattle.sci_runs.specs.{Deeds.{Takes}, Played.{Begins, GoesOpenly, IsRound, StaysBut}}
 use Rattle.sci_runs.specs.Players.{AreAtWork, IsAtWork, TableOf, moment_of}
-use Rattle.sci_runs.specs.Recorded.{RecorderOf, SparesOthers, with_limit}
+use Rattle.sci_runs.specs.Recorded.{RecorderOf, SparesOthers, course_of, with_limit}
 
 -- ---- a new machine
 
@@ -70,17 +70,18 @@ policies_open g (player ∷ players) all n = elim (cases_lt n (length (player �
   | inr le ↦ let long = length-map (player ∷ players) g in get_or_past (map g (player ∷ players)) n opening_policy (omega (arith, long, le))
 ]
 
-pub begins : {A Z : Type 0} (f : A → DriverOf) (g : A → PolicyOf) (s : ScriptValue) (issuing : Issuing) (core : Core) (extent : Extent) (limit : ℕ)
-    (all : List (Vec Op Z)) (players : List A) → core ≡ opening (size_of extent limit)
+pub begins : {A Z : Type 0} (f : A → DriverOf) (g : A → PolicyOf) (s : ScriptValue) (issuing : Issuing) (core : Core) (events : List Event) (extent : Extent)
+    (limit : ℕ) (all : List (Vec Op Z)) (players : List A) → events ≡ [] → core ≡ opening (size_of extent limit)
     → extent.nodes ≡ s.nodes → extent.lines ≡ s.lines → extent.slots ≡ s.slots → length all ≡ s.nodes
     → ((k : ℕ) (own : Vec Op Z) → k < s.nodes → (slice_index_or all k own).items ≡ operations_of k s.operations)
     → All (λ (own : Vec Op Z). length own.items ≤ limit) all
     → map f players ≡ map (λ own. opening_driver own.items issuing) all → All (λ player. g player ≡ opening_policy) players
-    → Begins s issuing (record { core = core; drivers = map f players; policies = map g players })
-begins f g s issuing core extent limit all players opens nodes lines slots long each few is remember = record {
+    → Begins s issuing (record { core = core; events = events; drivers = map f players; policies = map g players })
+begins f g s issuing core events extent limit all players none opens nodes lines slots long each few is remember = record {
   limit = limit;
   room = room_for s limit all long each few;
   core = opens ∙ ap (λ (z : Size). opening (with_limit limit z)) (sized_for extent s nodes lines slots);
+  none = none;
   drivers = λ n d lt. opened_driver s issuing all (map f players) n d long each lt is;
   policies = policies_open g players remember;
 }
@@ -136,6 +137,10 @@ module _ {A : Type 0} (f : A → DriverOf) (g : A → PolicyOf) (script : Script
   abbrev view : TableOf
   view = record { script = script; issuing = issuing; recorder = recorder; drivers = map f players; policies = map g players }
 
+  -- the view when this player has done a round
+  abbrev after : A → RecorderOf → TableOf
+  after new later = record { script = script; issuing = issuing; recorder = later; drivers = map f (set players k new); policies = map g (set players k new) }
+
   some_node : view ≡ table → n < table.script.nodes → n < script.nodes
   some_node is lt = subst (λ (t : TableOf). n < t.script.nodes) (sym is) lt
 
@@ -156,8 +161,7 @@ module _ {A : Type 0} (f : A → DriverOf) (g : A → PolicyOf) (script : Script
   pub round_on : view ≡ table → AreAtWork view → n < table.script.nodes → k ≡ n → player ≡ slice_index_or players k player → (new : A) (later : RecorderOf)
       → SparesOthers n recorder.core later.core → (f new).script ≡ (f player).script
       → IsDriven (f new) (node_at later.core n) → (IsInOrder (f player) (node_at recorder.core n) → IsInOrder (f new) (node_at later.core n))
-      → AreAtWork
-      (record { script = script; issuing = issuing; recorder = later; drivers = map f (set players k new); policies = map g (set players k new) })
+      → AreAtWork (after new later)
   round_on is work lt same value new later spares own driven order =
       let some = some_node is lt in
       let drivers : map f (set players k new) ≡ set (map f players) n (f new) = map-set f players k new ∙ ap (λ (i : ℕ). set (map f players) i (f new)) same in
@@ -167,24 +171,24 @@ module _ {A : Type 0} (f : A → DriverOf) (g : A → PolicyOf) (script : Script
   -- and it is a round of the run
   pub round_is : view ≡ table → AreAtWork view → n < table.script.nodes → k ≡ n → player ≡ slice_index_or players k player → (new : A) (later : RecorderOf)
       (round : Round) → GoesOpenly (f player) (f new) (node_at recorder.core n) (node_at later.core n) (Ok round)
-      → Takes n 1 (g player) recorder.core (g new) later.core
-      → IsRound n (moment_of table) (record { core = later.core; drivers = map f (set players k new); policies = map g (set players k new) })
+      → Takes n 1 (g player) (course_of recorder) (g new) (course_of later)
+      → IsRound n (moment_of table) (moment_of (after new later))
   round_is is work lt same value new later round goes takes =
       let some = some_node is lt in
       let within : n < length players = let many = work.many in let long = length-map players f in omega (arith, some, many, long) in
       let here : player ≡ slice_index_or players n player = value ∙ ap (λ (i : ℕ). slice_index_or players i player) same in
-      let last : Moment = record { core = later.core; drivers = map f (set players k new); policies = map g (set players k new) } in
       let was : slice_index_or (map g players) n opening_policy ≡ g player = get_or-map g players n player opening_policy within ∙ ap g (sym here) in
       let now : slice_index_or (map g (set players k new)) n opening_policy ≡ g new = placed_here g players k n new opening_policy same within in
-      subst (λ (t : TableOf). IsRound n (moment_of t) last) is (record {
+      subst (λ (t : TableOf). IsRound n (moment_of t) (moment_of (after new later))) is (record {
         round = round;
         goes = λ d.
             subst (λ (driver : DriverOf). GoesOpenly driver (slice_index_or (map f (set players k new)) n d) (node_at recorder.core n) (node_at later.core n)
             (Ok round)) (sym (stands work some same value d))
             (subst (λ (driver : DriverOf). GoesOpenly (f player) driver (node_at recorder.core n) (node_at later.core n) (Ok round))
             (sym (placed_here f players k n new d same within)) goes);
-        takes = subst (λ (policy : PolicyOf). Takes n 1 policy recorder.core (slice_index_or (map g (set players k new)) n opening_policy) later.core) (sym was)
-            (subst (λ (policy : PolicyOf). Takes n 1 (g player) recorder.core policy later.core) (sym now) takes);
+        takes = subst (λ (policy : PolicyOf).
+            Takes n 1 policy (course_of recorder) (slice_index_or (map g (set players k new)) n opening_policy) (course_of later)) (sym was)
+            (subst (λ (policy : PolicyOf). Takes n 1 (g player) (course_of recorder) policy (course_of later)) (sym now) takes);
         drivers = placed_other f players k n new same;
         policies = placed_other g players k n new same;
       })

@@ -1,23 +1,27 @@
 -- The rounds of a run, one after another: whose each is, and what its node does in it.
-use Rattle.std.specs.Prelude.{◌≡◌, ◌≢◌, ◌<◌, ◌≤◌, ℕ, zero, suc, List, Option, Ok, Result, length, slice_index_or}
+use Rattle.std.specs.Prelude.{◌≡◌, ◌≢◌, ◌<◌, ◌≤◌, ℕ, zero, suc, List, [], Option, Ok, Result, length, slice_index_or}
 use Rattle.std.specs.declared.alloc.AllocError.{AllocError}
-use Rattle.sci_words.specs.declared.limits.TheConstants.{MAX_OPERATIONS}
+use Rattle.sci_words.specs.declared.{event.Event.{Event}, limits.TheConstants.{MAX_OPERATIONS}}
 use Rattle.sci_text.specs.{Script.{ScriptValue}, Schedule.{ScheduleValue}}
 use Rattle.sci_core.specs.{Core.{Core, node_at, opening, run}, Node.{NodeOf}}
 use Rattle.sci_policy.specs.Policy.{PolicyOf, opening_policy}
 use Rattle.sci_drive.specs.{declared.driver.{Issuing.{Issuing}, Round.{Round}}, Calls.{AllowAll}}
 use Rattle.sci_drive.specs.{Driving.{DriverOf, opening_driver}, Rounds.{GoesRound}}
 use Rattle.sci_threads.specs.Shares.{operations_of, size_for}
-use Rattle.sci_runs.specs.{declared.order.Order.{Order}, Deeds.{Takes}, Recorded.{raised, with_limit}}
+use Rattle.sci_runs.specs.{declared.order.Order.{Order}, Deeds.{Takes}, Recorded.{Course, raised, with_limit}}
 use Rattle.sci_runs.specs.Turns.{first_order, next_node, next_order}
 
 -- ---- a run
 
--- what a run has at one moment: the machine's state, and the driver and what the policy remembers of each node
+-- what a run has at one moment: the machine's state, the events so far, and the driver and what the policy remembers of each node
 pub record Moment : Type 0 where
   pub core : Core
+  pub events : List Event
   pub drivers : List DriverOf
   pub policies : List PolicyOf
+
+abbrev pub course_at : Moment → Course
+course_at moment = record { core = moment.core; events = moment.events }
 
 abbrev pub policy_at : Moment → ℕ → PolicyOf
 policy_at moment n = slice_index_or moment.policies n opening_policy
@@ -38,7 +42,7 @@ GoesOpenly old new before after result = GoesRound (λ (first : Unit {0}) calls 
 pub record IsRound (n : ℕ) (old new : Moment) : Type 0 where
   pub round : Round
   pub goes : (d : DriverOf) → GoesOpenly (driver_at old n d) (driver_at new n d) (node_at old.core n) (node_at new.core n) (Ok round)
-  pub takes : Takes n 1 (policy_at old n) old.core (policy_at new n) new.core
+  pub takes : Takes n 1 (policy_at old n) (course_at old) (policy_at new n) (course_at new)
   pub drivers : StaysBut n old.drivers new.drivers
   pub policies : StaysBut n old.policies new.policies
 
@@ -54,14 +58,17 @@ pub record Begins (script : ScriptValue) (issuing : Issuing) (first : Moment) : 
   pub limit : ℕ
   pub room : (node : ℕ) → node < script.nodes → length (operations_of node script.operations) ≤ limit
   pub core : first.core ≡ opening (with_limit limit (size_for script))
+  pub none : first.events ≡ []
   pub drivers : (node : ℕ) (d : DriverOf) → node < script.nodes → driver_at first node d ≡ opening_driver (operations_of node script.operations) issuing
   pub policies : (node : ℕ) → policy_at first node ≡ opening_policy
 
--- The schedule has the events of this many rounds by the policy: they begin anew, and lead to the state behind the schedule.
+-- The events of the schedule are those of this many rounds by the policy, in their order: they begin anew, and lead to the state
+-- behind the schedule.
 pub record IsPlayed (script : ScriptValue) (issuing : Issuing) (seed : Option ℕ) (rounds : ℕ) (schedule : ScheduleValue) : Type 0 where
   pub first : Moment
   pub begins : Begins script issuing first
   pub order : Order
   pub last : Moment
   pub played : Played script.nodes rounds (first_order seed) first order last
+  pub events : schedule.events ≡ last.events
   pub behind : run (size_for script) schedule.events ≡ raised MAX_OPERATIONS last.core

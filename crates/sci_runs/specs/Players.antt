@@ -29,7 +29,7 @@ pub record TableOf : Type 0 where
 
 -- what it has of its run
 abbrev pub moment_of : TableOf → Moment
-moment_of table = record { core = table.recorder.core; drivers = table.drivers; policies = table.policies }
+moment_of table = record { core = table.recorder.core; events = table.recorder.schedule.events; drivers = table.drivers; policies = table.policies }
 
 -- the driver of each node of the script's machine has driven it; how many operations a node may issue is the machine's own
 pub record AreAtWork (table : TableOf) : Type 0 where

@@ -1,5 +1,5 @@
 -- A machine with the schedule that has led it where it stands.
-use Rattle.std.specs.Prelude.{◌≡◌, ◌≢◌, ◌<◌, ◌==◌, ◌⊎◌, ℕ, List, [], length, map, Option, Some, None, slice_get, if◌then◌else◌}
+use Rattle.std.specs.Prelude.{◌≡◌, ◌≢◌, ◌<◌, ◌==◌, ◌⊎◌, ℕ, List, [], ◌∷◌, ◌++◌, length, map, Option, Some, None, slice_get, if◌then◌else◌}
 use Rattle.std.specs.List.{Contains, filter_map}
 use Rattle.sci_words.specs.declared.{event.Event.{Event}, operation.Op.{Op}, limits.TheConstants.{MAX_OPERATIONS}}
 use Rattle.sci_history.specs.declared.entry.Entry.{Entry}
@@ -73,6 +73,18 @@ pub record RecorderOf : Type 0 where
   pub core : Core
   pub schedule : ScheduleValue
   pub lost : Option RunFault
+
+-- what has come of a machine so far: its state, and the events that led to it
+pub record Course : Type 0 where
+  pub core : Core
+  pub events : List Event
+
+abbrev pub course_of : RecorderOf → Course
+course_of recorder = record { core = recorder.core; events = recorder.schedule.events }
+
+-- one event more, which leads to this state
+abbrev pub gone_on : Course → Event → Core → Course
+gone_on course e core = record { core = core; events = course.events ++ e ∷ [] }
 
 -- the schedule is of the machine's size, and unless an event was lost it has led to the state
 pub record IsRecorder (recorder : RecorderOf) : Type 0 where

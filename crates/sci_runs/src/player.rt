@@ -55,10 +55,10 @@ pub(crate) fn are_answered(players: &[Player<'_>]) -> bool
 }
 
 impl<'a> Player<'a> {
-    ghost use Rattle.std.specs.Prelude.{◌≡◌, ◌<◌, IfOk};
+    ghost use Rattle.std.specs.Prelude.{◌≡◌, ◌<◌, None, IfOk};
     ghost use Rattle.sci_core.specs.Core.{node_at};
     ghost use Rattle.sci_drive.specs.Driving.{IsDriven, IsInOrder};
-    ghost use Rattle.sci_runs.specs.{Deeds.{Takes}, Played.{GoesOpenly}, Recorded.{SparesOthers}};
+    ghost use Rattle.sci_runs.specs.{Deeds.{Takes}, Played.{GoesOpenly}, Recorded.{SparesOthers, course_of}};
 
     /// Does a round at a node. Requires that there is such a node, and that this player has driven it. Refused if memory
     /// is, for a lane.
@@ -71,8 +71,8 @@ impl<'a> Player<'a> {
         ensures script { self.new.driver.script ≡ self.old.driver.script }
         ensures goes { GoesOpenly self.old.driver self.new.driver
             (node_at recorder.old.core node) (node_at recorder.new.core node) result }
-        ensures takes { IfOk result (λ _. Takes node 1
-            self.old.policy recorder.old.core self.new.policy recorder.new.core) }
+        ensures takes { IfOk result (λ _. recorder.new.lost ≡ None → Takes node 1
+            self.old.policy (course_of recorder.old) self.new.policy (course_of recorder.new)) }
         ensures spares { SparesOthers node recorder.old.core recorder.new.core }
     {
         let mut seat = Seat {

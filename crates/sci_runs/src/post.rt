@@ -1,13 +1,13 @@
 //! A machine with its record, as the post of one of its nodes.
 
-ghost use Rattle.std.specs.Prelude.{◌<◌};
+ghost use Rattle.std.specs.Prelude.{◌<◌, ◌≡◌, None};
 
+use crate::fault::RunFault;
 use crate::recorder::Recorder;
 use sci_core::{LaneKind, Node};
 use sci_packets::Packet;
 use sci_turn::Post;
 use sci_words::{Event, LANE_CELLS};
-use std::alloc::AllocError;
 
 /// A machine and its record, lent to one of the nodes.
 #[derive(Drop)]
@@ -15,21 +15,22 @@ pub(crate) struct Lent<'a> {
     pub(crate) recorder: &'a mut Recorder,
     pub(crate) node: u8,
     ghost some: { node < recorder.now.core.size.nodes },
+    ghost recorded: { recorder.now.lost ≡ None },
 }
 
 impl<'a> Post for Lent<'a> {
     ghost use Rattle.std.specs.Prelude.{◌≡◌, []};
     ghost use Rattle.sci_core.specs.Core.{lane_of};
     ghost use Rattle.std.proofs.Common.{refl, ◌∙◌};
-    ghost use Rattle.sci_locked.specs.Lent.{post_at};
-    ghost use Rattle.sci_runs.specs.Recorded.{SparesOthers};
+    ghost use Rattle.sci_runs.specs.{Deeds.{AddsOwn, adds_itself, adds_then, post_on}, Recorded.{SparesOthers, course_of}};
 
-    type Stop = AllocError;
+    type Stop = RunFault;
 
-    ghost post = { λ lent. post_at lent.node lent.recorder.now.core };
+    ghost post = { λ lent. post_on lent.node (course_of lent.recorder.now) };
 
     ghost stays = { λ old new. (new.node ≡ old.node) × (new.recorder.ghost_name ≡ old.recorder.ghost_name)
-        × SparesOthers old.node old.recorder.now.core new.recorder.now.core };
+        × SparesOthers old.node old.recorder.now.core new.recorder.now.core
+        × AddsOwn old.node old.recorder.now.schedule.events new.recorder.now.schedule.events };
 
     ghost sees = { λ lent kind from. lane_of lent.recorder.now.core kind from lent.node ≡ [] → ⊥ };
 
@@ -47,7 +48,7 @@ impl<'a> Post for Lent<'a> {
         self.recorder.machine().node(self.node)
     }
 
-    fn look(&mut self, kind: LaneKind, from: u8) -> Result<bool, AllocError> {
+    fn look(&mut self, kind: LaneKind, from: u8) -> Result<bool, RunFault> {
         Ok(self.recorder.machine().count(kind, from, self.node) > 0)
     }
 
@@ -58,12 +59,12 @@ impl<'a> Post for Lent<'a> {
         }
     }
 
-    fn take(&mut self, _kind: LaneKind, _from: u8, event: &Event) -> Result<(), AllocError> {
+    fn take(&mut self, _kind: LaneKind, _from: u8, event: &Event) -> Result<(), RunFault> {
         self.recorder.happen(event)
     }
 
     /// A lane takes as many packets here as one between running stations has cells.
-    fn send(&mut self, kind: LaneKind, packet: &Packet, event: &Event) -> Result<bool, AllocError> {
+    fn send(&mut self, kind: LaneKind, packet: &Packet, event: &Event) -> Result<bool, RunFault> {
         // Read, so that the prover knows that the state is reached.
         let _extent = self.recorder.machine().extent();
         let to = packet.target.get() as u8;
@@ -74,7 +75,12 @@ impl<'a> Post for Lent<'a> {
         Ok(true)
     }
 
-    ghost stays_itself = { λ x. (refl, refl, record { size = refl; others = λ m apart. refl }) };
+    ghost stays_itself = { λ x. (
+      refl,
+      refl,
+      record { size = refl; others = λ m apart. refl },
+      adds_itself x.node x.recorder.now.schedule.events,
+    ) };
 
     ghost stays_through = { λ x y z one two. (
       two.0 ∙ one.0,
@@ -83,5 +89,7 @@ impl<'a> Post for Lent<'a> {
         size = two.2.size ∙ one.2.size;
         others = λ m apart. two.2.others m (λ is. apart (is ∙ one.0)) ∙ one.2.others m apart;
       },
+      adds_then x.node y.node x.recorder.now.schedule.events y.recorder.now.schedule.events
+          z.recorder.now.schedule.events one.0 one.3 two.3,
     ) };
 }

@@ -19,13 +19,28 @@ struct Record {
 }
 
 impl Record {
-    ghost use Rattle.std.specs.Prelude.{◌≡◌, None};
+    ghost use Rattle.std.specs.Prelude.{◌≡◌, None, IfOk, IsErr};
     ghost use Rattle.sci_text.specs.Schedule.{IsEventWithin, with_event};
     ghost use Rattle.sci_runs.specs.Recorded.{IsSameSize};
 
+    /// Records an event of the schedule's machine. Refused, unchanged, if memory is, or if there are 500,000 events already.
+    fn push(&mut self, event: Event) -> Result<(), RunFault>
+        requires { IsEventWithin self.old.schedule.nodes self.old.schedule.lines event }
+        ensures recorded { IfOk result (λ _. self.new.schedule ≡ with_event self.old.schedule event) }
+        ensures same { IsErr result → self.new.schedule ≡ self.old.schedule }
+        ensures lost { self.new.lost ≡ self.old.lost }
+    {
+        match self.schedule.push(event) {
+            Ok(()) => Ok(()),
+            Err(PushFault::Range) => unreachable!(),
+            Err(PushFault::TooMany) => Err(RunFault::TooMany),
+            Err(PushFault::Memory) => Err(RunFault::Memory),
+        }
+    }
+
     /// Records an event of the schedule's machine, unless one was lost before. It is lost if memory is refused, or if there
     /// are 500,000 events already.
-    fn push(&mut self, event: Event)
+    fn note(&mut self, event: Event)
         requires { IsEventWithin self.old.schedule.nodes self.old.schedule.lines event }
         ensures before { self.new.lost ≡ None → self.old.lost ≡ None }
         ensures recorded { self.new.lost ≡ None →
@@ -35,11 +50,8 @@ impl Record {
         if self.lost.is_some() {
             return;
         }
-        match self.schedule.push(event) {
-            Ok(()) => {}
-            Err(PushFault::Range) => unreachable!(),
-            Err(PushFault::TooMany) => self.lost = Some(RunFault::TooMany),
-            Err(PushFault::Memory) => self.lost = Some(RunFault::Memory),
+        if let Err(fault) = self.push(event) {
+            self.lost = Some(fault);
         }
     }
 }
@@ -79,7 +91,7 @@ impl Model for Recorder {
 }
 
 impl Recorder {
-    ghost use Rattle.std.specs.Prelude.{◌≡◌, ◌<◌, ◌≤◌, Some, None, IfOk, IfErr, IfSome, IsErr, length};
+    ghost use Rattle.std.specs.Prelude.{◌≡◌, ◌<◌, ◌≤◌, ◌∷◌, ◌++◌, [], Some, None, IfOk, IfErr, IfSome, IsErr, length};
     ghost use Rattle.sci_words.specs.declared.event.Event.TheVariants.{Issue, Perform};
     ghost use Rattle.sci_words.specs.declared.limits.TheConstants.{MAX_OPERATIONS};
     ghost use Rattle.sci_history.specs.{Audit.{AreWithin}, Lawful.{Lawful}, Sequential.{IsSequentiallyConsistent}};
@@ -98,6 +110,7 @@ impl Recorder {
         ensures opening { IfOk result
             (λ recorder. recorder.core ≡ opening (size_of extent limit)) }
         ensures none { IfOk result (λ recorder. recorder.lost ≡ None) }
+        ensures empty { IfOk result (λ recorder. recorder.schedule.events ≡ []) }
     {
         let machine = Machine::new(alloc, extent, limit)?;
         let events = Record {
@@ -107,20 +120,28 @@ impl Recorder {
         Ok(Recorder { machine, events })
     }
 
-    /// An event happens, and is recorded. Requires that it is enabled. Refused, with no event made, if memory is, for a
-    /// lane.
-    pub(crate) fn happen(&mut self, event: &Event) -> Result<(), AllocError>
+    /// An event happens, and is recorded. Requires that it is enabled. Refused, unchanged, if memory is, or if there are
+    /// 500,000 events already.
+    pub(crate) fn happen(&mut self, event: &Event) -> Result<(), RunFault>
         requires { IsEnabled self.old.core event.now }
         ensures done { IfOk result
             (λ _. stepping self.old.core event.now ≡ Some self.new.core) }
-        ensures same { IsErr result → self.new.core ≡ self.old.core }
+        ensures recorded { IfOk result
+            (λ _. self.new.schedule.events ≡ self.old.schedule.events ++ event.now ∷ []) }
+        ensures same { IsErr result → self.new ≡ self.old }
+        ensures lost { self.new.lost ≡ self.old.lost }
         ensures size { self.new.core.size ≡ self.old.core.size }
     {
         // Read, so that the prover knows that the state is reached.
         let _extent = self.machine.extent();
-        self.machine.make(event)?;
-        self.events.push(*event);
-        Ok(())
+        self.events.push(*event)?;
+        match self.machine.make(event) {
+            Ok(()) => Ok(()),
+            Err(_) => {
+                let _event = self.events.schedule.pop();
+                Err(RunFault::Memory)
+            }
+        }
     }
 
     /// Submits an operation at a node, as `submit_on` does, and records its Issue.
@@ -130,17 +151,20 @@ impl Recorder {
             (λ serial. IsIssued (node_at self.old.core node) (node_at self.new.core node) op) }
         ensures event { IfOk result
             (λ serial. stepping self.old.core (Issue node op) ≡ Some self.new.core) }
+        ensures recorded { IfOk result (λ serial. self.new.lost ≡ None →
+            self.new.schedule.events ≡ self.old.schedule.events ++ Issue node op ∷ []) }
+        ensures before { self.new.lost ≡ None → self.old.lost ≡ None }
         ensures serial { IfOk result
             (λ serial. serial ≡ (node_at self.old.core node).issued) }
         ensures fault { IfErr result
             (λ fault. submit_fault (node_at self.old.core node) op ≡ Some fault) }
-        ensures same { IsErr result → self.new.core ≡ self.old.core }
+        ensures same { IsErr result → self.new ≡ self.old }
         ensures spares { SparesOthers node self.old.core self.new.core }
     {
         // Read, so that the prover knows that the state is reached.
         let _extent = self.machine.extent();
         let serial = submit_on(&mut self.machine, node, op)?;
-        self.events.push(Event::Issue { node, op });
+        self.events.note(Event::Issue { node, op });
         Ok(serial)
     }
 
@@ -151,14 +175,17 @@ impl Recorder {
             (λ entry. IsLogged (node_at self.old.core node) (node_at self.new.core node) line entry) }
         ensures event { IfSome result
             (λ entry. stepping self.old.core (Perform node line) ≡ Some self.new.core) }
+        ensures recorded { IfSome result (λ entry. self.new.lost ≡ None →
+            self.new.schedule.events ≡ self.old.schedule.events ++ Perform node line ∷ []) }
+        ensures before { self.new.lost ≡ None → self.old.lost ≡ None }
         ensures none { result ≡ None → node_performing (node_at self.old.core node) line ≡ None }
-        ensures same { result ≡ None → self.new.core ≡ self.old.core }
+        ensures same { result ≡ None → self.new ≡ self.old }
         ensures spares { SparesOthers node self.old.core self.new.core }
     {
         // Read, so that the prover knows that the state is reached.
         let _extent = self.machine.extent();
         let entry = perform_on(&mut self.machine, node, line)?;
-        self.events.push(Event::Perform { node, line });
+        self.events.note(Event::Perform { node, line });
         Some(entry)
     }
 
@@ -167,6 +194,13 @@ impl Recorder {
         ensures { result.now ≡ self.now.core }
     {
         &self.machine
+    }
+
+    /// Notes why an event couldn't be recorded.
+    pub(crate) fn lose(&mut self, fault: RunFault)
+        ensures { self.new ≡ record self.old { lost = Some fault } }
+    {
+        self.events.lost = Some(fault);
     }
 
     /// Why an event was lost, or None if none was.

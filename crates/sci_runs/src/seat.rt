@@ -19,10 +19,10 @@ pub(crate) struct Seat<'a> {
 }
 
 impl<'a> Worker for Seat<'a> {
-    ghost use Rattle.std.specs.Prelude.{◌≡◌, ℕ};
+    ghost use Rattle.std.specs.Prelude.{◌≡◌, ℕ, None};
     ghost use Rattle.sci_core.specs.Core.{node_at};
     ghost use Rattle.std.proofs.Common.{refl, subst, ◌∙◌};
-    ghost use Rattle.sci_runs.specs.{Deeds.{Takes, takes_nothing, takes_on}, Recorded.{SparesOthers}};
+    ghost use Rattle.sci_runs.specs.{Deeds.{Takes, takes_nothing, takes_on}, Recorded.{SparesOthers, course_of}};
 
     ghost node = { λ seat. node_at seat.recorder.now.core seat.node };
 
@@ -31,8 +31,9 @@ impl<'a> Worker for Seat<'a> {
         × (new.policy.ghost_name ≡ old.policy.ghost_name)
         × SparesOthers old.node old.recorder.now.core new.recorder.now.core };
 
-    ghost turned = { λ old turns new. (new.node ≡ old.node) × Takes old.node turns
-        old.policy.now old.recorder.now.core new.policy.now new.recorder.now.core };
+    ghost turned = { λ old turns new. (new.node ≡ old.node)
+        × (new.recorder.now.lost ≡ None → (old.recorder.now.lost ≡ None) × Takes old.node turns
+        old.policy.now (course_of old.recorder.now) new.policy.now (course_of new.recorder.now)) };
 
     fn submit(&mut self, op: Op) -> Result<u32, SubmitFault> {
         self.recorder.submit(self.node, op)
@@ -58,13 +59,20 @@ impl<'a> Worker for Seat<'a> {
       },
     ) };
 
-    ghost turned_not = { λ x. (refl, takes_nothing x.node x.policy.now x.recorder.now.core) };
+    ghost turned_not = { λ x. (
+      refl,
+      λ none. (none, takes_nothing x.node x.policy.now (course_of x.recorder.now)),
+    ) };
 
     ghost turned_on = { λ x y z some more first second. (
       second.0 ∙ first.0,
-      takes_on x.node some more x.policy.now y.policy.now z.policy.now
-          x.recorder.now.core y.recorder.now.core z.recorder.now.core first.1
-          (subst (λ (n : ℕ). Takes n more
-          y.policy.now y.recorder.now.core z.policy.now z.recorder.now.core) first.0 second.1),
+      λ none. (
+        (first.1 (second.1 none).0).0,
+        takes_on x.node some more x.policy.now y.policy.now z.policy.now
+            (course_of x.recorder.now) (course_of y.recorder.now) (course_of z.recorder.now)
+            (first.1 (second.1 none).0).1
+            (subst (λ (n : ℕ). Takes n more y.policy.now (course_of y.recorder.now)
+            z.policy.now (course_of z.recorder.now)) first.0 (second.1 none).1),
+      ),
     ) };
 }

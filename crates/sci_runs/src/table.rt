@@ -120,11 +120,12 @@ impl<'a> Table<'a> {
         ensures script { self.new.script ≡ self.old.script }
         ensures issuing { self.new.issuing ≡ self.old.issuing }
     {
-        let _round = self.players[usize::from(node)].round(&mut self.recorder, node)?;
-        match self.recorder.lost() {
-            Some(fault) => Err(fault),
-            None => Ok(()),
+        let round = self.players[usize::from(node)].round(&mut self.recorder, node);
+        if let Some(fault) = self.recorder.lost() {
+            return Err(fault);
         }
+        let _round = round?;
+        Ok(())
     }
 
     /// The nodes take turns in this order, at most this many, until each operation of the script has its entry. Requires that
@@ -163,6 +164,7 @@ impl<'a> Table<'a> {
         ensures run { IsRunOf self.entry.script self.entry.issuing false result.schedule }
         ensures whole { All IsAnswered self.entry.drivers →
             IsRunOf self.entry.script self.entry.issuing true result.schedule }
+        ensures events { result.schedule.events ≡ self.entry.recorder.schedule.events }
         ensures behind { run (size_for self.entry.script) result.schedule.events
             ≡ raised MAX_OPERATIONS self.entry.recorder.core }
         ensures logs { result.logs ≡ logs_behind self.entry.script result.schedule }

@@ -1,9 +1,9 @@
-use Rattle.std.proofs.Common.{◌≡◌, ℕ, List, sym, subst, rules}
+use Rattle.std.proofs.Common.{◌≡◌, ℕ, List, Option, None, sym, subst, rules, ◌∙◌}
 use Rattle.std.specs.Prelude.{IfOk, slice_index_or}
-use Rattle.sci_core.specs.{Core.{Core, node_at}, Node.{NodeOf, no_node}}
+use Rattle.sci_core.specs.{Core.{node_at}, Node.{NodeOf, no_node}}
 use Rattle.sci_turn.proofs.Moments.{if_ok_map}
-use Rattle.sci_runs.specs.{Deeds.{Takes}, Played.{GoesOpenly}}
-use Rattle.sci_runs.proofs.Playing.{goes_open}
+use Rattle.sci_runs.specs.{Deeds.{Takes}, Played.{GoesOpenly}, Recorded.{Course, course_of}, declared.fault.RunFault.{RunFault}}
+use Rattle.sci_runs.proofs.Playing.{TakesUnlost, goes_open}
 use Rattle.sci_runs.proofs.player.Player.round.Goals as goal
 
 pub returns-clause-goes : goal.returns-clause-goes
@@ -25,12 +25,14 @@ returns-clause-goes c =
 pub returns-clause-takes : goal.returns-clause-takes
 returns-clause-takes c =
     let policy = c.args.self.now.policy in
-    let core = c.args.recorder.now.core in
+    let old = c.args.recorder.now in
     let worker = c.round.new.worker in
-    let there : (later : Core) → later ≡ worker.recorder.now.core
-    → IfOk c.round.result (λ _. Takes c.args.node 1 policy core worker.policy.now later) = λ later is.
-    subst (λ (x : Core). IfOk c.round.result (λ _. Takes c.args.node 1 policy core worker.policy.now x)) (sym is)
-    (if_ok_map (λ _. (worker.node ≡ c.args.node) × Takes c.args.node 1 policy core worker.policy.now worker.recorder.now.core)
-    (λ _. Takes c.args.node 1 policy core worker.policy.now worker.recorder.now.core) c.round.result (λ _ turned. turned.1) c.round.ensures.turned)
+    let recorder = worker.recorder.now in
+    let there : (lost : Option RunFault) (later : Course) → lost ≡ recorder.lost → later ≡ course_of recorder
+    → IfOk c.round.result (λ _. lost ≡ None → Takes c.args.node 1 policy (course_of old) worker.policy.now later) = λ lost later gone is.
+    subst (λ (x : Course). IfOk c.round.result (λ _. lost ≡ None → Takes c.args.node 1 policy (course_of old) worker.policy.now x)) (sym is)
+    (if_ok_map (λ _. (worker.node ≡ c.args.node) × TakesUnlost c.args.node 1 policy old worker.policy.now recorder)
+    (λ _. lost ≡ None → Takes c.args.node 1 policy (course_of old) worker.policy.now (course_of recorder)) c.round.result
+    (λ _ turned none. (turned.1 (sym gone ∙ none)).1) c.round.ensures.turned)
     in
-    there _ (search rules)
+    there _ _ (search rules) (search rules)

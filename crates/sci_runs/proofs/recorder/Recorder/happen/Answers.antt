@@ -1,9 +1,14 @@
-use Rattle.sci_runs.proofs.Recording.{event_within, recorder_on}
+use Rattle.std.proofs.Common.{None, sym, subst, ◌∙◌}
+use Rattle.sci_core.specs.Core.{IsEnabled}
+use Rattle.sci_runs.specs.Recorded.{RecorderOf}
+use Rattle.sci_runs.proofs.Recording.{enabled_fits, popped, recorder_on, same_size}
 use Rattle.sci_runs.proofs.recorder.Recorder.happen.Goals as goal
 
 pub push-requires : goal.push-requires
-push-requires c = event_within _ _ _ c.args.event.now c.self.invariant.sized c.extent-extent.ensures.reached c.in_ok-make.ensures.ok
+push-requires c = enabled_fits _ _ c.args.event.now c.self.invariant.sized c.extent-extent.ensures.reached
+    (subst (λ (r : RecorderOf). IsEnabled r.core c.args.event.now) (sym c.self.view_is) c.requires)
 
-pub invariant_of-self-2 : goal.invariant_of-self-2
-invariant_of-self-2 c = recorder_on _ _ _ _ _ _ c.args.event.now c.self.invariant c.extent-extent.ensures.reached c.in_ok-make.ensures.ok
-    c.make.ensures.size c.push.ensures.size c.push.ensures.before c.push.ensures.recorded
+pub invariant_of-self-in-Ok : goal.invariant_of-self-in-Ok
+invariant_of-self-in-Ok c = recorder_on _ _ _ _ _ _ c.args.event.now c.self.invariant c.extent-extent.ensures.reached c.in-Ok.ensures.ok
+    c.make.ensures.size (same_size _ _ c.args.event.now c.in_ok-push.ensures.recorded) (λ none. sym c.push.ensures.lost ∙ none)
+    (λ none. c.in_ok-push.ensures.recorded)

@@ -6,12 +6,12 @@ use Rattle.sci_runs.proofs.{NodeSteps.{node_fits}, Recording.{event_within, reco
 use Rattle.sci_runs.specs.Recorded.{RecorderOf, SparesOthers}
 use Rattle.sci_runs.proofs.recorder.Recorder.perform.Goals as goal
 
-pub push-requires : goal.push-requires
-push-requires c = event_within _ _ _ (Perform c.args.node c.args.line) c.self.invariant.sized c.extent-extent.ensures.reached c.in_ok-entry.ensures.event
+pub note-requires : goal.note-requires
+note-requires c = event_within _ _ _ (Perform c.args.node c.args.line) c.self.invariant.sized c.extent-extent.ensures.reached c.in_ok-entry.ensures.event
 
 pub invariant_of-self-2 : goal.invariant_of-self-2
 invariant_of-self-2 c = recorder_on _ _ _ _ _ _ (Perform c.args.node c.args.line) c.self.invariant c.extent-extent.ensures.reached c.in_ok-entry.ensures.event
-    c.perform_on.ensures.size c.push.ensures.size c.push.ensures.before c.push.ensures.recorded
+    c.perform_on.ensures.size c.note.ensures.size c.note.ensures.before c.note.ensures.recorded
 
 pub returns-clause-performed : goal.returns-clause-performed
 returns-clause-performed c =

@@ -5,12 +5,12 @@ use Rattle.sci_runs.proofs.{NodeSteps.{issue_makes}, Recording.{event_within, re
 use Rattle.sci_runs.specs.Recorded.{RecorderOf, SparesOthers}
 use Rattle.sci_runs.proofs.recorder.Recorder.submit.Goals as goal
 
-pub push-requires : goal.push-requires
-push-requires c = event_within _ _ _ (Issue c.args.node c.args.op) c.self.invariant.sized c.extent-extent.ensures.reached c.in_ok-serial.ensures.issued
+pub note-requires : goal.note-requires
+note-requires c = event_within _ _ _ (Issue c.args.node c.args.op) c.self.invariant.sized c.extent-extent.ensures.reached c.in_ok-serial.ensures.issued
 
 pub invariant_of-self-2 : goal.invariant_of-self-2
 invariant_of-self-2 c = recorder_on _ _ _ _ _ _ (Issue c.args.node c.args.op) c.self.invariant c.extent-extent.ensures.reached c.in_ok-serial.ensures.issued
-    c.submit_on.ensures.size c.push.ensures.size c.push.ensures.before c.push.ensures.recorded
+    c.submit_on.ensures.size c.note.ensures.size c.note.ensures.before c.note.ensures.recorded
 
 pub returns-clause-issued : goal.returns-clause-issued
 returns-clause-issued c =
