@@ -136,8 +136,8 @@ by_place-in_order (suc version) entries =
     (sym (append_assoc before (filter (λ entry. eqb (place entry) (version + version)) entries)
     (filter (λ entry. eqb (place entry) (suc (version + version))) entries)))
 
-pub place-below : (entry : Entry) (version : ℕ) → entry.version ≤ version → place entry < suc version + suc version
-place-below entry version le = grind (arith, cases_Bool)
+pub place-below : (entry : Entry) (bound : ℕ) → entry.version < bound → place entry < bound + bound
+place-below entry bound lt = grind (arith, cases_Bool)
 
 -- a node's entries stand in order, if they did so by version and by serial
 pub filter-placed : (node version : ℕ) (entries : List Entry) → node < MAX_NODES → IsInOrder (λ entry. entry.serial) (filter (is_of_node node) entries)

@@ -3,7 +3,7 @@ use Rattle.std.proofs.{Common.{List, sym, ap, ◌∙◌, rules}, lemmas.List.Sor
 use denote.Ref.{Bor}
 use Rattle.std.specs.Global.{Vec}
 use Rattle.sci_history.specs.{declared.entry.Entry.{Entry}, Placed.{by_node_and_serial}, Audit.{entries_of}}
-use Rattle.sci_history.proofs.PlacedSort.{sorted_by_node}
+use Rattle.sci_history.proofs.PlacedSort.{refs_hold, sorted_by_node}
 use Rattle.sci_history.proofs.faults.by_node_and_serial.Goals.{then-not-are_read_in_order+in_ok-sort_by_key+in_ok-sort_by_key-2}
 use Rattle.sci_history.proofs.faults.by_node_and_serial.Goals.{else-not-are_read_in_order}
 use Rattle.sci_history.proofs.faults.by_node_and_serial.Goals as goal
@@ -18,7 +18,8 @@ returns c =
           let serials = w.in_ok-sort_by_key.ensures in
           let nodes = w.in_ok-sort_by_key-2.ensures in
           ap (λ (read : Vec (Bor Entry)). entries_of read.items) w.read-is
-          ∙ sorted_by_node c.in_ok-read.read.items w.sort_by_key.new.self.items w.sort_by_key-then-not-are_read_in_order.new.self.items (rw copied c.requires)
+          ∙ sorted_by_node (λ ref. ref.now) refs_hold c.in_ok-read.read.items w.sort_by_key.new.self.items
+          w.sort_by_key-then-not-are_read_in_order.new.self.items (rw copied c.requires)
           (record {
             sorted = serials.sorted serial (answers_always _ _ _ (λ f a r g called. search rules));
             stable = serials.stable serial (answers_always _ _ _ (λ f a r g called. search rules));
