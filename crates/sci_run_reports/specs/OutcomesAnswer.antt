@@ -7,7 +7,7 @@ use Rattle.sci_outcomes.specs.declared.{histogram.Row.{Row}, outcome.{Held.{Held
 use Rattle.sci_outcomes.specs.declared.{outcome.Replied.{Replied}, trials.Turns.{Turns, TheVariants.{Drawn, Threads}}}
 use Rattle.sci_outcomes.specs.Trials.{AreOutcomes}
 use Rattle.sci_run_reports.specs.declared.outcomes.{OutcomesRequest.{OutcomesRequest}, TheConstants.{RUNS, SEED}}
-use Rattle.sci_run_reports.specs.RunAnswer.{IsRunRefusal}
+use Rattle.sci_run_reports.specs.RunAnswer.{IsRunRefusal, IsScriptText}
 use Rattle.sci_command.specs.declared.outcome.Outcome as ending
 
 -- ---- texts
@@ -68,4 +68,4 @@ pub record IsOutcomesText (request : OutcomesRequest) (input text : List ℕ) : 
 
 -- what `outcomes` writes, and how it ends, for the bytes of a reader, which has failed or not
 abbrev pub IsOutcomesAnswer : OutcomesRequest → Option (List ℕ) → Bool → List ℕ → ending.Outcome → Type 0
-IsOutcomesAnswer request = IsDoneBy (IsOutcomesText request) IsRunRefusal
+IsOutcomesAnswer request = IsDoneBy (IsOutcomesText request) (IsRunRefusal IsScriptText)

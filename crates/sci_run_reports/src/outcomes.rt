@@ -3,7 +3,7 @@
 ghost use Rattle.std.specs.{Prelude.{◌≡◌, ◌++◌, false, IfOk, OnOk}, List.{flat_map}};
 ghost use Rattle.sci_text.specs.Tap.{has_failed};
 ghost use Rattle.sci_command.specs.{Answer.{HasAnswered}, declared.outcome.Outcome.{Outcome}};
-ghost use Rattle.sci_run_reports.specs.RunAnswer.{IsRunRefusal};
+ghost use Rattle.sci_run_reports.specs.RunAnswer.{IsRunRefusal, IsScriptText};
 ghost use Rattle.sci_run_reports.specs.OutcomesAnswer.{IsOutcomesAnswer, count_text, held_text, outcome_text, outcomes_text as outcomes_text_of};
 ghost use Rattle.sci_run_reports.specs.OutcomesAnswer.{replied_text, row_text, seed_text, sense_text, total_text};
 
@@ -172,7 +172,7 @@ pub fn outcomes_of<T: Threads + Sync, R: Read>(
     reader: &mut Tap<R>,
 ) -> Answered
     requires { has_failed reader.old ≡ false }
-    ensures { HasAnswered R.remaining reader.old reader.new (IsOutcomesAnswer request) IsRunRefusal result }
+    ensures { HasAnswered R.remaining reader.old reader.new (IsOutcomesAnswer request) (IsRunRefusal IsScriptText) result }
 {
     let script = read_script(alloc, reader)?;
     let trials = Trials {

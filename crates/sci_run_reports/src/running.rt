@@ -3,7 +3,7 @@
 ghost use Rattle.std.specs.Prelude.{◌≡◌, ◌⊎◌, false, true};
 ghost use Rattle.sci_text.specs.{declared.fault.TextFaultKind.TheVariants.{Memory, TooMany}, Tap.{has_failed}};
 ghost use Rattle.sci_command.specs.{Answer.{HasAnswered}, declared.outcome.Outcome.{Outcome}};
-ghost use Rattle.sci_run_reports.specs.RunAnswer.{IsRunAnswer, IsRunRefusal};
+ghost use Rattle.sci_run_reports.specs.RunAnswer.{IsLongRun, IsRunAnswer, IsRunRefusal};
 
 use sci_command::{Answer, Answered, Outcome};
 use sci_drive::Issuing;
@@ -40,6 +40,7 @@ fn outcome_of(done: bool) -> Outcome
 pub fn fault_of(fault: RunFault) -> TextFault
     ensures line { result.line ≡ 0 }
     ensures kind { (result.kind ≡ TooMany) ⊎ (result.kind ≡ Memory) }
+    ensures many { result.kind ≡ TooMany → fault ≡ RunFault.TooMany }
 {
     let kind = match fault {
         RunFault::Memory => TextFaultKind::Memory,
@@ -55,7 +56,8 @@ pub fn fault_of(fault: RunFault) -> TextFault
 /// is read.
 pub fn run<R: Read>(alloc: Global, request: RunRequest, reader: &mut Tap<R>) -> Answered
     requires { has_failed reader.old ≡ false }
-    ensures { HasAnswered R.remaining reader.old reader.new (IsRunAnswer request) IsRunRefusal result }
+    ensures { HasAnswered R.remaining reader.old reader.new (IsRunAnswer request)
+        (IsRunRefusal (IsLongRun request)) result }
 {
     let script = read_script(alloc, reader)?;
     let plan = Plan {

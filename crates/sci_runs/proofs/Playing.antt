@@ -1,13 +1,15 @@
 -- What a node does, one deed after another, and rounds, one after another.
-use Rattle.std.proofs.Common.{◌≡◌, ℕ, List, [], ◌∷◌, ◌++◌, Option, Some, None, Result, Ok, Err, IfOk, refl, sym, subst}
+use Rattle.std.proofs.Common.{◌≡◌, ℕ, List, [], ◌∷◌, ◌++◌, Option, Some, None, Result, Ok, Err, IfOk, length, ◌≤◌, inl, inr, refl, sym, subst}
 use Rattle.std.specs.{Prelude.{IfSome, IsErr}, declared.alloc.AllocError.{AllocError}}
-use Rattle.sci_words.specs.declared.event.Event.{Event}
+use Rattle.sci_words.specs.declared.{event.Event.{Event}, limits.TheConstants.{MAX_EVENTS}}
+use Rattle.sci_text.specs.Schedule.{ScheduleValue}
 use Rattle.sci_core.specs.{Core.{stepping}, Node.{NodeOf}}
 use Rattle.sci_policy.specs.{declared.progress.Progress.{Progress}, Policy.{PolicyOf}}
 use Rattle.sci_drive.specs.{Calls.{AllowAll, Call}, declared.driver.Round.{Round}, Driving.{DriverOf}}
 use Rattle.sci_drive.specs.Rounds.{GoesRound}
-use Rattle.sci_runs.specs.{Deeds.{IsWholeTurn, IsWorkOf, Takes, Turns, Works, takes_nothing}, Played.{GoesOpenly}}
-use Rattle.sci_runs.specs.Recorded.{Course, RecorderOf, course_of}
+use Rattle.sci_runs.specs.{declared.fault.RunFault.{RunFault, TheVariants.{TooMany}}, Played.{GoesOpenly}}
+use Rattle.sci_runs.specs.{Deeds.{IsTurnSoFar, IsWholeTurn, IsWorkOf, Takes, Turns, Works}, Goings.{Goes, takes_nothing}}
+use Rattle.sci_runs.specs.Recorded.{Course, KeepsLoss, RecorderOf, course_of}
 
 -- ---- deeds
 
@@ -26,20 +28,66 @@ TakesUnlost n turns p x q y = y.lost ≡ None → (x.lost ≡ None) × Takes n t
 
 -- an operation that is submitted, or refused
 pub takes_submit : {T E : Type 0} (result : Result T E) (n : ℕ) (p : PolicyOf) (x y : RecorderOf) (e : Event) → IsWorkOf n e
-    → (y.lost ≡ None → x.lost ≡ None) → IfOk result (λ _. stepping x.core e ≡ Some y.core)
-    → IfOk result (λ _. y.lost ≡ None → y.schedule.events ≡ x.schedule.events ++ e ∷ []) → (IsErr result → y ≡ x) → TakesUnlost n 0 p x p y
-takes_submit (Ok serial) n p x y e own before steps more same none = (before none, works n p (course_of x) y e own steps (more none))
-takes_submit (Err fault) n p x y e own before steps more same none = (before none, stays n p x y (same refl))
+    → IfOk result (λ _. stepping x.core e ≡ Some y.core)
+    → IfOk result (λ _. y.lost ≡ None → y.schedule.events ≡ x.schedule.events ++ e ∷ []) → (IsErr result → y ≡ x) → y.lost ≡ None
+    → Takes n 0 p (course_of x) p (course_of y)
+takes_submit (Ok serial) n p x y e own steps more same none = works n p (course_of x) y e own steps (more none)
+takes_submit (Err fault) n p x y e own steps more same none = stays n p x y (same refl)
 
 -- an operation that is performed, or can't be
 pub takes_perform : {T : Type 0} (result : Option T) (n : ℕ) (p : PolicyOf) (x y : RecorderOf) (e : Event) → IsWorkOf n e
-    → (y.lost ≡ None → x.lost ≡ None) → IfSome result (λ _. stepping x.core e ≡ Some y.core)
-    → IfSome result (λ _. y.lost ≡ None → y.schedule.events ≡ x.schedule.events ++ e ∷ []) → (result ≡ None → y ≡ x) → TakesUnlost n 0 p x p y
-takes_perform (Some entry) n p x y e own before steps more same none = (before none, works n p (course_of x) y e own steps (more none))
-takes_perform None n p x y e own before steps more same none = (before none, stays n p x y (same refl))
+    → IfSome result (λ _. stepping x.core e ≡ Some y.core)
+    → IfSome result (λ _. y.lost ≡ None → y.schedule.events ≡ x.schedule.events ++ e ∷ []) → (result ≡ None → y ≡ x) → y.lost ≡ None
+    → Takes n 0 p (course_of x) p (course_of y)
+takes_perform (Some entry) n p x y e own steps more same none = works n p (course_of x) y e own steps (more none)
+takes_perform None n p x y e own steps more same none = stays n p x y (same refl)
 
+-- what either does to a recorder
+pub goes_working : (n : ℕ) (p : PolicyOf) (x y : RecorderOf) → ((fault : RunFault) → x.lost ≡ Some fault → y.lost ≡ Some fault)
+    → ((fault : RunFault) → y.lost ≡ Some fault → y.schedule ≡ x.schedule) → (y.lost ≡ None → Takes n 0 p (course_of x) p (course_of y)) → Goes n p x p y
+goes_working n p x y keeps stands takes = record {
+  keeps = λ fault is. (keeps fault is, stands fault (keeps fault is));
+  takes = λ none. (0, takes none);
+  fills = λ none many full. record {
+    deeds = [];
+    policy = p;
+    mid = course_of x;
+    does = (refl, refl);
+    after = p;
+    full = course_of x;
+    rest = inl refl;
+    many = subst (λ (s : ScheduleValue). MAX_EVENTS ≤ length s.events) (stands TooMany many) full;
+  };
+}
+
+-- a whole turn
 pub takes_turn : (n : ℕ) (p q : PolicyOf) (x y : Course) (progress : Progress) → IsWholeTurn n p x q y progress → Takes n 1 p x q y
 takes_turn n p q x y progress turn = record { deeds = Turns progress ∷ []; many = refl; does = (q, y, turn, (refl, refl)) }
+
+takes_whole : {E : Type 0} (result : Result Progress E) (n : ℕ) (p q : PolicyOf) (x y : RecorderOf)
+    → IfOk result (IsWholeTurn n p (course_of x) q (course_of y)) → (IsErr result → y.lost ≡ None → ⊥) → y.lost ≡ None
+    → Takes n 1 p (course_of x) q (course_of y)
+takes_whole (Ok progress) n p q x y whole gone none = takes_turn n p q (course_of x) (course_of y) progress whole
+takes_whole (Err fault) n p q x y whole gone none = absurd (gone refl none)
+
+-- a turn does this to a recorder
+pub goes_turning : {E : Type 0} (result : Result Progress E) (n : ℕ) (p q : PolicyOf) (x y : RecorderOf) → KeepsLoss x y
+    → IfOk result (IsWholeTurn n p (course_of x) q (course_of y)) → (IsErr result → y.lost ≡ None → ⊥)
+    → IsTurnSoFar n p (course_of x) q (course_of y) → Goes n p x q y
+goes_turning result n p q x y keeps whole gone so_far = record {
+  keeps = keeps;
+  takes = λ none. (1, takes_whole result n p q x y whole gone none);
+  fills = λ none many full. record {
+    deeds = [];
+    policy = p;
+    mid = course_of x;
+    does = (refl, refl);
+    after = q;
+    full = course_of y;
+    rest = inr so_far;
+    many = full;
+  };
+}
 
 -- ---- rounds
 

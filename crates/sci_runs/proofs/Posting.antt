@@ -1,12 +1,11 @@
 -- A node's post on a machine whose events are recorded.
-use Rattle.std.proofs.Common.{◌≡◌, ℕ, List, [], ◌∷◌, ◌++◌, Some, Result, Ok, Err, IfOk, refl, sym, ap, subst}
+use Rattle.std.proofs.Common.{◌≡◌, ℕ, List, [], ◌∷◌, ◌++◌, Some, Result, Ok, Err, IfOk, refl, sym, subst}
 use Rattle.std.specs.Prelude.{IsErr}
 use Rattle.sci_words.specs.declared.event.Event.{Event}
-use Rattle.sci_cache.specs.Cache.{Letter}
 use Rattle.sci_core.specs.{declared.lane.LaneKind.{LaneKind}, Core.{node_of, stepping}}
-use Rattle.sci_turn.specs.Posts.{HasTakenFront, IsMade, IsTaken, MayTakeFront}
+use Rattle.sci_turn.specs.Posts.{HasTakenFront, IsMade, MayTakeFront}
 use Rattle.sci_turn.proofs.Stills.{still_itself}
-use Rattle.sci_runs.specs.{Deeds.{AddsOwn, adds_itself, post_on}, Recorded.{Course}}
+use Rattle.sci_runs.specs.{Deeds.{AddsOwn, post_on}, Goings.{adds_itself}, Recorded.{Course}}
 
 -- it makes an event
 pub made_on : (n : ℕ) (old new : Course) (e : Event) → node_of e ≡ n → stepping old.core e ≡ Some new.core → new.events ≡ old.events ++ e ∷ []

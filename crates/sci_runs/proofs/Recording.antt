@@ -1,9 +1,9 @@
 -- The schedule of a recorder, and an event more.
-use Rattle.std.proofs.Common.{◌≡◌, ℕ, ◌<◌, ◌^◌, Bool, true, false, if◌then◌else◌, arith, List, [], ◌∷◌, ◌++◌, Option, Some, None, refl, sym, ap, subst}
-use Rattle.std.proofs.{Common.{◌∙◌}, lemmas.{Bool.{and_parts, ltb-true}, List.{same_from_push}}}
-use Rattle.std.specs.Prelude.{◌&&◌, nat_lt, IfSome, IsSome, option_map}
+use Rattle.std.proofs.Common.{◌≡◌, ℕ, ◌<◌, ◌≤◌, ◌^◌, length, Bool, true, false, if◌then◌else◌, arith, List, [], ◌∷◌, ◌++◌, Option, Some, None}
+use Rattle.std.proofs.{Common.{refl, sym, ap, subst, ◌∙◌}, lemmas.Bool.{and_parts, ltb-true}}
+use Rattle.std.specs.Prelude.{◌&&◌, nat_lt, IsSome, option_map}
 use Rattle.sci_words.specs.declared.{event.AskKind.{AskKind}, extent.Extent.{Extent}}
-use Rattle.sci_words.specs.declared.{limits.TheConstants.{MAX_OPERATIONS, WORDS_PER_LINE}, event.Event.{Event}}
+use Rattle.sci_words.specs.declared.{limits.TheConstants.{MAX_EVENTS, MAX_OPERATIONS, WORDS_PER_LINE}, event.Event.{Event}}
 use Rattle.sci_words.specs.declared.operation.{Act.{Act, TheVariants.{Load, Store, Lock}}, LockOp.{LockOp}}
 use Rattle.sci_words.specs.declared.operation.LockOp.TheVariants.{MaskSwap, CompareSwap, FetchAdd, BoundedAdd, WrapAdd}
 use Rattle.sci_words.specs.{declared.operation.Op.{Op}, Operation.{are_words, has_words}}
@@ -19,7 +19,8 @@ use Rattle.sci_core.proofs.WellFormed.WellFormedSteps.{reached_well}
 use Rattle.sci_lanes.specs.Shown.{AreEnabled}
 use Rattle.sci_lanes.proofs.{Events.{enabled_more, run_further}, Opening.{node_opened}}
 use Rattle.sci_runs.proofs.{NodeSteps.{perform_makes}, Issues.{issues_on}, Limits.{opening_raised, stepping_raised}}
-use Rattle.sci_runs.specs.declared.fault.RunFault.{RunFault}
+use Rattle.sci_runs.specs.declared.fault.RunFault.{RunFault, TheVariants.{TooMany}}
+use Rattle.sci_runs.specs.Goings.{lost_by}
 use Rattle.sci_runs.specs.Recorded.{HasIssued, HasLed, IsOfSize, IsRecorder, IsSameSize, raised, with_limit}
 use Rattle.sci_words.specs.declared.event.Event.TheVariants as event
 
@@ -129,7 +130,7 @@ opened_recorder core schedule extent limit opens empty =
     subst (λ (s : ScheduleValue). IsRecorder (record { core = core; schedule = s; lost = None })) (sym empty)
     (subst (λ (c : Core). IsRecorder
     (record { core = c; schedule = record { nodes = extent.nodes; lines = extent.lines; slots = extent.slots; events = [] }; lost = None })) (sym opens)
-    (record { sized = record { nodes_are = refl; lines_are = refl; slots_are = refl }; led = λ none. led_opening (size_of extent limit) }))
+    (record { sized = record { nodes_are = refl; lines_are = refl; slots_are = refl }; led = λ none. led_opening (size_of extent limit); full = λ many. cc }))
 
 -- an event that happens is one of the schedule's machine
 pub event_within : (core new : Core) (schedule : ScheduleValue) (e : Event) → IsOfSize core.size schedule → IsReached core → stepping core e ≡ Some new
@@ -147,41 +148,69 @@ pub enabled_fits : (core : Core) (schedule : ScheduleValue) (e : Event) → IsOf
     → IsEventWithin schedule.nodes schedule.lines e
 enabled_fits core schedule e sized reached enabled = within_some core schedule e (stepping core e) sized reached refl enabled
 
--- an event that was recorded is taken away again
-same_schedule : (a b : ScheduleValue) → a.nodes ≡ b.nodes → a.lines ≡ b.lines → a.slots ≡ b.slots → a.events ≡ b.events → a ≡ b
-same_schedule a b nodes lines slots events =
-    ap (λ (n : ℕ). record a { nodes = n }) nodes
-    ∙ (ap (λ (l : ℕ). record a { nodes = b.nodes; lines = l }) lines
-    ∙ (ap (λ (s : ℕ). record a { nodes = b.nodes; lines = b.lines; slots = s }) slots ∙ ap (λ (es : List Event). record b { events = es }) events))
-
-unpushed : (old new : ScheduleValue) (e x : Event) → with_event old e ≡ with_event new x → new ≡ old
-unpushed old new e x is =
-    same_schedule new old (ap (λ (s : ScheduleValue). s.nodes) (sym is)) (ap (λ (s : ScheduleValue). s.lines) (sym is))
-    (ap (λ (s : ScheduleValue). s.slots) (sym is))
-    (sym (same_from_push old.events new.events e x (ap (λ (s : ScheduleValue). s.events) is)).0)
-
-none_pushed : (events : List Event) (e : Event) → events ++ e ∷ [] ≡ [] → ⊥
-none_pushed [] e is = cc
-none_pushed (x ∷ events) e is = cc
-
-pub popped : (old mid new : ScheduleValue) (e : Event) (o : Option Event) → mid ≡ with_event old e → IfSome o (λ x. mid ≡ with_event new x)
-    → (o ≡ None → mid.events ≡ []) → new ≡ old
-popped old mid new e (Some x) pushed taken none = unpushed old new e x (sym pushed ∙ taken)
-popped old mid new e None pushed taken none = absurd (none_pushed old.events e (sym (ap (λ (s : ScheduleValue). s.events) pushed) ∙ none refl))
-
+-- the size stays
 pub same_size : (old new : ScheduleValue) (e : Event) → new ≡ with_event old e → IsSameSize old new
 same_size old new e is = subst (IsSameSize old) (sym is) (record { nodes_are = refl; lines_are = refl; slots_are = refl })
 
+-- an event was recorded, and none is lost
+pub recorder_more : (core new : Core) (old now : ScheduleValue) (was lost : Option RunFault) (e : Event)
+    → IsRecorder (record { core = core; schedule = old; lost = was }) → IsReached core → stepping core e ≡ Some new → new.size ≡ core.size
+    → now ≡ with_event old e → lost ≡ None → was ≡ None → IsRecorder (record { core = new; schedule = now; lost = lost })
+recorder_more core new old now was lost e is reached steps size more none before =
+    let same = same_size old now e more in
+    record {
+      sized = record {
+        nodes_are = same.nodes_are ∙ (is.sized.nodes_are ∙ ap (λ (z : Size). z.nodes) (sym size));
+        lines_are = same.lines_are ∙ (is.sized.lines_are ∙ ap (λ (z : Size). z.lines) (sym size));
+        slots_are = same.slots_are ∙ (is.sized.slots_are ∙ ap (λ (z : Size). z.slots) (sym size));
+      };
+      led = λ _. subst (λ (s : ScheduleValue). HasLed s.events new) (sym more) (led_more old.events core new e reached steps size (is.led before));
+      full = λ many. let other : None ≡ Some TooMany = sym none ∙ many in cc;
+    }
+
+-- if there were too many when an event was lost, the schedule was full
+full_by : (core : Core) (old : ScheduleValue) (was lost : Option RunFault) → IsRecorder (record { core = core; schedule = old; lost = was })
+    → ((fault : RunFault) → was ≡ Some fault → lost ≡ Some fault) → (was ≡ None → lost ≡ Some TooMany → MAX_EVENTS ≤ length old.events)
+    → lost ≡ Some TooMany → MAX_EVENTS ≤ length old.events
+full_by core old None lost is keeps full many = full refl many
+full_by core old (Some fault) lost is keeps full many = is.full (sym (keeps fault refl) ∙ many)
+
+-- an event was lost, and the schedule is the same
+pub recorder_kept : (core new : Core) (old now : ScheduleValue) (was lost : Option RunFault)
+    → IsRecorder (record { core = core; schedule = old; lost = was }) → new.size ≡ core.size → now ≡ old → (lost ≡ None → ⊥)
+    → (lost ≡ Some TooMany → MAX_EVENTS ≤ length old.events) → IsRecorder (record { core = new; schedule = now; lost = lost })
+recorder_kept core new old now was lost is size same gone full =
+    subst (λ (s : ScheduleValue). IsRecorder (record { core = new; schedule = s; lost = lost })) (sym same) (record {
+      sized = record {
+        nodes_are = is.sized.nodes_are ∙ ap (λ (z : Size). z.nodes) (sym size);
+        lines_are = is.sized.lines_are ∙ ap (λ (z : Size). z.lines) (sym size);
+        slots_are = is.sized.slots_are ∙ ap (λ (z : Size). z.slots) (sym size);
+      };
+      led = λ none. absurd (gone none);
+      full = full;
+    })
+
+-- what a push says
+pub record HasPushed (old now : ScheduleValue) (was lost : Option RunFault) (e : Event) (recorded : Bool) : Type 0 where
+  pub recorded_is : recorded ≡ true → now ≡ with_event old e
+  pub none : recorded ≡ true → lost ≡ None
+  pub same : recorded ≡ false → now ≡ old
+  pub gone : recorded ≡ false → lost ≡ None → ⊥
+  pub keeps : (fault : RunFault) → was ≡ Some fault → lost ≡ Some fault
+  pub full : was ≡ None → lost ≡ Some TooMany → MAX_EVENTS ≤ length old.events
+
+pub has_pushed : {old now : ScheduleValue} {was lost : Option RunFault} {e : Event} {recorded : Bool} → (recorded ≡ true → now ≡ with_event old e)
+    → (recorded ≡ true → lost ≡ None) → (recorded ≡ false → now ≡ old) → (recorded ≡ false → lost ≡ None → ⊥)
+    → ((fault : RunFault) → was ≡ Some fault → lost ≡ Some fault) → (was ≡ None → lost ≡ Some TooMany → MAX_EVENTS ≤ length old.events)
+    → HasPushed old now was lost e recorded
+has_pushed recorded none same gone keeps full =
+    record { recorded_is = recorded; none = none; same = same; gone = gone; keeps = keeps; full = full }
+
 -- it is recorded, or lost
-pub recorder_on : (core new : Core) (old now : ScheduleValue) (was lost : Option RunFault) (e : Event)
-    → IsRecorder (record { core = core; schedule = old; lost = was }) → IsReached core → stepping core e ≡ Some new → new.size ≡ core.size → IsSameSize old now
-    → (lost ≡ None → was ≡ None) → (lost ≡ None → now ≡ with_event old e) → IsRecorder (record { core = new; schedule = now; lost = lost })
-recorder_on core new old now was lost e is reached steps size same before recorded = record {
-  sized = record {
-    nodes_are = same.nodes_are ∙ (is.sized.nodes_are ∙ ap (λ (z : Size). z.nodes) (sym size));
-    lines_are = same.lines_are ∙ (is.sized.lines_are ∙ ap (λ (z : Size). z.lines) (sym size));
-    slots_are = same.slots_are ∙ (is.sized.slots_are ∙ ap (λ (z : Size). z.slots) (sym size));
-  };
-  led = λ none. subst (λ (s : ScheduleValue). HasLed s.events new) (sym (recorded none))
-      (led_more old.events core new e reached steps size (is.led (before none)));
-}
+pub recorder_on : (core new : Core) (old now : ScheduleValue) (was lost : Option RunFault) (e : Event) (recorded : Bool)
+    → IsRecorder (record { core = core; schedule = old; lost = was }) → IsReached core → stepping core e ≡ Some new → new.size ≡ core.size
+    → HasPushed old now was lost e recorded → IsRecorder (record { core = new; schedule = now; lost = lost })
+recorder_on core new old now was lost e true is reached steps size push =
+    recorder_more core new old now was lost e is reached steps size (push.recorded_is refl) (push.none refl) (lost_by was lost push.keeps (push.none refl))
+recorder_on core new old now was lost e false is reached steps size push =
+    recorder_kept core new old now was lost is size (push.same refl) (push.gone refl) (full_by core old was lost is push.keeps push.full)

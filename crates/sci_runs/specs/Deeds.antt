@@ -1,8 +1,7 @@
 -- What a node does of its own: it issues and performs operations, and takes turns.
-use Rattle.std.specs.{Prelude.{◌≡◌, ◌+◌, ℕ, Bool, true, false, List, [], ◌∷◌, ◌++◌, Some, count_by}, List.{AllByRecursion}}
-use Rattle.std.proofs.{Common.{refl, sym, ap, subst, ◌∙◌, cond}, lemmas.List.{append-nil, append_assoc, Sums.{sum_by-append}}}
-use Rattle.sci_history.proofs.Order.{all-append}
-use Rattle.sci_words.specs.declared.event.Event.{Event}
+use Rattle.std.specs.Prelude.{◌≡◌, ◌≤◌, ◌⊎◌, ℕ, Bool, true, false, List, [], ◌∷◌, ◌++◌, length, Some, count_by}
+use Rattle.std.specs.List.{AllByRecursion}
+use Rattle.sci_words.specs.declared.{event.Event.{Event}, limits.TheConstants.{MAX_EVENTS}}
 use Rattle.sci_core.specs.Core.{Core, node_of, stepping}
 use Rattle.sci_policy.specs.{declared.progress.Progress.{Progress}, Policy.{PolicyOf, turned}, Turn.{is_idle}}
 use Rattle.sci_turn.specs.{Far.{HasAskedAll}, Idle.{IsIdleTurn}, Moves.{IsTurn}, Posts.{PostOf}}
@@ -40,20 +39,6 @@ post_on n course = record { me = n; core = course.core; schedule = Some course.e
 abbrev pub AddsOwn : ℕ → List Event → List Event → Type 0
 AddsOwn n old new = (more : List Event) × (new ≡ old ++ more) × AllByRecursion (λ e. node_of e ≡ n) more
 
--- ---- that they add up, which the node's post owes
-
-pub adds_itself : (n : ℕ) (events : List Event) → AddsOwn n events events
-adds_itself n events = ([], sym (append-nil events), tt)
-
-pub adds_then : (n m : ℕ) (old mid new : List Event) → m ≡ n → AddsOwn n old mid → AddsOwn m mid new → AddsOwn n old new
-adds_then n m old mid new same one two = (
-  one.0 ++ two.0,
-  two.1 ∙ (ap (λ (events : List Event). events ++ two.0) one.1 ∙ append_assoc old one.0 two.0),
-  all-append (λ e. node_of e ≡ n) one.0 two.0 one.2 (subst (λ (k : ℕ). AllByRecursion (λ e. node_of e ≡ k) two.0) same two.2),
-)
-
--- ---- a turn
-
 -- A turn of node n to its end: it adds events of the node alone, which are those that the policy decides; it asks until the
 -- policy wants no more or four times; and it reports nothing only if there was nothing to do.
 pub record IsWholeTurn (n : ℕ) (before : PolicyOf) (old : Course) (after : PolicyOf) (new : Course) (progress : Progress) : Type 0 where
@@ -61,6 +46,12 @@ pub record IsWholeTurn (n : ℕ) (before : PolicyOf) (old : Course) (after : Pol
   pub own : AddsOwn n old.events new.events
   pub asks : HasAskedAll (turned before) (post_on n old) after (post_on n new) progress
   pub idle : is_idle progress ≡ true → IsIdleTurn before (post_on n old) after (post_on n new)
+
+-- a turn of node n so far: its events, which are the node's alone
+pub record IsTurnSoFar (n : ℕ) (before : PolicyOf) (old : Course) (after : PolicyOf) (new : Course) : Type 0 where
+  pub progress : Progress
+  pub turn : IsTurn before (post_on n old) after (post_on n new) progress
+  pub own : AddsOwn n old.events new.events
 
 -- These deeds of node n, one after another, lead from one state and what its policy remembers to others. The events are
 -- those of the deeds, in their order.
@@ -77,21 +68,13 @@ pub record Takes (n turns : ℕ) (before : PolicyOf) (old : Course) (after : Pol
   pub many : turns_among deeds ≡ turns
   pub does : Does n deeds before old after new
 
--- ---- that turns add up, which each worker owes
-
-pub takes_nothing : (n : ℕ) (p : PolicyOf) (x : Course) → Takes n 0 p x p x
-takes_nothing n p x = record { deeds = []; many = refl; does = (refl, refl) }
-
-does_on : (n : ℕ) (deeds more : List Deed) (p q r : PolicyOf) (x y z : Course) → Does n deeds p x q y → Does n more q y r z → Does n (deeds ++ more) p x r z
-does_on n [] more p q r x y z one two =
-    subst (λ (policy : PolicyOf). Does n more policy x r z) (sym one.0) (subst (λ (course : Course). Does n more q course r z) (sym one.1) two)
-does_on n (Works e ∷ deeds) more p q r x y z one two = (one.0, one.1, one.2, does_on n deeds more p q r (gone_on x e one.0) y z one.3 two)
-does_on n (Turns progress ∷ deeds) more p q r x y z one two = (one.0, one.1, one.2, does_on n deeds more one.0 q r one.1 y z one.3 two)
-
-pub takes_on : (n some more : ℕ) (p q r : PolicyOf) (x y z : Course) → Takes n some p x q y → Takes n more q y r z → Takes n (some + more) p x r z
-takes_on n some more p q r x y z one two = record {
-  deeds = one.deeds ++ two.deeds;
-  many = sum_by-append (λ (deed : Deed). cond (is_turn deed) 1 0) one.deeds two.deeds
-      ∙ (ap (λ (turns : ℕ). turns + turns_among two.deeds) one.many ∙ ap (λ (turns : ℕ). some + turns) two.many);
-  does = does_on n one.deeds two.deeds p q r x y z one.does two.does;
-}
+-- deeds of node n, and perhaps a turn so far behind them, make as many events as a schedule can have
+pub record Fills (n : ℕ) (before : PolicyOf) (old : Course) : Type 0 where
+  pub deeds : List Deed
+  pub policy : PolicyOf
+  pub mid : Course
+  pub does : Does n deeds before old policy mid
+  pub after : PolicyOf
+  pub full : Course
+  pub rest : (mid ≡ full) ⊎ IsTurnSoFar n policy mid after full
+  pub many : MAX_EVENTS ≤ length full.events

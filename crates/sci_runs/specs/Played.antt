@@ -8,7 +8,7 @@ use Rattle.sci_policy.specs.Policy.{PolicyOf, opening_policy}
 use Rattle.sci_drive.specs.{declared.driver.{Issuing.{Issuing}, Round.{Round}}, Calls.{AllowAll}}
 use Rattle.sci_drive.specs.{Driving.{DriverOf, opening_driver}, Rounds.{GoesRound}}
 use Rattle.sci_threads.specs.Shares.{operations_of, size_for}
-use Rattle.sci_runs.specs.{declared.order.Order.{Order}, Deeds.{Takes}, Recorded.{Course, raised, with_limit}}
+use Rattle.sci_runs.specs.{declared.order.Order.{Order}, Deeds.{Fills, Takes}, Recorded.{Course, raised, with_limit}}
 use Rattle.sci_runs.specs.Turns.{first_order, next_node, next_order}
 
 -- ---- a run
@@ -52,6 +52,19 @@ Played nodes zero order old later new = (order ≡ later) × (old ≡ new)
 Played nodes (suc rounds) order old later new =
     (mid : Moment) × (next : Order) × Played nodes rounds order old next mid × (later ≡ next_order nodes next) × IsRound (next_node nodes next) mid new
 
+-- in a round of node n from this moment on, the schedule gets as many events as it can have
+abbrev pub FillsAt : ℕ → Moment → Type 0
+FillsAt n moment = Fills n (policy_at moment n) (course_at moment)
+
+-- the schedule has no room for fewer than this many rounds and what comes then
+pub record HasNoRoom (nodes turns : ℕ) (order : Order) (first : Moment) : Type 0 where
+  pub rounds : ℕ
+  pub fewer : rounds < turns
+  pub next : Order
+  pub moment : Moment
+  pub played : Played nodes rounds order first next moment
+  pub fills : FillsAt (next_node nodes next) moment
+
 -- A run begins: the machine is new, with room for as many operations as each node has in the script at least; nothing is
 -- submitted, and the policies remember nothing.
 pub record Begins (script : ScriptValue) (issuing : Issuing) (first : Moment) : Type 0 where
@@ -72,3 +85,10 @@ pub record IsPlayed (script : ScriptValue) (issuing : Issuing) (seed : Option �
   pub played : Played script.nodes rounds (first_order seed) first order last
   pub events : schedule.events ≡ last.events
   pub behind : run (size_for script) schedule.events ≡ raised MAX_OPERATIONS last.core
+
+-- The run of a script by the policy makes as many events as a schedule can have before it has taken this many turns: some
+-- rounds, and what the next node does.
+pub record IsTooLong (script : ScriptValue) (issuing : Issuing) (seed : Option ℕ) (turns : ℕ) : Type 0 where
+  pub first : Moment
+  pub begins : Begins script issuing first
+  pub full : HasNoRoom script.nodes turns (first_order seed) first

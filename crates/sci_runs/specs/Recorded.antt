@@ -1,12 +1,12 @@
 -- A machine with the schedule that has led it where it stands.
-use Rattle.std.specs.Prelude.{◌≡◌, ◌≢◌, ◌<◌, ◌==◌, ◌⊎◌, ℕ, List, [], ◌∷◌, ◌++◌, length, map, Option, Some, None, slice_get, if◌then◌else◌}
+use Rattle.std.specs.Prelude.{◌≡◌, ◌≢◌, ◌<◌, ◌≤◌, ◌==◌, ◌⊎◌, ℕ, List, [], ◌∷◌, ◌++◌, length, map, Option, Some, None, slice_get, if◌then◌else◌}
 use Rattle.std.specs.List.{Contains, filter_map}
-use Rattle.sci_words.specs.declared.{event.Event.{Event}, operation.Op.{Op}, limits.TheConstants.{MAX_OPERATIONS}}
+use Rattle.sci_words.specs.declared.{event.Event.{Event}, operation.Op.{Op}, limits.TheConstants.{MAX_EVENTS, MAX_OPERATIONS}}
 use Rattle.sci_history.specs.declared.entry.Entry.{Entry}
 use Rattle.sci_text.specs.Schedule.{ScheduleValue}
 use Rattle.sci_core.specs.{Core.{Core, node_at, run}, Node.{NodeOf, pending_on}, Size.{Size}}
 use Rattle.sci_lanes.specs.Shown.{AreEnabled}
-use Rattle.sci_runs.specs.declared.fault.RunFault.{RunFault}
+use Rattle.sci_runs.specs.declared.fault.RunFault.{RunFault, TheVariants.{TooMany}}
 use Rattle.sci_words.specs.declared.event.Event.TheVariants as event
 
 -- ---- sizes
@@ -86,10 +86,16 @@ course_of recorder = record { core = recorder.core; events = recorder.schedule.e
 abbrev pub gone_on : Course → Event → Core → Course
 gone_on course e core = record { core = core; events = course.events ++ e ∷ [] }
 
--- the schedule is of the machine's size, and unless an event was lost it has led to the state
+-- the schedule is of the machine's size, and unless an event was lost it has led to the state; if one was lost since there were
+-- too many, the schedule is full
 pub record IsRecorder (recorder : RecorderOf) : Type 0 where
   pub sized : IsOfSize recorder.core.size recorder.schedule
   pub led : recorder.lost ≡ None → HasLed recorder.schedule.events recorder.core
+  pub full : recorder.lost ≡ Some TooMany → MAX_EVENTS ≤ length recorder.schedule.events
+
+-- an event that was lost stays lost, and then nothing more is recorded
+abbrev pub KeepsLoss : RecorderOf → RecorderOf → Type 0
+KeepsLoss old new = (fault : RunFault) → old.lost ≡ Some fault → (new.lost ≡ Some fault) × (new.schedule ≡ old.schedule)
 
 -- what other nodes than this one are stays, and how many there are
 pub record SparesOthers (n : ℕ) (old new : Core) : Type 0 where

@@ -58,7 +58,7 @@ impl<'a> Player<'a> {
     ghost use Rattle.std.specs.Prelude.{◌≡◌, ◌<◌, None, IfOk};
     ghost use Rattle.sci_core.specs.Core.{node_at};
     ghost use Rattle.sci_drive.specs.Driving.{IsDriven, IsInOrder};
-    ghost use Rattle.sci_runs.specs.{Deeds.{Takes}, Played.{GoesOpenly}, Recorded.{SparesOthers, course_of}};
+    ghost use Rattle.sci_runs.specs.{Deeds.{Takes}, Goings.{Goes}, Played.{GoesOpenly}, Recorded.{SparesOthers, course_of}};
 
     /// Does a round at a node. Requires that there is such a node, and that this player has driven it. Refused if memory
     /// is, for a lane.
@@ -73,6 +73,7 @@ impl<'a> Player<'a> {
             (node_at recorder.old.core node) (node_at recorder.new.core node) result }
         ensures takes { IfOk result (λ _. recorder.new.lost ≡ None → Takes node 1
             self.old.policy (course_of recorder.old) self.new.policy (course_of recorder.new)) }
+        ensures gone { Goes node self.old.policy recorder.old self.new.policy recorder.new }
         ensures spares { SparesOthers node recorder.old.core recorder.new.core }
     {
         let mut seat = Seat {

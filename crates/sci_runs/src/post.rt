@@ -1,13 +1,13 @@
 //! A machine with its record, as the post of one of its nodes.
 
-ghost use Rattle.std.specs.Prelude.{◌<◌, ◌≡◌, None};
+ghost use Rattle.std.specs.Prelude.{◌<◌};
 
-use crate::fault::RunFault;
 use crate::recorder::Recorder;
 use sci_core::{LaneKind, Node};
 use sci_packets::Packet;
 use sci_turn::Post;
 use sci_words::{Event, LANE_CELLS};
+use std::alloc::AllocError;
 
 /// A machine and its record, lent to one of the nodes.
 #[derive(Drop)]
@@ -15,26 +15,26 @@ pub(crate) struct Lent<'a> {
     pub(crate) recorder: &'a mut Recorder,
     pub(crate) node: u8,
     ghost some: { node < recorder.now.core.size.nodes },
-    ghost recorded: { recorder.now.lost ≡ None },
 }
 
 impl<'a> Post for Lent<'a> {
-    ghost use Rattle.std.specs.Prelude.{◌≡◌, []};
+    ghost use Rattle.std.specs.Prelude.{◌≡◌, ◌≢◌, [], None};
     ghost use Rattle.sci_core.specs.Core.{lane_of};
     ghost use Rattle.std.proofs.Common.{refl, ◌∙◌};
-    ghost use Rattle.sci_runs.specs.{Deeds.{AddsOwn, adds_itself, adds_then, post_on}, Recorded.{SparesOthers, course_of}};
+    ghost use Rattle.sci_runs.specs.{Deeds.{AddsOwn, post_on}, Goings.{adds_itself, adds_then}, Recorded.{KeepsLoss, SparesOthers, course_of}};
 
-    type Stop = RunFault;
+    type Stop = AllocError;
 
     ghost post = { λ lent. post_on lent.node (course_of lent.recorder.now) };
 
     ghost stays = { λ old new. (new.node ≡ old.node) × (new.recorder.ghost_name ≡ old.recorder.ghost_name)
         × SparesOthers old.node old.recorder.now.core new.recorder.now.core
-        × AddsOwn old.node old.recorder.now.schedule.events new.recorder.now.schedule.events };
+        × AddsOwn old.node old.recorder.now.schedule.events new.recorder.now.schedule.events
+        × KeepsLoss old.recorder.now new.recorder.now };
 
     ghost sees = { λ lent kind from. lane_of lent.recorder.now.core kind from lent.node ≡ [] → ⊥ };
 
-    ghost may_stop = { λ lent. Unit {0} };
+    ghost may_stop = { λ lent. lent.recorder.now.lost ≢ None };
 
     fn me(&self) -> u8 {
         self.node
@@ -48,7 +48,7 @@ impl<'a> Post for Lent<'a> {
         self.recorder.machine().node(self.node)
     }
 
-    fn look(&mut self, kind: LaneKind, from: u8) -> Result<bool, RunFault> {
+    fn look(&mut self, kind: LaneKind, from: u8) -> Result<bool, AllocError> {
         Ok(self.recorder.machine().count(kind, from, self.node) > 0)
     }
 
@@ -59,12 +59,12 @@ impl<'a> Post for Lent<'a> {
         }
     }
 
-    fn take(&mut self, _kind: LaneKind, _from: u8, event: &Event) -> Result<(), RunFault> {
+    fn take(&mut self, _kind: LaneKind, _from: u8, event: &Event) -> Result<(), AllocError> {
         self.recorder.happen(event)
     }
 
     /// A lane takes as many packets here as one between running stations has cells.
-    fn send(&mut self, kind: LaneKind, packet: &Packet, event: &Event) -> Result<bool, RunFault> {
+    fn send(&mut self, kind: LaneKind, packet: &Packet, event: &Event) -> Result<bool, AllocError> {
         // Read, so that the prover knows that the state is reached.
         let _extent = self.recorder.machine().extent();
         let to = packet.target.get() as u8;
@@ -80,6 +80,7 @@ impl<'a> Post for Lent<'a> {
       refl,
       record { size = refl; others = λ m apart. refl },
       adds_itself x.node x.recorder.now.schedule.events,
+      λ fault is. (is, refl),
     ) };
 
     ghost stays_through = { λ x y z one two. (
@@ -91,5 +92,9 @@ impl<'a> Post for Lent<'a> {
       },
       adds_then x.node y.node x.recorder.now.schedule.events y.recorder.now.schedule.events
           z.recorder.now.schedule.events one.0 one.3 two.3,
+      λ fault is. (
+        (two.4 fault (one.4 fault is).0).0,
+        (two.4 fault (one.4 fault is).0).1 ∙ (one.4 fault is).1,
+      ),
     ) };
 }

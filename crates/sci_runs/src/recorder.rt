@@ -19,40 +19,33 @@ struct Record {
 }
 
 impl Record {
-    ghost use Rattle.std.specs.Prelude.{◌≡◌, None, IfOk, IsErr};
+    ghost use Rattle.std.specs.Prelude.{◌≡◌, ◌≢◌, ◌≤◌, None, Some, true, false, length};
+    ghost use Rattle.sci_words.specs.declared.limits.TheConstants.{MAX_EVENTS};
     ghost use Rattle.sci_text.specs.Schedule.{IsEventWithin, with_event};
-    ghost use Rattle.sci_runs.specs.Recorded.{IsSameSize};
-
-    /// Records an event of the schedule's machine. Refused, unchanged, if memory is, or if there are 500,000 events already.
-    fn push(&mut self, event: Event) -> Result<(), RunFault>
-        requires { IsEventWithin self.old.schedule.nodes self.old.schedule.lines event }
-        ensures recorded { IfOk result (λ _. self.new.schedule ≡ with_event self.old.schedule event) }
-        ensures same { IsErr result → self.new.schedule ≡ self.old.schedule }
-        ensures lost { self.new.lost ≡ self.old.lost }
-    {
-        match self.schedule.push(event) {
-            Ok(()) => Ok(()),
-            Err(PushFault::Range) => unreachable!(),
-            Err(PushFault::TooMany) => Err(RunFault::TooMany),
-            Err(PushFault::Memory) => Err(RunFault::Memory),
-        }
-    }
+    ghost use Rattle.sci_runs.specs.declared.fault.RunFault.{RunFault, TheVariants.{TooMany}};
 
     /// Records an event of the schedule's machine, unless one was lost before. It is lost if memory is refused, or if there
-    /// are 500,000 events already.
-    fn note(&mut self, event: Event)
+    /// are 500,000 events already. The answer is whether it was recorded.
+    fn push(&mut self, event: Event) -> bool
         requires { IsEventWithin self.old.schedule.nodes self.old.schedule.lines event }
-        ensures before { self.new.lost ≡ None → self.old.lost ≡ None }
-        ensures recorded { self.new.lost ≡ None →
-            self.new.schedule ≡ with_event self.old.schedule event }
-        ensures size { IsSameSize self.old.schedule self.new.schedule }
+        ensures recorded { result ≡ true → self.new.schedule ≡ with_event self.old.schedule event }
+        ensures none { result ≡ true → self.new.lost ≡ None }
+        ensures same { result ≡ false → self.new.schedule ≡ self.old.schedule }
+        ensures lost { result ≡ false → self.new.lost ≢ None }
+        ensures keeps { (fault : RunFault) → self.old.lost ≡ Some fault → self.new.lost ≡ Some fault }
+        ensures full { self.old.lost ≡ None → self.new.lost ≡ Some TooMany →
+            MAX_EVENTS ≤ length self.old.schedule.events }
     {
         if self.lost.is_some() {
-            return;
+            return false;
         }
-        if let Err(fault) = self.push(event) {
-            self.lost = Some(fault);
-        }
+        self.lost = match self.schedule.push(event) {
+            Ok(()) => None,
+            Err(PushFault::Range) => unreachable!(),
+            Err(PushFault::TooMany) => Some(RunFault::TooMany),
+            Err(PushFault::Memory) => Some(RunFault::Memory),
+        };
+        self.lost.is_none()
     }
 }
 
@@ -91,9 +84,10 @@ impl Model for Recorder {
 }
 
 impl Recorder {
-    ghost use Rattle.std.specs.Prelude.{◌≡◌, ◌<◌, ◌≤◌, ◌∷◌, ◌++◌, [], Some, None, IfOk, IfErr, IfSome, IsErr, length};
+    ghost use Rattle.std.specs.Prelude.{◌≡◌, ◌≢◌, ◌<◌, ◌≤◌, ◌∷◌, ◌++◌, [], Some, None, IfOk, IfErr, IfSome, IsErr, length};
     ghost use Rattle.sci_words.specs.declared.event.Event.TheVariants.{Issue, Perform};
-    ghost use Rattle.sci_words.specs.declared.limits.TheConstants.{MAX_OPERATIONS};
+    ghost use Rattle.sci_words.specs.declared.limits.TheConstants.{MAX_EVENTS, MAX_OPERATIONS};
+    ghost use Rattle.sci_runs.specs.declared.fault.RunFault.{RunFault, TheVariants.{TooMany}};
     ghost use Rattle.sci_history.specs.{Audit.{AreWithin}, Lawful.{Lawful}, Sequential.{IsSequentiallyConsistent}};
     ghost use Rattle.sci_core.specs.{Core.{IsEnabled, node_at, opening, stepping}, Node.{node_performing}};
     ghost use Rattle.sci_core.specs.{Outcome.{logs_of}, Reached.{IsReached}, Sharing.{last_of}, Size.{size_of}};
@@ -120,26 +114,32 @@ impl Recorder {
         Ok(Recorder { machine, events })
     }
 
-    /// An event happens, and is recorded. Requires that it is enabled. Refused, unchanged, if memory is, or if there are
-    /// 500,000 events already.
-    pub(crate) fn happen(&mut self, event: &Event) -> Result<(), RunFault>
+    /// An event happens, and is recorded. Requires that it is enabled. Refused, with no event made, if one was lost, or if
+    /// this one is.
+    pub(crate) fn happen(&mut self, event: &Event) -> Result<(), AllocError>
         requires { IsEnabled self.old.core event.now }
         ensures done { IfOk result
             (λ _. stepping self.old.core event.now ≡ Some self.new.core) }
         ensures recorded { IfOk result
             (λ _. self.new.schedule.events ≡ self.old.schedule.events ++ event.now ∷ []) }
-        ensures same { IsErr result → self.new ≡ self.old }
-        ensures lost { self.new.lost ≡ self.old.lost }
+        ensures same { IsErr result →
+            (self.new.core ≡ self.old.core) × (self.new.schedule ≡ self.old.schedule) }
+        ensures lost { IsErr result → self.new.lost ≢ None }
+        ensures keeps { (fault : RunFault) → self.old.lost ≡ Some fault →
+            (self.new.lost ≡ Some fault) × (self.new.schedule ≡ self.old.schedule) }
         ensures size { self.new.core.size ≡ self.old.core.size }
     {
         // Read, so that the prover knows that the state is reached.
         let _extent = self.machine.extent();
-        self.events.push(*event)?;
+        if !self.events.push(*event) {
+            return Err(AllocError);
+        }
         match self.machine.make(event) {
             Ok(()) => Ok(()),
-            Err(_) => {
+            Err(refused) => {
                 let _event = self.events.schedule.pop();
-                Err(RunFault::Memory)
+                self.events.lost = Some(RunFault::Memory);
+                Err(refused)
             }
         }
     }
@@ -153,7 +153,9 @@ impl Recorder {
             (λ serial. stepping self.old.core (Issue node op) ≡ Some self.new.core) }
         ensures recorded { IfOk result (λ serial. self.new.lost ≡ None →
             self.new.schedule.events ≡ self.old.schedule.events ++ Issue node op ∷ []) }
-        ensures before { self.new.lost ≡ None → self.old.lost ≡ None }
+        ensures keeps { (fault : RunFault) → self.old.lost ≡ Some fault → self.new.lost ≡ Some fault }
+        ensures stands { (fault : RunFault) → self.new.lost ≡ Some fault →
+            self.new.schedule ≡ self.old.schedule }
         ensures serial { IfOk result
             (λ serial. serial ≡ (node_at self.old.core node).issued) }
         ensures fault { IfErr result
@@ -164,7 +166,7 @@ impl Recorder {
         // Read, so that the prover knows that the state is reached.
         let _extent = self.machine.extent();
         let serial = submit_on(&mut self.machine, node, op)?;
-        self.events.note(Event::Issue { node, op });
+        let _recorded = self.events.push(Event::Issue { node, op });
         Ok(serial)
     }
 
@@ -177,7 +179,9 @@ impl Recorder {
             (λ entry. stepping self.old.core (Perform node line) ≡ Some self.new.core) }
         ensures recorded { IfSome result (λ entry. self.new.lost ≡ None →
             self.new.schedule.events ≡ self.old.schedule.events ++ Perform node line ∷ []) }
-        ensures before { self.new.lost ≡ None → self.old.lost ≡ None }
+        ensures keeps { (fault : RunFault) → self.old.lost ≡ Some fault → self.new.lost ≡ Some fault }
+        ensures stands { (fault : RunFault) → self.new.lost ≡ Some fault →
+            self.new.schedule ≡ self.old.schedule }
         ensures none { result ≡ None → node_performing (node_at self.old.core node) line ≡ None }
         ensures same { result ≡ None → self.new ≡ self.old }
         ensures spares { SparesOthers node self.old.core self.new.core }
@@ -185,7 +189,7 @@ impl Recorder {
         // Read, so that the prover knows that the state is reached.
         let _extent = self.machine.extent();
         let entry = perform_on(&mut self.machine, node, line)?;
-        self.events.note(Event::Perform { node, line });
+        let _recorded = self.events.push(Event::Perform { node, line });
         Some(entry)
     }
 
@@ -196,16 +200,10 @@ impl Recorder {
         &self.machine
     }
 
-    /// Notes why an event couldn't be recorded.
-    pub(crate) fn lose(&mut self, fault: RunFault)
-        ensures { self.new ≡ record self.old { lost = Some fault } }
-    {
-        self.events.lost = Some(fault);
-    }
-
     /// Why an event was lost, or None if none was.
     pub(crate) fn lost(&self) -> Option<RunFault>
-        ensures { result ≡ self.now.lost }
+        ensures lost { result ≡ self.now.lost }
+        ensures full { result ≡ Some TooMany → MAX_EVENTS ≤ length self.now.schedule.events }
     {
         self.events.lost
     }

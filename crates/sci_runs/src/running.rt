@@ -1,8 +1,9 @@
 //! A script that is run by the policy, one turn after another.
 
-ghost use Rattle.std.specs.Prelude.{◌≡◌, ◌≤◌, false, length, IfOk};
+ghost use Rattle.std.specs.Prelude.{◌≡◌, ◌≤◌, false, length, IfErr, IfOk};
 ghost use Rattle.sci_history.specs.{Audit.{AreWithin}, Lawful.{Lawful}, Sequential.{IsSequentiallyConsistent}};
-ghost use Rattle.sci_runs.specs.{Played.{IsPlayed}, Runs.{IsRunOf, last_behind, logs_behind}};
+ghost use Rattle.sci_runs.specs.declared.fault.RunFault.TheVariants.{TooMany};
+ghost use Rattle.sci_runs.specs.{Played.{IsPlayed, IsTooLong}, Runs.{IsRunOf, last_behind, logs_behind}};
 
 use crate::fault::RunFault;
 use crate::order::Order;
@@ -46,6 +47,8 @@ pub fn run_script(alloc: Global, script: &Script, plan: Plan) -> Result<Run, Run
     ensures run { IfOk result (λ run. IsRunOf script.now plan.issuing run.done run.schedule) }
     ensures played { IfOk result (λ run.
         IsPlayed script.now plan.issuing plan.seed run.turns run.schedule) }
+    ensures full { IfErr result (λ fault. fault ≡ TooMany →
+        IsTooLong script.now plan.issuing plan.seed plan.turns) }
     ensures turns { IfOk result (λ run. run.turns ≤ plan.turns) }
     ensures all { IfOk result (λ run. run.done ≡ false → run.turns ≡ plan.turns) }
     ensures logs { IfOk result (λ run. run.logs ≡ logs_behind script.now run.schedule) }

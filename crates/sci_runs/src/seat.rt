@@ -22,14 +22,15 @@ impl<'a> Worker for Seat<'a> {
     ghost use Rattle.std.specs.Prelude.{◌≡◌, ℕ, None};
     ghost use Rattle.sci_core.specs.Core.{node_at};
     ghost use Rattle.std.proofs.Common.{refl, subst, ◌∙◌};
-    ghost use Rattle.sci_runs.specs.{Deeds.{Takes, takes_nothing, takes_on}, Recorded.{SparesOthers, course_of}};
+    ghost use Rattle.sci_runs.specs.{Deeds.{Takes}, Goings.{Goes, goes_itself, goes_on, takes_nothing, takes_on}, Recorded.{SparesOthers, course_of}};
 
     ghost node = { λ seat. node_at seat.recorder.now.core seat.node };
 
     ghost stays = { λ old new. (new.node ≡ old.node)
         × (new.recorder.ghost_name ≡ old.recorder.ghost_name)
         × (new.policy.ghost_name ≡ old.policy.ghost_name)
-        × SparesOthers old.node old.recorder.now.core new.recorder.now.core };
+        × SparesOthers old.node old.recorder.now.core new.recorder.now.core
+        × Goes old.node old.policy.now old.recorder.now new.policy.now new.recorder.now };
 
     ghost turned = { λ old turns new. (new.node ≡ old.node)
         × (new.recorder.now.lost ≡ None → (old.recorder.now.lost ≡ None) × Takes old.node turns
@@ -47,7 +48,13 @@ impl<'a> Worker for Seat<'a> {
         turn_on(self.recorder, self.policy, self.node)
     }
 
-    ghost stays_itself = { λ x. (refl, refl, refl, record { size = refl; others = λ m apart. refl }) };
+    ghost stays_itself = { λ x. (
+      refl,
+      refl,
+      refl,
+      record { size = refl; others = λ m apart. refl },
+      goes_itself x.node x.policy.now x.recorder.now,
+    ) };
 
     ghost stays_through = { λ x y z one two. (
       two.0 ∙ one.0,
@@ -57,6 +64,8 @@ impl<'a> Worker for Seat<'a> {
         size = two.3.size ∙ one.3.size;
         others = λ m apart. two.3.others m (λ is. apart (is ∙ one.0)) ∙ one.3.others m apart;
       },
+      goes_on x.node x.policy.now y.policy.now z.policy.now x.recorder.now y.recorder.now z.recorder.now one.4
+          (subst (λ (n : ℕ). Goes n y.policy.now y.recorder.now z.policy.now z.recorder.now) one.0 two.4),
     ) };
 
     ghost turned_not = { λ x. (

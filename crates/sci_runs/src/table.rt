@@ -70,11 +70,12 @@ pub(crate) struct Ran {
 }
 
 impl<'a> Table<'a> {
-    ghost use Rattle.std.specs.Prelude.{◌≡◌, ◌<◌, ◌≤◌, ℕ, All, IfOk, None, true, false, length, slice_index_or};
+    ghost use Rattle.std.specs.Prelude.{◌≡◌, ◌<◌, ◌≤◌, ℕ, All, IfErr, IfOk, None, true, false, length, slice_index_or};
     ghost use Rattle.sci_words.specs.declared.limits.TheConstants.{MAX_OPERATIONS};
     ghost use Rattle.sci_core.specs.Core.{run};
+    ghost use Rattle.sci_runs.specs.declared.fault.RunFault.TheVariants.{Memory, TooMany};
     ghost use Rattle.sci_threads.specs.Shares.{operations_of, size_for};
-    ghost use Rattle.sci_runs.specs.{Played.{Begins, IsRound, Played}, Players.{IsAnswered, moment_of}};
+    ghost use Rattle.sci_runs.specs.{Played.{Begins, FillsAt, HasNoRoom, IsRound, Played}, Players.{IsAnswered, moment_of}};
     ghost use Rattle.sci_runs.specs.{Recorded.{raised}, Runs.{IsRunOf, last_behind, logs_behind}};
     ghost use Rattle.sci_history.specs.{Audit.{AreWithin}, Lawful.{Lawful}, Sequential.{IsSequentiallyConsistent}};
 
@@ -94,6 +95,7 @@ impl<'a> Table<'a> {
         ensures issuing { IfOk result (λ table. table.issuing ≡ issuing) }
         ensures begins { IfOk result (λ table. Begins script.now issuing (moment_of table)) }
         ensures none { IfOk result (λ table. table.recorder.lost ≡ None) }
+        ensures memory { IfErr result (λ fault. fault ≡ Memory) }
     {
         let recorder = Recorder::new(alloc, script.extent(), most_operations(operations))?;
         let players = new_players(alloc, operations, issuing)?;
@@ -117,6 +119,8 @@ impl<'a> Table<'a> {
         requires { node < self.old.script.nodes }
         ensures recorded { IfOk result (λ _. self.new.recorder.lost ≡ None) }
         ensures round { IfOk result (λ _. IsRound node (moment_of self.old) (moment_of self.new)) }
+        ensures full { IfErr result (λ fault. fault ≡ TooMany →
+            self.old.recorder.lost ≡ None → FillsAt node (moment_of self.old)) }
         ensures script { self.new.script ≡ self.old.script }
         ensures issuing { self.new.issuing ≡ self.old.issuing }
     {
@@ -139,6 +143,8 @@ impl<'a> Table<'a> {
             All IsAnswered self.new.drivers) }
         ensures played { IfOk result (λ ran. Played self.old.script.nodes ran.turns
             order.old (moment_of self.old) order.new (moment_of self.new)) }
+        ensures full { IfErr result (λ fault. fault ≡ TooMany → HasNoRoom
+            self.old.script.nodes turns order.old (moment_of self.old)) }
         ensures turns { IfOk result (λ ran. ran.turns ≤ turns) }
         ensures all { IfOk result (λ ran. ran.done ≡ false → ran.turns ≡ turns) }
     {

@@ -10,7 +10,7 @@ use Rattle.sci_charts.specs.ChartAnswer.{IsChartAnswer}
 use Rattle.sci_reports.specs.{CheckAnswer.{IsCheckAnswer, IsCheckFault}, ExplainAnswer.{IsExplainAnswer}}
 use Rattle.sci_reports.specs.OrderAnswer.{IsOrderAnswer}
 use Rattle.sci_traces.specs.{ListsAnswer.{IsListsAnswer}, PacketsAnswer.{IsPacketsAnswer}, TraceAnswer.{IsTraceAnswer}}
-use Rattle.sci_run_reports.specs.{OutcomesAnswer.{IsOutcomesAnswer}, RunAnswer.{IsRunAnswer, IsRunRefusal}}
+use Rattle.sci_run_reports.specs.{OutcomesAnswer.{IsOutcomesAnswer}, RunAnswer.{IsLongRun, IsRunAnswer, IsRunRefusal, IsScriptText}}
 use Rattle.sci_walks.specs.RandomAnswer.{IsRandomAnswer, IsWalkFault}
 use Rattle.sci_statistics.specs.StatsAnswer.{IsStatsAnswer, IsStatsFault}
 use Rattle.sci_statistics.proofs.Counted.{stats_memory}
@@ -67,11 +67,14 @@ returns-in-Random g c =
     c.finish-in-Random.ensures.written c.finish-in-Random.ensures.again)
 
 pub returns-in-Run : goal.returns-in-Run
-returns-in-Run g c = rw c.in-Run.is (carried_out (IsRunAnswer c.in-Run.request) IsRunRefusal c.run.result run_memory
+returns-in-Run g c =
+    let long = IsLongRun c.in-Run.request in
+    rw c.in-Run.is (carried_out (IsRunAnswer c.in-Run.request) (IsRunRefusal long) c.run.result (run_memory long)
     (λ text is. is) c.run.ensures c.finish-in-Run.ensures.written c.finish-in-Run.ensures.again)
 
 pub returns-in-Outcomes : goal.returns-in-Outcomes
-returns-in-Outcomes g c = rw c.in-Outcomes.is (carried_out (IsOutcomesAnswer c.in-Outcomes.request) IsRunRefusal c.outcomes_of.result run_memory
+returns-in-Outcomes g c =
+    rw c.in-Outcomes.is (carried_out (IsOutcomesAnswer c.in-Outcomes.request) (IsRunRefusal IsScriptText) c.outcomes_of.result (run_memory IsScriptText)
     (λ text is. is) c.outcomes_of.ensures c.finish-in-Outcomes.ensures.written c.finish-in-Outcomes.ensures.again)
 
 pub returns-in-Help : goal.returns-in-Help

@@ -2,7 +2,7 @@ use Rattle.std.proofs.Common.{◌≡◌, ℕ, List, Option, None, sym, subst, ru
 use Rattle.std.specs.Prelude.{IfOk, slice_index_or}
 use Rattle.sci_core.specs.{Core.{node_at}, Node.{NodeOf, no_node}}
 use Rattle.sci_turn.proofs.Moments.{if_ok_map}
-use Rattle.sci_runs.specs.{Deeds.{Takes}, Played.{GoesOpenly}, Recorded.{Course, course_of}, declared.fault.RunFault.{RunFault}}
+use Rattle.sci_runs.specs.{Deeds.{Takes}, Goings.{Goes}, Played.{GoesOpenly}, Recorded.{Course, RecorderOf, course_of}, declared.fault.RunFault.{RunFault}}
 use Rattle.sci_runs.proofs.Playing.{TakesUnlost, goes_open}
 use Rattle.sci_runs.proofs.player.Player.round.Goals as goal
 
@@ -36,3 +36,12 @@ returns-clause-takes c =
     (λ _ turned none. (turned.1 (sym gone ∙ none)).1) c.round.ensures.turned)
     in
     there _ _ (search rules) (search rules)
+
+pub returns-clause-gone : goal.returns-clause-gone
+returns-clause-gone c =
+    let worker = c.round.new.worker in
+    let there : (later : RecorderOf) → later ≡ worker.recorder.now
+    → Goes c.args.node c.args.self.now.policy c.args.recorder.now worker.policy.now later = λ later is.
+    subst (Goes c.args.node c.args.self.now.policy c.args.recorder.now worker.policy.now) (sym is) c.round.ensures.stays.4
+    in
+    there _ (search rules)

@@ -18,4 +18,5 @@ returns-clause-stays c =
       refl,
       spares_step lent.node old.core new.core c.args.event.now c.requires.own c.in_ok-happen.ensures.done c.happen.ensures.size,
       adds_one lent.node old.schedule.events new.schedule.events c.args.event.now c.requires.own c.in_ok-happen.ensures.recorded,
+      c.happen.ensures.keeps,
     )

@@ -1,5 +1,6 @@
 use Rattle.std.proofs.Common.{refl, ap}
-use Rattle.sci_runs.specs.Recorded.{RecorderOf, course_of}
+use Rattle.sci_text.specs.Schedule.{ScheduleValue}
+use Rattle.sci_runs.specs.Recorded.{course_of}
 use Rattle.sci_runs.proofs.{Posting.{adds_either, takes_front}, Sparing.{spares_either}}
 use Rattle.sci_runs.proofs.post.LentPost.take.Goals as goal
 
@@ -17,7 +18,8 @@ returns-clause-stays c =
       refl,
       refl,
       spares_either c.happen.result lent.node old.core new.core c.args.event.now c.requires.may.1.own c.happen.ensures.done
-          (λ is. ap (λ (r : RecorderOf). r.core) (c.happen.ensures.same is)) c.happen.ensures.size,
+          (λ is. (c.happen.ensures.same is).0) c.happen.ensures.size,
       adds_either c.happen.result lent.node old.schedule.events new.schedule.events c.args.event.now c.requires.may.1.own c.happen.ensures.recorded
-          (λ is. ap (λ (r : RecorderOf). r.schedule.events) (c.happen.ensures.same is)),
+          (λ is. ap (λ (s : ScheduleValue). s.events) (c.happen.ensures.same is).1),
+      c.happen.ensures.keeps,
     )

@@ -2,16 +2,19 @@ use Rattle.std.proofs.Common.{◌<◌, refl, sym, subst}
 use Rattle.sci_words.specs.declared.event.Event.TheVariants.{Perform}
 use Rattle.sci_core.specs.{Core.{node_at}, Work.{IsLogged}}
 use Rattle.sci_core.proofs.History.Pendings.{perform_puts}
-use Rattle.sci_runs.proofs.{NodeSteps.{node_fits}, Recording.{event_within, recorder_on}, Sparing.{spares_step}}
+use Rattle.sci_runs.proofs.{NodeSteps.{node_fits}, Recording.{event_within, has_pushed, recorder_on}, Sparing.{spares_step}}
 use Rattle.sci_runs.specs.Recorded.{RecorderOf, SparesOthers}
 use Rattle.sci_runs.proofs.recorder.Recorder.perform.Goals as goal
 
-pub note-requires : goal.note-requires
-note-requires c = event_within _ _ _ (Perform c.args.node c.args.line) c.self.invariant.sized c.extent-extent.ensures.reached c.in_ok-entry.ensures.event
+pub push-recorded-requires : goal.push-recorded-requires
+push-recorded-requires c =
+    event_within _ _ _ (Perform c.args.node c.args.line) c.self.invariant.sized c.extent-extent.ensures.reached c.in_ok-entry.ensures.event
 
 pub invariant_of-self-2 : goal.invariant_of-self-2
-invariant_of-self-2 c = recorder_on _ _ _ _ _ _ (Perform c.args.node c.args.line) c.self.invariant c.extent-extent.ensures.reached c.in_ok-entry.ensures.event
-    c.perform_on.ensures.size c.note.ensures.size c.note.ensures.before c.note.ensures.recorded
+invariant_of-self-2 c =
+    let push = c.push-recorded.ensures in
+    recorder_on _ _ _ _ _ _ (Perform c.args.node c.args.line) c.push-recorded.result c.self.invariant c.extent-extent.ensures.reached
+    c.in_ok-entry.ensures.event c.perform_on.ensures.size (has_pushed push.recorded push.none push.same push.lost push.keeps push.full)
 
 pub returns-clause-performed : goal.returns-clause-performed
 returns-clause-performed c =

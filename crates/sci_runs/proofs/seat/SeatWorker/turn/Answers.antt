@@ -1,7 +1,7 @@
 use Rattle.std.proofs.Common.{◌≡◌, refl}
 use Rattle.sci_turn.proofs.Moments.{if_ok_map}
-use Rattle.sci_runs.specs.{Deeds.{IsWholeTurn}, Recorded.{course_of}}
-use Rattle.sci_runs.proofs.Playing.{TakesUnlost, takes_turn}
+use Rattle.sci_runs.specs.{Deeds.{IsWholeTurn}, Goings.{unlost}, Recorded.{course_of}}
+use Rattle.sci_runs.proofs.Playing.{TakesUnlost, goes_turning, takes_turn}
 use Rattle.sci_runs.proofs.seat.SeatWorker.turn.Goals as goal
 
 pub returns-clause-turned : goal.returns-clause-turned
@@ -10,10 +10,27 @@ returns-clause-turned c =
     let policy = c.turn_on.new.policy in
     let old = seat.recorder.now in
     let new = c.turn_on.new.recorder in
+    let told = c.turn_on.ensures in
+    let goes = goes_turning c.turn_on.result seat.node seat.policy.now policy old new told.keeps told.whole told.lost told.so_far in
     if_ok_map (IsWholeTurn seat.node seat.policy.now (course_of old) policy (course_of new))
     (λ _. (seat.node ≡ seat.node) × TakesUnlost seat.node 1 seat.policy.now old policy new) c.turn_on.result
     (λ progress whole. (
       refl,
-      λ none. (c.turn_on.ensures.before none, takes_turn seat.node seat.policy.now policy (course_of old) (course_of new) progress whole),
+      λ none. (
+        unlost seat.node seat.policy.now policy old new goes none,
+        takes_turn seat.node seat.policy.now policy (course_of old) (course_of new) progress whole,
+      ),
     ))
-    c.turn_on.ensures.whole
+    told.whole
+
+pub returns-clause-stays : goal.returns-clause-stays
+returns-clause-stays c =
+    let seat = c.args.self.now in
+    let told = c.turn_on.ensures in (
+      refl,
+      refl,
+      refl,
+      told.spares,
+      goes_turning c.turn_on.result seat.node seat.policy.now c.turn_on.new.policy seat.recorder.now c.turn_on.new.recorder told.keeps told.whole told.lost
+          told.so_far,
+    )

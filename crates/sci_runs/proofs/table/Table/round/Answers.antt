@@ -1,4 +1,4 @@
-use Rattle.std.proofs.Common.{Err, IfOk, Ok, Result, subst}
+use Rattle.std.proofs.Common.{subst}
 use Rattle.sci_core.specs.Core.{node_at}
 use Rattle.sci_runs.specs.{declared.player.Player.{Player}, Played.{GoesOpenly}}
 use Rattle.sci_runs.proofs.WorkingNodes.{player_at, round_is, round_on}
