@@ -1,15 +1,15 @@
 -- What is seen of one run.
-use Rattle.std.proofs.Common.{◌≡◌, ℕ, ◌<◌, ◌+◌, Bool, true, List, [], ◌∷◌, ◌++◌, Some, length, length-append, sym, subst, arith, inl, inr}
+use Rattle.std.proofs.Common.{◌≡◌, ℕ, ◌<◌, ◌+◌, Bool, true, false, List, [], ◌∷◌, ◌++◌, Some, length, length-append, sym, subst, arith, inl, inr}
 use Rattle.std.proofs.lemmas.{Bool.{cases_lt}, List.{get_or-append-add, get_or_append_left}}
 use Rattle.std.specs.Prelude.{slice_index_or}
-use Rattle.sci_words.specs.declared.stamped.Stamped.{Stamped}
+use Rattle.sci_words.specs.declared.{limits.TheConstants.{MAX_TURNS}, stamped.Stamped.{Stamped}}
 use Rattle.sci_history.specs.{declared.entry.Entry.{Entry}, Lawful.{Lawful}, Sequential.{IsSequentiallyConsistent}}
 use Rattle.sci_text.specs.{Script.{ScriptValue}, Schedule.{ScheduleValue}}
 use Rattle.sci_drive.specs.declared.driver.Issuing.{Issuing}
 use Rattle.sci_runs.specs.{Played.{IsPlayed}, Runs.{IsRunOf, last_behind, logs_behind}}
 use Rattle.sci_outcomes.specs.declared.{histogram.Histogram.{Histogram}, outcome.Sighting.{Sighting}}
 use Rattle.sci_outcomes.specs.{declared.place.Place.{Place}, Outcomes.{IsSeen, written_places}, Rows.{HasCounted}}
-use Rattle.sci_outcomes.specs.Trials.{IsDrawnSighting}
+use Rattle.sci_outcomes.specs.Trials.{IsDrawnSighting, IsUnfinished}
 
 -- what is seen of logs and last contents is seen of the ones behind the schedule
 pub drawn_sighting : (script : ScriptValue) (issuing : Issuing) (seed rounds : ℕ) (done : Bool) (schedule : ScheduleValue) (places : List Place)
@@ -31,6 +31,16 @@ drawn_sighting script issuing seed rounds done schedule places logs last sightin
           (subst (λ (l : List Stamped). IsSeen places (logs_behind script schedule) l sighting) last_are
           (subst (λ (ls : List (List Entry)). IsSeen places ls last sighting) logs_are seen));
     }
+
+-- a run that isn't done has taken all its turns
+pub unfinished : (script : ScriptValue) (issuing : Issuing) (seed rounds : ℕ) (done : Bool) (schedule : ScheduleValue) → done ≡ false
+    → IsRunOf script issuing done schedule → IsPlayed script issuing (Some seed) rounds schedule → (done ≡ false → rounds ≡ MAX_TURNS)
+    → IsUnfinished script issuing seed
+unfinished script issuing seed rounds done schedule isnt run played all = record {
+  schedule = schedule;
+  run = subst (λ (d : Bool). IsRunOf script issuing d schedule) isnt run;
+  played = subst (λ (k : ℕ). IsPlayed script issuing (Some seed) k schedule) (all isnt) played;
+}
 
 -- one more of them
 pub seen_more : (P : ℕ → Sighting → Type 0) (old new : Histogram) (number : ℕ) (x : Sighting)

@@ -1,11 +1,11 @@
 -- The outcomes of a script that is run many times.
-use Rattle.std.specs.Prelude.{◌≡◌, ℕ, ◌<◌, ◌+◌, ◌%◌, ◌^◌, true, All, List, Some, length, slice_index_or}
-use Rattle.sci_words.specs.declared.stamped.Stamped.{Stamped}
+use Rattle.std.specs.Prelude.{◌≡◌, ℕ, ◌<◌, ◌+◌, ◌%◌, ◌^◌, ◌⊎◌, true, false, All, List, Some, length, slice_index_or}
+use Rattle.sci_words.specs.declared.{limits.TheConstants.{MAX_TURNS}, stamped.Stamped.{Stamped}}
 use Rattle.sci_history.specs.{declared.entry.Entry.{Entry}, Lawful.{Lawful}}
 use Rattle.sci_history.specs.Sequential.{AreInProgramOrder, IsSequentiallyConsistent}
 use Rattle.sci_text.specs.{Script.{ScriptValue}, Schedule.{ScheduleValue}}
 use Rattle.sci_drive.specs.declared.driver.Issuing.{Issuing, TheVariants.{InOrder}}
-use Rattle.sci_runs.specs.{Played.{IsPlayed}, Runs.{IsRunOf, last_behind, logs_behind}}
+use Rattle.sci_runs.specs.{Played.{IsPlayed, IsTooLong}, Runs.{IsRunOf, last_behind, logs_behind}}
 use Rattle.sci_threads.specs.Shares.{AreLedTo, HaveWholeLogsOf, size_for}
 use Rattle.sci_outcomes.specs.declared.{histogram.Row.{Row}, outcome.Sighting.{Sighting}, place.Place.{Place}}
 use Rattle.sci_outcomes.specs.declared.trials.Turns.{Turns, TheVariants.{Drawn, Threads}}
@@ -42,6 +42,22 @@ pub record IsThreadSighting (script : ScriptValue) (issuing : Issuing) (sighting
 abbrev pub turns_of_run : Turns → ℕ → Turns
 turns_of_run (Drawn seed) number = Drawn ((seed + number) % 2 ^ 64)
 turns_of_run Threads number = Threads
+
+-- a run in the order that this seed draws takes 1,000,000,000 turns
+pub record IsUnfinished (script : ScriptValue) (issuing : Issuing) (seed : ℕ) : Type 0 where
+  pub schedule : ScheduleValue
+  pub run : IsRunOf script issuing false schedule
+  pub played : IsPlayed script issuing (Some seed) MAX_TURNS schedule
+
+-- A run is given up: in an order that is drawn it makes as many events as a schedule can have, or takes all its turns. Nothing
+-- is known of a run by threads.
+abbrev pub IsGivenUp : ScriptValue → Turns → Issuing → Type 0
+IsGivenUp script (Drawn seed) issuing = IsTooLong script issuing (Some seed) MAX_TURNS ⊎ IsUnfinished script issuing seed
+IsGivenUp script Threads issuing = Unit {0}
+
+-- one of this many runs is
+abbrev pub OneIsGivenUp : ScriptValue → Turns → Issuing → ℕ → Type 0
+OneIsGivenUp script turns issuing runs = (number : ℕ) × (number < runs) × IsGivenUp script (turns_of_run turns number) issuing
 
 -- what is seen of a run in such an order
 abbrev pub IsSightingOf : ScriptValue → Turns → Issuing → Sighting → Type 0

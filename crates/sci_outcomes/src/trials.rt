@@ -1,7 +1,9 @@
 //! A script that is run many times, and its outcomes.
 
-ghost use Rattle.std.specs.Prelude.{◌≡◌, IfOk};
-ghost use Rattle.sci_outcomes.specs.Trials.{AreOutcomes, AreWrittenBy, IsDrawnSighting, IsSightingOf, IsThreadSighting};
+ghost use Rattle.std.specs.Prelude.{◌≡◌, IfErr, IfOk};
+ghost use Rattle.sci_runs.specs.declared.fault.RunFault.TheVariants.{TooMany};
+ghost use Rattle.sci_outcomes.specs.declared.trials.Turns.TheVariants.{Drawn};
+ghost use Rattle.sci_outcomes.specs.Trials.{AreOutcomes, AreWrittenBy, IsDrawnSighting, IsGivenUp, IsSightingOf, IsThreadSighting, OneIsGivenUp};
 
 use crate::histogram::{Histogram, Row};
 use crate::outcome::{Sighting, seen};
@@ -65,7 +67,9 @@ struct Litmus<'a> {
 /// many if there are more than 500,000 events, or if 1,000,000,000 turns are used up before each operation is performed.
 fn drawn_run(alloc: Global, litmus: Litmus<'_>, seed: u64) -> Result<Sighting, RunFault>
     requires { AreWrittenBy litmus.script.now litmus.places.now }
-    ensures { IfOk result (IsDrawnSighting litmus.entry.script.now litmus.entry.issuing seed) }
+    ensures seen { IfOk result (IsDrawnSighting litmus.entry.script.now litmus.entry.issuing seed) }
+    ensures given_up { IfErr result (λ fault. fault ≡ TooMany →
+        IsGivenUp litmus.entry.script.now (Drawn seed) litmus.entry.issuing) }
 {
     let plan = Plan {
         seed: Some(seed),
@@ -114,7 +118,9 @@ fn one_run<R: Threads + Sync>(
     turns: Turns,
 ) -> Result<Sighting, RunFault>
     requires { AreWrittenBy litmus.script.now litmus.places.now }
-    ensures { IfOk result (IsSightingOf litmus.entry.script.now turns litmus.entry.issuing) }
+    ensures seen { IfOk result (IsSightingOf litmus.entry.script.now turns litmus.entry.issuing) }
+    ensures given_up { IfErr result (λ fault. fault ≡ TooMany →
+        IsGivenUp litmus.entry.script.now turns litmus.entry.issuing) }
 {
     match turns {
         Turns::Drawn { seed } => drawn_run(alloc, litmus, seed),
@@ -132,8 +138,10 @@ pub fn outcomes<R: Threads + Sync>(
     script: &Script,
     trials: Trials,
 ) -> Result<Vec<Row>, RunFault>
-    ensures { IfOk result (λ rows.
+    ensures rows { IfOk result (λ rows.
         AreOutcomes script.now trials.turns trials.issuing trials.runs rows.items) }
+    ensures given_up { IfErr result (λ fault. fault ≡ TooMany →
+        OneIsGivenUp script.now trials.turns trials.issuing trials.runs) }
 {
     let places = written_places(alloc, script.extent().lines, script.operations())?;
     let litmus = Litmus {

@@ -5,9 +5,9 @@ use Rattle.sci_text.specs.{Number.{number, field}, Script.{IsScript, ScriptValue
 use Rattle.sci_command.specs.Answer.{IsDoneBy}
 use Rattle.sci_outcomes.specs.declared.{histogram.Row.{Row}, outcome.{Held.{Held}, Outcome.{Outcome}}}
 use Rattle.sci_outcomes.specs.declared.{outcome.Replied.{Replied}, trials.Turns.{Turns, TheVariants.{Drawn, Threads}}}
-use Rattle.sci_outcomes.specs.Trials.{AreOutcomes}
+use Rattle.sci_outcomes.specs.Trials.{AreOutcomes, OneIsGivenUp}
 use Rattle.sci_run_reports.specs.declared.outcomes.{OutcomesRequest.{OutcomesRequest}, TheConstants.{RUNS, SEED}}
-use Rattle.sci_run_reports.specs.RunAnswer.{IsRunRefusal, IsScriptText}
+use Rattle.sci_run_reports.specs.RunAnswer.{IsRunRefusal}
 use Rattle.sci_command.specs.declared.outcome.Outcome as ending
 
 -- ---- texts
@@ -66,6 +66,13 @@ pub record IsOutcomesText (request : OutcomesRequest) (input text : List ℕ) : 
   pub outcomes : AreOutcomes script (turns_asked request) request.issuing (runs_asked request) rows
   pub written : text ≡ outcomes_text (turns_asked request) (runs_asked request) rows
 
+-- the input is the text of a script, and one of its runs is given up
+pub record IsGivenUpScript (request : OutcomesRequest) (input : List ℕ) : Type 0 where
+  pub script : ScriptValue
+  pub good : IsScript script
+  pub read : input ≡ script_text script
+  pub one : OneIsGivenUp script (turns_asked request) request.issuing (runs_asked request)
+
 -- what `outcomes` writes, and how it ends, for the bytes of a reader, which has failed or not
 abbrev pub IsOutcomesAnswer : OutcomesRequest → Option (List ℕ) → Bool → List ℕ → ending.Outcome → Type 0
-IsOutcomesAnswer request = IsDoneBy (IsOutcomesText request) (IsRunRefusal IsScriptText)
+IsOutcomesAnswer request = IsDoneBy (IsOutcomesText request) (IsRunRefusal (IsGivenUpScript request))

@@ -9,12 +9,6 @@ use Rattle.sci_command.specs.{Input.{IsReadAs}, Refusal.{IsRefusalBy}}
 use Rattle.sci_runs.specs.{Played.{IsPlayed, IsTooLong}, Runs.{IsRunOf}}
 use Rattle.sci_run_reports.specs.declared.running.RunRequest.{RunRequest}
 
--- the input is the text of a script
-pub record IsScriptText (input : List ℕ) : Type 0 where
-  pub script : ScriptValue
-  pub good : IsScript script
-  pub read : input ≡ script_text script
-
 -- the input is the text of a script whose run makes as many events as a schedule can have
 pub record IsLongRun (request : RunRequest) (input : List ℕ) : Type 0 where
   pub script : ScriptValue

@@ -3,8 +3,8 @@
 ghost use Rattle.std.specs.{Prelude.{◌≡◌, ◌++◌, false, IfOk, OnOk}, List.{flat_map}};
 ghost use Rattle.sci_text.specs.Tap.{has_failed};
 ghost use Rattle.sci_command.specs.{Answer.{HasAnswered}, declared.outcome.Outcome.{Outcome}};
-ghost use Rattle.sci_run_reports.specs.RunAnswer.{IsRunRefusal, IsScriptText};
-ghost use Rattle.sci_run_reports.specs.OutcomesAnswer.{IsOutcomesAnswer, count_text, held_text, outcome_text, outcomes_text as outcomes_text_of};
+ghost use Rattle.sci_run_reports.specs.RunAnswer.{IsRunRefusal};
+ghost use Rattle.sci_run_reports.specs.OutcomesAnswer.{IsGivenUpScript, IsOutcomesAnswer, count_text, held_text, outcome_text, outcomes_text as outcomes_text_of};
 ghost use Rattle.sci_run_reports.specs.OutcomesAnswer.{replied_text, row_text, seed_text, sense_text, total_text};
 
 use crate::running::fault_of;
@@ -160,8 +160,8 @@ fn outcomes_text(alloc: Global, trials: Trials, rows: &[Row]) -> Result<Vec<u8>,
 /// Reads a script to its end, runs it many times by the policy on a new machine, each time in an order that is drawn from the
 /// next seed or by one thread a node, and gives a line for each outcome: what each load and each lock operation replied, by
 /// node and then by serial; what each word that the script may write holds at the end; how many runs gave the outcome; the
-/// seed of the first of them, unless they are by threads; and whether the log of one of them is sequentially consistent in program order. The most frequent stands first, and those
-/// that are as frequent by their numbers. The last line says how many outcomes and runs there were. That the log of each run
+/// seed of the first of them, unless they are by threads; and whether the log of one of them is sequentially consistent in
+/// program order. The most frequent stands first, and those that are as frequent by their numbers. The last line says how many outcomes and runs there were. That the log of each run
 /// is lawful is a theorem, and isn't looked at. A script with a fault is refused, as are a reader that fails, too long an
 /// input and running out of memory, at line 0, and a run of more than 500,000 events or 1,000,000,000 turns, as `too-many` at
 /// line 0. After a failed read nothing more is read.
@@ -172,7 +172,8 @@ pub fn outcomes_of<T: Threads + Sync, R: Read>(
     reader: &mut Tap<R>,
 ) -> Answered
     requires { has_failed reader.old ≡ false }
-    ensures { HasAnswered R.remaining reader.old reader.new (IsOutcomesAnswer request) (IsRunRefusal IsScriptText) result }
+    ensures { HasAnswered R.remaining reader.old reader.new (IsOutcomesAnswer request)
+        (IsRunRefusal (IsGivenUpScript request)) result }
 {
     let script = read_script(alloc, reader)?;
     let trials = Trials {

@@ -9,6 +9,6 @@ loop-number-preserved g c =
     let trials = c.args.trials in
     let number = c.loop-number.number in
     let sighting = c.in_ok-sighting.sighting in
-    let is = subst (λ (turns : Turns). IsSightingOf script turns trials.issuing sighting) c.of_run.ensures c.in_ok-sighting.ensures in
+    let is = subst (λ (turns : Turns). IsSightingOf script turns trials.issuing sighting) c.of_run.ensures c.in_ok-sighting.ensures.seen in
     seen_more (λ k. IsSightingOf script (turns_of_run trials.turns k) trials.issuing) c.loop-number.histogram c.add.new.self number sighting
     c.loop-number.invariant is c.in_ok-add.ensures

@@ -10,7 +10,7 @@ use Rattle.sci_charts.specs.ChartAnswer.{IsChartAnswer}
 use Rattle.sci_reports.specs.{CheckAnswer.{IsCheckAnswer, IsCheckFault}, ExplainAnswer.{IsExplainAnswer}}
 use Rattle.sci_reports.specs.OrderAnswer.{IsOrderAnswer}
 use Rattle.sci_traces.specs.{ListsAnswer.{IsListsAnswer}, PacketsAnswer.{IsPacketsAnswer}, TraceAnswer.{IsTraceAnswer}}
-use Rattle.sci_run_reports.specs.{OutcomesAnswer.{IsOutcomesAnswer}, RunAnswer.{IsLongRun, IsRunAnswer, IsRunRefusal, IsScriptText}}
+use Rattle.sci_run_reports.specs.{OutcomesAnswer.{IsGivenUpScript, IsOutcomesAnswer}, RunAnswer.{IsLongRun, IsRunAnswer, IsRunRefusal}}
 use Rattle.sci_walks.specs.RandomAnswer.{IsRandomAnswer, IsWalkFault}
 use Rattle.sci_statistics.specs.StatsAnswer.{IsStatsAnswer, IsStatsFault}
 use Rattle.sci_statistics.proofs.Counted.{stats_memory}
@@ -74,7 +74,8 @@ returns-in-Run g c =
 
 pub returns-in-Outcomes : goal.returns-in-Outcomes
 returns-in-Outcomes g c =
-    rw c.in-Outcomes.is (carried_out (IsOutcomesAnswer c.in-Outcomes.request) (IsRunRefusal IsScriptText) c.outcomes_of.result (run_memory IsScriptText)
+    let given_up = IsGivenUpScript c.in-Outcomes.request in
+    rw c.in-Outcomes.is (carried_out (IsOutcomesAnswer c.in-Outcomes.request) (IsRunRefusal given_up) c.outcomes_of.result (run_memory given_up)
     (λ text is. is) c.outcomes_of.ensures c.finish-in-Outcomes.ensures.written c.finish-in-Outcomes.ensures.again)
 
 pub returns-in-Help : goal.returns-in-Help
