@@ -6,3 +6,4 @@ pub mod TextReadings
 pub mod Subject
 pub mod Faulty
 pub mod Window
+pub mod NoteText

@@ -1,6 +1,11 @@
 //! What a fault of a line means, in words, and the entries around it.
 
-ghost use Rattle.std.specs.Prelude.{◌≡◌, ◌≤◌, length};
+ghost use Rattle.std.specs.{Prelude.{◌≡◌, ◌<◌, ◌≤◌, ◌++◌, All, OnOk, length}, List.{flat_map}};
+ghost use Rattle.sci_words.specs.declared.limits.TheConstants.{WORDS_PER_LINE};
+ghost use Rattle.sci_reports.specs.EntryLines.{entries_in, entry_of};
+ghost use Rattle.sci_reports.specs.NoteText.{around_text, cause_text, done_text, fault_text, got_text, last_are_text, last_text, left_text};
+ghost use Rattle.sci_reports.specs.NoteText.{made_before_text, maker_text, makers_text, note_text, other_word_text, placed_after_text};
+ghost use Rattle.sci_reports.specs.NoteText.{serial_after_text, shown_line, some_makers_text, verb_text, version_text, where_text, who_text};
 ghost use Rattle.sci_reports.specs.Window.{place_on_line, window};
 
 use crate::faulty::{Cause, FaultyEntry, contents_after, faulty_entry};
@@ -28,19 +33,28 @@ pub struct Subject<'a> {
 const AROUND: usize = 3;
 
 /// Appends `node N serial S`.
-fn push_who(out: &mut Vec<u8>, at: Numbered) -> Result<(), AllocError> {
+#[tactic(auto, unfolding(crate::specs::NoteText::who_text))]
+fn push_who(out: &mut Vec<u8>, at: Numbered) -> Result<(), AllocError>
+    ensures { OnOk result (out.new.items ≡ out.old.items ++ who_text (entry_of at.entry)) }
+{
     push_labelled(out, b"node", u64::from(at.entry.node))?;
     push_labelled(out, b" serial", u64::from(at.entry.serial))
 }
 
 /// Appends who it is, and the line of the text.
-fn push_who_where(out: &mut Vec<u8>, at: Numbered) -> Result<(), AllocError> {
+#[tactic(auto, unfolding(crate::specs::NoteText::where_text))]
+fn push_who_where(out: &mut Vec<u8>, at: Numbered) -> Result<(), AllocError>
+    ensures { OnOk result (out.new.items ≡ out.old.items ++ where_text at.entry) }
+{
     push_who(out, at)?;
     push_labelled(out, b" on line", at.text_line as u64)
 }
 
 /// What an operation does to its word.
-fn verb(act: Act) -> &'static str {
+#[tactic(auto, unfolding(crate::specs::NoteText::verb_text))]
+fn verb(act: Act) -> &'static str
+    ensures { result.now ≡ verb_text act }
+{
     match act {
         Act::Load => " loads word",
         Act::Store(_) => " stores to word",
@@ -49,25 +63,21 @@ fn verb(act: Act) -> &'static str {
 }
 
 /// Appends what an entry answered.
-fn push_got(out: &mut Vec<u8>, reply: Reply) -> Result<(), AllocError> {
+#[tactic(auto, unfolding(crate::specs::NoteText::got_text))]
+fn push_got(out: &mut Vec<u8>, reply: Reply) -> Result<(), AllocError>
+    ensures { OnOk result (out.new.items ≡ out.old.items ++ got_text reply) }
+{
     match reply {
         Reply::Stored => push_text(out, " and got no word"),
         Reply::Got(word) => push_labelled(out, b" and got", word),
     }
 }
 
-/// Appends what an entry found, and what it should have.
-fn push_other_word(
-    out: &mut Vec<u8>,
-    at: Numbered,
-    word: Word,
-    maker: Option<Numbered>,
-) -> Result<(), AllocError> {
-    push_text(out, verb(at.entry.op.act))?;
-    push_field(out, u64::from(at.entry.op.word))?;
-    push_labelled(out, b" at version", at.entry.version)?;
-    push_got(out, at.entry.reply)?;
-    push_labelled(out, b"; the word there is", word)?;
+/// Appends who made a word.
+#[tactic(auto, unfolding(crate::specs::NoteText::maker_text))]
+fn push_maker(out: &mut Vec<u8>, maker: Option<Numbered>) -> Result<(), AllocError>
+    ensures { OnOk result (out.new.items ≡ out.old.items ++ maker_text maker.entry) }
+{
     match maker {
         None => push_text(out, ", as at first"),
         Some(maker) => {
@@ -77,52 +87,118 @@ fn push_other_word(
     }
 }
 
-/// Appends that an entry has a version that is missing: how many makers the line has, which versions they should make, and
-/// the least version that no entry makes.
-fn push_few_makers(
+/// Appends what an entry did and got.
+fn push_done(out: &mut Vec<u8>, at: Numbered) -> Result<(), AllocError>
+    ensures { OnOk result (out.new.items ≡ out.old.items ++ done_text (entry_of at.entry)) }
+{
+    push_text(out, verb(at.entry.op.act))?;
+    push_field(out, u64::from(at.entry.op.word))?;
+    push_labelled(out, b" at version", at.entry.version)?;
+    push_got(out, at.entry.reply)?;
+    Ok(())
+}
+
+/// Appends what an entry found, and what it should have.
+#[tactic(auto, unfolding(crate::specs::NoteText::other_word_text))]
+fn push_other_word(
     out: &mut Vec<u8>,
     at: Numbered,
-    makers: u64,
-    least: u64,
-) -> Result<(), AllocError> {
+    word: Word,
+    maker: Option<Numbered>,
+) -> Result<(), AllocError>
+    ensures { OnOk result (out.new.items
+        ≡ out.old.items ++ other_word_text (entry_of at.entry) word maker.entry) }
+{
+    push_done(out, at)?;
+    push_labelled(out, b"; the word there is", word)?;
+    push_maker(out, maker)
+}
+
+/// Appends which version an entry has.
+#[tactic(auto, unfolding(crate::specs::NoteText::version_text))]
+fn push_version(out: &mut Vec<u8>, at: Numbered) -> Result<(), AllocError>
+    ensures { OnOk result (out.new.items ≡ out.old.items ++ version_text (entry_of at.entry)) }
+{
     let does: &[u8] = if at.entry.op.is_maker() {
         b" makes version"
     } else {
         b" loads at version"
     };
-    push_labelled(out, does, at.entry.version)?;
-    match makers {
-        0 => return push_text(out, "; the line has no maker, so its only version is 0"),
-        1 => push_text(out, "; the line has 1 maker, which should make version 1")?,
-        _ => {
-            push_labelled(out, b"; the line has", makers)?;
-            push_labelled(out, b" makers, which should make versions 1 to", makers)?;
-        }
+    push_labelled(out, does, at.entry.version)
+}
+
+/// Appends how many makers the line has, of which there is one at least, and which versions they should make.
+#[tactic(auto, unfolding(crate::specs::NoteText::some_makers_text))]
+fn push_some_makers(out: &mut Vec<u8>, makers: u64) -> Result<(), AllocError>
+    ensures { OnOk result (out.new.items ≡ out.old.items ++ some_makers_text makers) }
+{
+    if makers == 1 {
+        return push_text(out, "; the line has 1 maker, which should make version 1");
     }
+    push_labelled(out, b"; the line has", makers)?;
+    push_labelled(out, b" makers, which should make versions 1 to", makers)
+}
+
+/// Appends how many makers the line has, which versions they should make, and the least version that no entry makes.
+#[tactic(auto, unfolding(crate::specs::NoteText::makers_text))]
+fn push_makers(out: &mut Vec<u8>, makers: u64, least: u64) -> Result<(), AllocError>
+    ensures { OnOk result (out.new.items ≡ out.old.items ++ makers_text makers least) }
+{
+    if makers == 0 {
+        return push_text(out, "; the line has no maker, so its only version is 0");
+    }
+    push_some_makers(out, makers)?;
     push_labelled(out, b"; the least version that no entry makes is", least)
 }
 
+/// Appends that an entry makes a version that this one made.
+#[tactic(auto, unfolding(crate::specs::NoteText::made_before_text))]
+fn push_made_before(out: &mut Vec<u8>, at: Numbered, earlier: Numbered) -> Result<(), AllocError>
+    ensures { OnOk result (out.new.items
+        ≡ out.old.items ++ made_before_text (entry_of at.entry) earlier.entry) }
+{
+    push_labelled(out, b" makes version", at.entry.version)?;
+    push_text(out, ", which was made by ")?;
+    push_who_where(out, earlier)
+}
+
+/// Appends that an entry was logged after this one, whose serial isn't below.
+fn push_serial_after(out: &mut Vec<u8>, earlier: Numbered) -> Result<(), AllocError>
+    ensures { OnOk result (out.new.items ≡ out.old.items ++ serial_after_text earlier.entry) }
+{
+    push_text(out, " was logged after ")?;
+    push_who_where(out, earlier)?;
+    push_text(out, ", whose serial isn't below")?;
+    Ok(())
+}
+
+/// Appends that an entry was logged after this one, which is placed after it.
+fn push_placed_after(out: &mut Vec<u8>, at: Numbered, earlier: Numbered) -> Result<(), AllocError>
+    ensures { OnOk result (out.new.items
+        ≡ out.old.items ++ placed_after_text (entry_of at.entry) earlier.entry) }
+{
+    push_labelled(out, b" at version", at.entry.version)?;
+    push_text(out, " was logged after ")?;
+    push_who_where(out, earlier)?;
+    push_labelled(out, b", which is at version", earlier.entry.version)?;
+    Ok(())
+}
+
 /// Appends why an entry is at fault.
-fn push_cause(out: &mut Vec<u8>, at: Numbered, cause: Cause) -> Result<(), AllocError> {
+#[tactic(auto, unfolding(crate::specs::NoteText::cause_text))]
+fn push_cause(out: &mut Vec<u8>, at: Numbered, cause: Cause) -> Result<(), AllocError>
+    ensures { OnOk result (out.new.items
+        ≡ out.old.items ++ cause_text (entry_of at.entry) cause.entry) }
+{
     match cause {
-        Cause::MadeBefore(earlier) => {
-            push_labelled(out, b" makes version", at.entry.version)?;
-            push_text(out, ", which was made by ")?;
-            push_who_where(out, earlier)
+        Cause::MadeBefore(earlier) => push_made_before(out, at, earlier),
+        Cause::FewMakers(makers, least) => {
+            push_version(out, at)?;
+            push_makers(out, makers, least)
         }
-        Cause::FewMakers(makers, least) => push_few_makers(out, at, makers, least),
         Cause::OtherWord(word, maker) => push_other_word(out, at, word, maker),
-        Cause::SerialAfter(earlier) => {
-            push_text(out, " was logged after ")?;
-            push_who_where(out, earlier)?;
-            push_text(out, ", whose serial isn't below")
-        }
-        Cause::PlacedAfter(earlier) => {
-            push_labelled(out, b" at version", at.entry.version)?;
-            push_text(out, " was logged after ")?;
-            push_who_where(out, earlier)?;
-            push_labelled(out, b", which is at version", earlier.entry.version)
-        }
+        Cause::SerialAfter(earlier) => push_serial_after(out, earlier),
+        Cause::PlacedAfter(earlier) => push_placed_after(out, at, earlier),
     }
 }
 
@@ -148,58 +224,112 @@ fn around<'a, 'b>(placed: &'b [Numbered<'a>], text_line: usize) -> &'b [Numbered
     &placed[from..from + shown]
 }
 
-/// Appends the lines of entries, of which the one on this line of the text is marked. Nothing if there are none.
-fn push_around(out: &mut Vec<u8>, placed: &[Numbered], marked: usize) -> Result<(), AllocError> {
-    if placed.is_empty() {
-        return Ok(());
-    }
-    push_text(out, "  entries of the line in the order of versions:\n")?;
-    for it in around(placed, marked) {
-        let mark: &[u8] = if it.text_line == marked {
-            b"  > line"
-        } else {
-            b"    line"
-        };
-        push_labelled(out, mark, it.text_line as u64)?;
-        push_text(out, ": ")?;
-        push_entry(out, it.entry)?;
-        push_text(out, "\n")?;
+/// Appends the line of an entry that is shown, with a mark if it is the one on this line of the text.
+#[tactic(auto, unfolding(crate::specs::NoteText::shown_line))]
+fn push_shown(out: &mut Vec<u8>, it: Numbered, marked: usize) -> Result<(), AllocError>
+    ensures { OnOk result (out.new.items ≡ out.old.items ++ shown_line marked it.entry) }
+{
+    let mark: &[u8] = if it.text_line == marked {
+        b"  > line"
+    } else {
+        b"    line"
+    };
+    push_labelled(out, mark, it.text_line as u64)?;
+    push_text(out, ": ")?;
+    push_entry(out, it.entry)?;
+    push_text(out, "\n")
+}
+
+/// Appends the lines of entries that are shown, of which the one on this line of the text is marked.
+fn push_all_shown(out: &mut Vec<u8>, shown: &[Numbered], marked: usize) -> Result<(), AllocError>
+    ensures { OnOk result
+        (out.new.items ≡ out.old.items ++ flat_map (shown_line marked) shown.now) }
+{
+    for it in shown {
+        push_shown(out, *it, marked)?;
     }
     Ok(())
 }
 
+/// Appends the lines of entries, of which the one on this line of the text is marked. Nothing if there are none.
+fn push_around(out: &mut Vec<u8>, placed: &[Numbered], marked: usize) -> Result<(), AllocError>
+    ensures { OnOk result (out.new.items ≡ out.old.items ++ around_text placed.now marked) }
+{
+    if placed.is_empty() {
+        return Ok(());
+    }
+    push_text(out, "  entries of the line in the order of versions:\n")?;
+    push_all_shown(out, around(placed, marked), marked)?;
+    Ok(())
+}
+
+/// Appends what last contents are.
+#[tactic(auto, unfolding(crate::specs::NoteText::last_are_text))]
+fn push_last_are(out: &mut Vec<u8>, text_line: usize, last: Stamped) -> Result<(), AllocError>
+    ensures { OnOk result (out.new.items ≡ out.old.items ++ last_are_text text_line last) }
+{
+    push_labelled(out, b"  line", text_line as u64)?;
+    push_text(out, ": the last contents are")?;
+    push_contents(out, &last)
+}
+
+/// Appends what entries leave.
+fn push_left(out: &mut Vec<u8>, placed: &[Numbered]) -> Result<(), AllocError>
+    ensures { All (λ entry. entry.op.word < WORDS_PER_LINE) (entries_in placed.now)
+        → OnOk result (out.new.items ≡ out.old.items ++ left_text (entries_in placed.now)) }
+{
+    push_text(out, "; the entries leave")?;
+    push_contents(out, &contents_after(placed))?;
+    push_text(out, "\n")?;
+    Ok(())
+}
+
 /// Appends what last contents are, and what they should be.
+#[tactic(auto, unfolding(crate::specs::NoteText::last_text))]
 fn push_last(
     out: &mut Vec<u8>,
     text_line: usize,
     last: Stamped,
     placed: &[Numbered],
-) -> Result<(), AllocError> {
-    push_labelled(out, b"  line", text_line as u64)?;
-    push_text(out, ": the last contents are")?;
-    push_contents(out, &last)?;
-    push_text(out, "; the entries leave")?;
-    push_contents(out, &contents_after(placed))?;
+) -> Result<(), AllocError>
+    ensures { All (λ entry. entry.op.word < WORDS_PER_LINE) (entries_in placed.now)
+        → OnOk result (out.new.items
+        ≡ out.old.items ++ last_text text_line last (entries_in placed.now)) }
+{
+    push_last_are(out, text_line, last)?;
+    push_left(out, placed)
+}
+
+/// Appends the line that says which entry is at fault, and why.
+#[tactic(auto, unfolding(crate::specs::NoteText::fault_text))]
+fn push_fault(out: &mut Vec<u8>, found: FaultyEntry) -> Result<(), AllocError>
+    ensures { OnOk result (out.new.items ≡ out.old.items ++ fault_text found.entry) }
+{
+    push_labelled(out, b"  line", found.at.text_line as u64)?;
+    push_text(out, ": ")?;
+    push_who(out, found.at)?;
+    push_cause(out, found.at, found.cause)?;
     push_text(out, "\n")
 }
 
 /// Appends the lines that say what a fault means.
+#[tactic(auto, unfolding(crate::specs::NoteText::note_text))]
 fn push_lines(
     out: &mut Vec<u8>,
     found: Option<FaultyEntry>,
     placed: &[Numbered],
     last: Stamped,
     last_line: usize,
-) -> Result<(), AllocError> {
+) -> Result<(), AllocError>
+    ensures { All (λ entry. entry.op.word < WORDS_PER_LINE) (entries_in placed.now)
+        → OnOk result (out.new.items
+        ≡ out.old.items ++ note_text found.entry placed.now last last_line) }
+{
     let Some(found) = found else {
         push_last(out, last_line, last, placed)?;
         return push_around(out, placed, 0);
     };
-    push_labelled(out, b"  line", found.at.text_line as u64)?;
-    push_text(out, ": ")?;
-    push_who(out, found.at)?;
-    push_cause(out, found.at, found.cause)?;
-    push_text(out, "\n")?;
+    push_fault(out, found)?;
     push_around(out, placed, found.at.text_line)
 }
 

@@ -1,0 +1,8 @@
+use Rattle.sci_command.proofs.Joined.{joined3}
+use Rattle.sci_reports.specs.NoteText.{serial_after_text}
+use Rattle.sci_reports.proofs.note.push_serial_after.Goals as goal
+
+pub returns : goal.returns
+unfolding serial_after_text
+returns c =
+    joined3 _ _ _ _ _ _ _ c.in_ok-push_text.ensures.text c.in_ok-push_who_where.ensures c.in_ok-push_text-2.ensures.text
