@@ -1,12 +1,13 @@
 -- The entries of logs on a line of memory, with their lines of the text.
-use Rattle.std.proofs.Common.{◌≡◌, ◌<◌, ℕ, ◌+◌, List, [], ◌∷◌, ◌++◌, length, take, get_or, Bool, true, false, cond, append_assoc, ◌∙◌, arith, ap, sym}
+use Rattle.std.proofs.Common.{◌≡◌, ◌<◌, ℕ, ◌+◌, List, [], ◌∷◌, ◌++◌, length, take, get_or, Bool, true, false, cond, append_assoc, ◌∙◌, arith, ap, refl, sym}
 use Rattle.std.proofs.lemmas.List.{append-nil, length-take-le, take_more, map-append, Concat.{flat_map-append}}
 use Rattle.std.proofs.lemmas.List.Elements.{filter-append}
-use Rattle.std.specs.{Prelude.{filter}, List.{enumerate_from, flat_map}}
-use Rattle.sci_history.specs.{declared.entry.Entry.{Entry}, Placed.{is_on_line, log_of}}
+use Rattle.std.proofs.lemmas.Simd.{map-map}
+use Rattle.std.specs.{Prelude.{filter, map}, List.{enumerate_from, flat_map}}
+use Rattle.sci_history.specs.{declared.entry.Entry.{Entry}, Placed.{is_on_line, log_of, on_line}}
 use Rattle.sci_text.specs.LogValue.{entry_count}
 use Rattle.sci_reports.specs.declared.numbered.Numbered.{Numbered}
-use Rattle.sci_reports.specs.EntryLines.{numbered_on, numbering, numberings, on_line_from}
+use Rattle.sci_reports.specs.EntryLines.{entries_in, numbered_on, numbering, numberings, on_line_from}
 
 enumerate_append : {X : Type 0} (n : ℕ) (xs ys : List X) → enumerate_from n (xs ++ ys) ≡ enumerate_from n xs ++ enumerate_from (n + length xs) ys
 enumerate_append n [] ys = let same : n ≡ n + 0 = omega arith in ap (λ m. enumerate_from m ys) same
@@ -74,3 +75,24 @@ log_more line before first logs n old new lt counted was is =
     ∙ (ap (λ (l : List (ℕ × Entry)). l ++ on_line_from line first (log_of logs n)) was
     ∙ (ap (λ (k : ℕ). on_line_from line (before + 1) so_far ++ on_line_from line k (log_of logs n)) place
     ∙ (sym (on_line_append line (before + 1) so_far (log_of logs n)) ∙ ap (on_line_from line (before + 1)) (sym all))))
+
+-- ---- the entries alone
+
+entries_numbered : (p : Entry → Bool) (first : ℕ) (entries : List Entry)
+    → map (λ it. it.1) (filter (λ (it : ℕ × Entry). p it.1) (enumerate_from first entries)) ≡ filter p entries
+entries_numbered p first [] = refl
+entries_numbered p first (e ∷ es) = or_next (p e) (entries_numbered p (first + 1) es)
+  where
+    or_next : (b : Bool) → map (λ it. it.1) (filter (λ (it : ℕ × Entry). p it.1) (enumerate_from (first + 1) es)) ≡ filter p es
+        → map (λ it. it.1) (cond b ((first, e) ∷ filter (λ (it : ℕ × Entry). p it.1) (enumerate_from (first + 1) es))
+        (filter (λ (it : ℕ × Entry). p it.1) (enumerate_from (first + 1) es)))
+        ≡ cond b (e ∷ filter p es) (filter p es)
+    or_next true h = ap (λ l. e ∷ l) h
+    or_next false h = h
+
+-- they are the entries on the line of memory
+pub entries_on_line : (line before : ℕ) (logs : List (List Entry)) (list : List Numbered) → numberings list ≡ numbered_on line before logs
+    → entries_in list ≡ on_line line logs
+entries_on_line line before logs list is =
+    map-map (λ ref. ref.now) (λ it. it.entry) list ∙ sym (map-map (λ it. it.1) numbering list)
+    ∙ ap (map (λ it. it.1)) is ∙ entries_numbered (is_on_line line) (before + 1) (flat_map (λ log. log) logs)

@@ -7,3 +7,4 @@ pub mod Subject
 pub mod Faulty
 pub mod Window
 pub mod NoteText
+pub mod Note

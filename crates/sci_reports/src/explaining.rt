@@ -1,11 +1,12 @@
 //! The command `explain`: what is wrong with a log, line by line, and what would be right.
 
 ghost use Rattle.std.specs.Prelude.{◌≡◌, ◌+◌, ◌≤◌, ◌<◌, ℕ, List, Option, Some, false, length, IfOk};
-ghost use Rattle.sci_words.specs.declared.limits.TheConstants.{MAX_LINES, MAX_OPERATIONS};
-ghost use Rattle.sci_history.specs.{declared.faults.LineFault.{LineFault}, Audit.{AreFound, AreWithin}};
-ghost use Rattle.sci_history.specs.Placed.{log_of};
+ghost use Rattle.sci_words.specs.declared.{limits.TheConstants.{MAX_LINES, MAX_OPERATIONS}, stamped.Stamped.{Stamped}};
+ghost use Rattle.sci_history.specs.declared.{entry.Entry.{Entry}, faults.LineFault.{LineFault}};
+ghost use Rattle.sci_history.specs.{Audit.{AreFound, AreKnown, AreWithin}, Placed.{log_of}};
 ghost use Rattle.sci_text.specs.{FirstFault.{IsTold}, LogFault.{IsLogFault}, Tap.{has_failed}};
 ghost use Rattle.sci_command.specs.{Answer.{HasAnswered}, declared.outcome.Outcome.{Outcome}};
+ghost use Rattle.sci_reports.specs.EntryLines.{entries_in};
 ghost use Rattle.sci_reports.specs.ExplainAnswer.{AreNotes, IsExplainAnswer, IsExplained, IsNote};
 ghost use Rattle.sci_reports.specs.Subject.{IsSubject};
 
@@ -41,7 +42,10 @@ fn subject_of<'a>(
 
 /// What is written of a line of memory that has a fault.
 fn piece(alloc: Global, fault: LineFault, subject: &Subject) -> Result<Vec<u8>, AllocError>
-    ensures { IfOk result (λ text. IsNote subject.now.line (Some fault) text.items) }
+    ensures { (before : ℕ) (logs : List (List Entry)) (last : List Stamped) (line : ℕ)
+        → IsSubject before logs last line subject.now
+        → AreKnown (entries_in subject.now.entries.items)
+        → IfOk result (λ text. IsNote before logs last line (Some fault) text.items) }
 {
     let verdict = Verdict::Fault {
         line: subject.line,
@@ -61,8 +65,11 @@ fn notes(alloc: Global, before: usize, logs: &Logs, last: &Last) -> Result<Vec<u
     requires before { before ≤ MAX_LINES + 1 }
     requires few { (n : ℕ) → length (log_of logs.now n) ≤ MAX_OPERATIONS }
     ensures { IfOk result (λ text. (faults : List (Option LineFault))
-        × AreFound logs.now last.now (length last.now) faults × AreNotes 0 faults text.items) }
+        × AreFound logs.now last.now (length last.now) faults
+        × AreNotes before logs.now last.now 0 faults text.items) }
 {
+    // Read, so that the prover knows that there are sixteen logs, and that each has its own node's entries.
+    let _nodes = logs.nodes();
     let faults = line_faults(alloc, logs, last)?;
     let mut text = Vec::new(alloc);
     for line in 0..last.lines() {
@@ -82,7 +89,7 @@ fn explained(alloc: Global, before: usize, logs: &Logs, last: &Last) -> Result<A
     requires lines { length last.now ≤ before }
     requires before { before ≤ MAX_LINES + 1 }
     requires few { (n : ℕ) → length (log_of logs.now n) ≤ MAX_OPERATIONS }
-    ensures { IfOk result (λ x. IsExplained logs.now last.now x.text.items x.outcome) }
+    ensures { IfOk result (λ x. IsExplained before logs.now last.now x.text.items x.outcome) }
 {
     let verdict = audit(alloc, logs, last)?;
     match verdict {

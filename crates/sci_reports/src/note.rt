@@ -1,8 +1,9 @@
 //! What a fault of a line means, in words, and the entries around it.
 
-ghost use Rattle.std.specs.{Prelude.{◌≡◌, ◌<◌, ◌≤◌, ◌++◌, All, OnOk, length}, List.{flat_map}};
+ghost use Rattle.std.specs.{Prelude.{◌≡◌, ◌<◌, ◌≤◌, ◌++◌, All, IfOk, OnOk, length}, List.{flat_map}};
 ghost use Rattle.sci_words.specs.declared.limits.TheConstants.{WORDS_PER_LINE};
-ghost use Rattle.sci_reports.specs.EntryLines.{entries_in, entry_of};
+ghost use Rattle.sci_history.specs.Audit.{AreKnown};
+ghost use Rattle.sci_reports.specs.{EntryLines.{entries_in, entry_of}, Note.{IsNoteOf}};
 ghost use Rattle.sci_reports.specs.NoteText.{around_text, cause_text, done_text, fault_text, got_text, last_are_text, last_text, left_text};
 ghost use Rattle.sci_reports.specs.NoteText.{made_before_text, maker_text, makers_text, note_text, other_word_text, placed_after_text};
 ghost use Rattle.sci_reports.specs.NoteText.{serial_after_text, shown_line, some_makers_text, verb_text, version_text, where_text, who_text};
@@ -335,7 +336,10 @@ fn push_lines(
 
 /// The lines that say what a fault of a line of memory means, and the entries around it in the order of versions. Refused if
 /// memory is.
-pub fn note_of(alloc: Global, fault: LineFault, subject: &Subject) -> Result<Vec<u8>, AllocError> {
+pub fn note_of(alloc: Global, fault: LineFault, subject: &Subject) -> Result<Vec<u8>, AllocError>
+    ensures { AreKnown (entries_in subject.now.entries.items)
+        → IfOk result (λ note. IsNoteOf fault subject.now note.items) }
+{
     let placed = placed(alloc, &subject.entries)?;
     let found = faulty_entry(alloc, fault.kind, &subject.entries, &placed)?;
     let mut note = Vec::new(alloc);

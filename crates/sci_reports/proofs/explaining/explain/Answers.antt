@@ -11,7 +11,7 @@ returns g c =
     let unread = has_failed c.read_input.new.reader in
     let found = c.in_ok-explained.field-0 in
     let logs = c.in_ok-logs in
-    let never = explained_judged logs.logs logs.last found.text.items found.outcome c.in_ok-explained.ensures in (
+    let never = explained_judged c.lines_before.result logs.logs logs.last found.text.items found.outcome c.in_ok-explained.ensures in (
       answer_made IsExplanationOf (IsTold IsLogFault) known unread found.text.items found.outcome never (
         c.in_ok-bytes.ensures.unfailed,
         (
@@ -22,6 +22,8 @@ returns g c =
             logs = logs.logs;
             last = logs.last;
             read = rw (sym c.deref.ensures.value) logs.ensures.ok;
+            before = c.lines_before.result;
+            places = rw (sym c.deref-2.ensures.value) c.lines_before.ensures.is;
             found = c.in_ok-explained.ensures;
           },
         ),
