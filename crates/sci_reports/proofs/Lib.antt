@@ -4,3 +4,4 @@ mod Notes
 mod Orders
 pub mod EntriesOn
 pub mod FoundEntries
+pub mod MadeWords

@@ -1,8 +1,8 @@
 -- What the note of a faulty line of memory is made from.
-use Rattle.std.specs.{Prelude.{◌≡◌, ◌<◌, ℕ, List, All, Option}, List.Sorted.{IsPermutation}}
+use Rattle.std.specs.{Prelude.{◌≡◌, ◌<◌, ℕ, List, All, IfSome, Option}, List.Sorted.{IsPermutation}}
 use Rattle.sci_history.specs.{declared.faults.LineFault.{LineFault}, Placed.{by_version}}
 use Rattle.sci_reports.specs.declared.{faulty.FaultyEntry.{FaultyEntry}, note.Subject.{Subject}, numbered.Numbered.{Numbered}}
-use Rattle.sci_reports.specs.{EntryLines.{entries_in}, Faulty.{IsAtFault}, NoteText.{note_text}}
+use Rattle.sci_reports.specs.{EntryLines.{entries_in}, Faulty.{IsAtFault, IsCaused}, NoteText.{note_text}}
 
 -- the entries of a line, each with its line of the text, in the order in which the audit places them
 pub record ArePlaced (entries placed : List Numbered) : Type 0 where
@@ -15,4 +15,5 @@ pub record IsNoteOf (fault : LineFault) (subject : Subject) (note : List ℕ) : 
   pub are : ArePlaced subject.entries.items placed
   pub found : Option FaultyEntry
   pub at_fault : IsAtFault fault.kind (entries_in subject.entries.items) (entries_in placed) found
+  pub cause : IfSome found (IsCaused fault.kind subject.entries.items placed)
   pub text : note ≡ note_text found placed subject.last subject.last_line

@@ -1,14 +1,17 @@
 //! Which entry is at fault, and why.
 
-ghost use Rattle.std.specs.Prelude.{◌≡◌, ◌<◌, [], All, IfOk, IfSome, is_some, option_map};
+ghost use Rattle.std.specs.Prelude.{◌≡◌, ◌<◌, ◌==◌, ◌||◌, not, List, [], All, IfOk, IfSome, is_some, option_map};
 ghost use Rattle.sci_words.specs.declared.limits.TheConstants.{MAX_NODES};
-ghost use Rattle.sci_history.specs.Audit.{breaks_order, first_disordered, first_failing, first_missing, first_twice, is_reply_wrong, is_version_missing};
+ghost use Rattle.sci_history.specs.Audit.{breaks_order, first_disordered, first_failing, first_missing, first_twice, is_out_of_order, is_reply_wrong};
+ghost use Rattle.sci_history.specs.Audit.{is_version_missing, is_version_twice};
 ghost use Rattle.sci_history.specs.{Audit.{same_reply, words_after}, Placed.{maker_count}};
-ghost use Rattle.sci_reports.specs.{EntryLines.{entries_in, entry_of}, Faulty.{IsAtFault, IsWordExpected, faulty}};
+ghost use Rattle.sci_reports.specs.declared.numbered.Numbered.{Numbered as NumberedValue};
+ghost use Rattle.sci_reports.specs.{EntryLines.{entries_in, entry_of}, Faulty.{IsAtFault, IsCaused, IsWordExpected, faulty}};
+ghost use Rattle.sci_reports.specs.Faulty.{IsDisorder, IsFewMakers, IsFirst, IsFirstAtFault, IsMadeBefore, IsOtherWord, IsOutOfOrder, makes_always};
 
 use crate::numbered::Numbered;
 use sci_history::{Entry, FaultKind};
-use sci_words::{Act, Line, MAX_NODES, Reply, Stamped, WORDS_PER_LINE, Word, effect};
+use sci_words::{Act, Line, MAX_NODES, Op, Reply, Stamped, WORDS_PER_LINE, Word, effect};
 use std::alloc::{AllocError, Global};
 use std::collections::BTreeMap;
 
@@ -45,7 +48,10 @@ fn made_twice<'a>(
     alloc: Global,
     entries: &[Numbered<'a>],
 ) -> Result<Option<FaultyEntry<'a>>, AllocError>
-    ensures { IfOk result (λ found. option_map faulty found ≡ first_twice (entries_in entries.now)) }
+    ensures first { IfOk result
+        (λ found. option_map faulty found ≡ first_twice (entries_in entries.now)) }
+    ensures cause { IfOk result
+        (λ found. IfSome found (IsFirstAtFault is_version_twice IsMadeBefore entries.now)) }
 {
     let mut made: BTreeMap<u64, Numbered<'a>> = BTreeMap::new(alloc);
     for at in entries {
@@ -90,8 +96,10 @@ fn least_unmade(alloc: Global, entries: &[Numbered]) -> Result<u64, AllocError> 
 
 /// The first entry whose version is above the number of makers, or a maker of version 0.
 fn above_makers<'a>(entries: &[Numbered<'a>], makers: u64) -> Option<Numbered<'a>>
-    ensures { option_map entry_of result
+    ensures first { option_map entry_of result
         ≡ first_failing (is_version_missing makers) [] (entries_in entries.now) }
+    ensures stands { IfSome result (λ at. (before : List NumberedValue)
+        × IsFirst (is_version_missing makers) entries.now at before) }
 {
     for at in entries {
         if at.entry.version > makers || (at.entry.op.is_maker() && at.entry.version == 0) {
@@ -106,8 +114,11 @@ fn missing<'a>(
     alloc: Global,
     entries: &[Numbered<'a>],
 ) -> Result<Option<FaultyEntry<'a>>, AllocError>
-    ensures { IfOk result
+    ensures first { IfOk result
         (λ found. option_map faulty found ≡ first_missing (entries_in entries.now)) }
+    ensures cause { IfOk result (λ found. IfSome found (IsFirstAtFault
+        (is_version_missing (maker_count (entries_in entries.now)))
+        (IsFewMakers (entries_in entries.now)) entries.now)) }
 {
     let makers = makers(entries);
     let Some(at) = above_makers(entries, makers) else {
@@ -126,12 +137,25 @@ fn answers(entry: &Entry, reply: Reply) -> bool
     entry.reply == reply
 }
 
+/// Whether an operation made the new word: a lock operation that leaves the word alone doesn't.
+fn makes_word(op: Op, old: Word, new: Word) -> bool
+    ensures { result ≡ (makes_always op.act || not (new == old)) }
+{
+    match op.act {
+        Act::Load => new != old,
+        Act::Store(_) => true,
+        Act::Lock(_) => new != old,
+    }
+}
+
 /// The first entry, in the order of versions, whose reply isn't its effect's.
 fn wrong<'a>(placed: &[Numbered<'a>]) -> Option<FaultyEntry<'a>>
     ensures first { All (λ entry. entry.op.word < WORDS_PER_LINE) (entries_in placed.now)
         → option_map faulty result ≡ first_failing is_reply_wrong [] (entries_in placed.now) }
     ensures word { All (λ entry. entry.op.word < WORDS_PER_LINE) (entries_in placed.now)
         → IfSome result (λ found. IsWordExpected (entries_in placed.now) found) }
+    ensures cause { All (λ entry. entry.op.word < WORDS_PER_LINE) (entries_in placed.now)
+        → IfSome result (IsFirstAtFault is_reply_wrong IsOtherWord placed.now) }
 {
     let mut line = Line::zero();
     let mut makers: [Option<Numbered<'a>>; WORDS_PER_LINE] = [None; WORDS_PER_LINE];
@@ -150,8 +174,7 @@ fn wrong<'a>(placed: &[Numbered<'a>]) -> Option<FaultyEntry<'a>>
             });
         }
         line = line.with(op.word, new);
-        // A lock operation that leaves the word alone doesn't make it.
-        if new != old || matches!(op.act, Act::Store(_)) {
+        if makes_word(op, old, new) {
             makers[word] = Some(*at);
         }
     }
@@ -160,7 +183,8 @@ fn wrong<'a>(placed: &[Numbered<'a>]) -> Option<FaultyEntry<'a>>
 
 /// Why an entry can't follow the one before it of its node, if there is one and it can't.
 fn disorder<'a>(earlier: Option<Numbered<'a>>, entry: &Entry) -> Option<Cause<'a>>
-    ensures { is_some result ≡ breaks_order (option_map entry_of earlier.entry) entry.now }
+    ensures breaks { is_some result ≡ breaks_order (option_map entry_of earlier.entry) entry.now }
+    ensures cause { IfSome result (IsDisorder earlier.entry entry.now) }
 {
     let earlier = earlier?;
     let before = earlier.entry;
@@ -177,8 +201,10 @@ fn disorder<'a>(earlier: Option<Numbered<'a>>, entry: &Entry) -> Option<Cause<'a
 
 /// The first entry that can't follow the one before it of its node.
 fn disordered<'a>(entries: &[Numbered<'a>]) -> Option<FaultyEntry<'a>>
-    ensures { All (λ entry. entry.node < MAX_NODES) (entries_in entries.now)
+    ensures first { All (λ entry. entry.node < MAX_NODES) (entries_in entries.now)
         → option_map faulty result ≡ first_disordered (entries_in entries.now) }
+    ensures cause { All (λ entry. entry.node < MAX_NODES) (entries_in entries.now)
+        → IfSome result (IsFirstAtFault is_out_of_order IsOutOfOrder entries.now) }
 {
     let mut latest: [Option<Numbered<'a>>; NODES] = [None; NODES];
     for at in entries {
@@ -202,9 +228,12 @@ pub fn faulty_entry<'a>(
     entries: &[Numbered<'a>],
     placed: &[Numbered<'a>],
 ) -> Result<Option<FaultyEntry<'a>>, AllocError>
-    ensures { All (λ entry. entry.node < MAX_NODES) (entries_in entries.now)
+    ensures entry { All (λ entry. entry.node < MAX_NODES) (entries_in entries.now)
         → All (λ entry. entry.op.word < WORDS_PER_LINE) (entries_in placed.now)
         → IfOk result (IsAtFault kind (entries_in entries.now) (entries_in placed.now)) }
+    ensures cause { All (λ entry. entry.node < MAX_NODES) (entries_in entries.now)
+        → All (λ entry. entry.op.word < WORDS_PER_LINE) (entries_in placed.now)
+        → IfOk result (λ found. IfSome found (IsCaused kind entries.now placed.now)) }
 {
     match kind {
         FaultKind::VersionTwice => made_twice(alloc, entries),

@@ -15,11 +15,13 @@ returns c = λ known.
     let order = rw c.deref.ensures.value at c.in_ok-placed.ensures.order in
     let words = All-permutation (λ (e : Entry). e.op.word < WORDS_PER_LINE) (entries_in entries) (entries_in placed)
     (IsPermutation-map (λ ref. ref.now) (entry_refs entries) (entry_refs placed) (IsPermutation-map (λ it. it.entry) entries placed kept)) known.words in
-    let at_fault = (rw (c.deref-2.ensures.value, c.deref-3.ensures.value) at c.in_ok-found.ensures) known.nodes words in
+    let at_fault = (rw (c.deref-2.ensures.value, c.deref-3.ensures.value) at c.in_ok-found.ensures.entry) known.nodes words in
+    let cause = (rw (c.deref-2.ensures.value, c.deref-3.ensures.value) at c.in_ok-found.ensures.cause) known.nodes words in
     record {
       placed = placed;
       are = record { kept = kept; order = λ bound below. order bound known.nodes below };
       found = c.in_ok-found.found;
       at_fault = at_fault;
+      cause = cause;
       text = (rw (c.deref-4.ensures.value, c.new-note.ensures.items) at c.in_ok-push_lines.ensures) words;
     }
