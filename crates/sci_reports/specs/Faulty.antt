@@ -1,6 +1,6 @@
 -- The entry at fault on a line of memory, and why it is.
 use Rattle.std.specs.Prelude.{◌≡◌, ◌<◌, ◌≤◌, ◌==◌, ◌&&◌, ◌||◌, not, ℕ, Bool, true, false, List, [], ◌∷◌, ◌++◌, take, slice_get, slice_index}
-use Rattle.std.specs.Prelude.{Option, Some, None, option_map}
+use Rattle.std.specs.{Prelude.{Option, Some, None, option_map}, List.{list_any}}
 use Rattle.sci_words.specs.{declared.operation.{Act.{Act, TheVariants.{Load, Store, Lock}}, Op.{Op}}, Operation.{effect}}
 use Rattle.sci_history.specs.declared.{entry.Entry.{Entry}, verdict.FaultKind.{FaultKind}}
 use Rattle.sci_history.specs.declared.verdict.FaultKind.TheVariants.{VersionTwice, VersionMissing, WrongReply, OutOfOrder, LastDiffers}
@@ -82,10 +82,24 @@ IsMadeBefore before entry (OtherWord word maker) = ⊥
 IsMadeBefore before entry (SerialAfter earlier) = ⊥
 IsMadeBefore before entry (PlacedAfter earlier) = ⊥
 
--- the number of makers on the line
+-- the least number from 1 on that isn't among some
+pub record IsLeastOutside (is_among : ℕ → Bool) (least : ℕ) : Type 0 where
+  pub positive : 0 < least
+  pub outside : is_among least ≡ false
+  pub below : (n : ℕ) → 0 < n → n < least → is_among n ≡ true
+
+-- whether an entry makes the version
+abbrev pub is_made_by : List Entry → ℕ → Bool
+is_made_by entries version = list_any (makes version) entries
+
+-- whether a number is one of these
+abbrev pub is_one_of : List ℕ → ℕ → Bool
+is_one_of numbers n = list_any (λ number. number == n) numbers
+
+-- the number of makers on the line, and the least version that no entry makes
 abbrev pub IsFewMakers : List Entry → List Numbered → Entry → Cause → Type 0
 IsFewMakers entries before entry (MadeBefore earlier) = ⊥
-IsFewMakers entries before entry (FewMakers makers least) = makers ≡ maker_count entries
+IsFewMakers entries before entry (FewMakers makers least) = (makers ≡ maker_count entries) × IsLeastOutside (is_made_by entries) least
 IsFewMakers entries before entry (OtherWord word maker) = ⊥
 IsFewMakers entries before entry (SerialAfter earlier) = ⊥
 IsFewMakers entries before entry (PlacedAfter earlier) = ⊥

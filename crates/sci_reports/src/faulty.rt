@@ -1,13 +1,15 @@
 //! Which entry is at fault, and why.
 
-ghost use Rattle.std.specs.Prelude.{◌≡◌, ◌<◌, ◌==◌, ◌||◌, not, List, [], All, IfOk, IfSome, is_some, option_map};
+ghost use Rattle.std.specs.Prelude.{◌≡◌, ◌<◌, ◌^◌, ◌==◌, ◌||◌, not, ℕ, List, [], All, IfOk, IfSome, is_some, length, option_map};
+ghost use Rattle.std.specs.List.Sorted.{IsNonDecreasing};
 ghost use Rattle.sci_words.specs.declared.limits.TheConstants.{MAX_NODES};
 ghost use Rattle.sci_history.specs.Audit.{breaks_order, first_disordered, first_failing, first_missing, first_twice, is_out_of_order, is_reply_wrong};
 ghost use Rattle.sci_history.specs.Audit.{is_version_missing, is_version_twice};
 ghost use Rattle.sci_history.specs.{Audit.{same_reply, words_after}, Placed.{maker_count}};
 ghost use Rattle.sci_reports.specs.declared.numbered.Numbered.{Numbered as NumberedValue};
 ghost use Rattle.sci_reports.specs.{EntryLines.{entries_in, entry_of}, Faulty.{IsAtFault, IsCaused, IsWordExpected, faulty}};
-ghost use Rattle.sci_reports.specs.Faulty.{IsDisorder, IsFewMakers, IsFirst, IsFirstAtFault, IsMadeBefore, IsOtherWord, IsOutOfOrder, makes_always};
+ghost use Rattle.sci_reports.specs.Faulty.{IsDisorder, IsFewMakers, IsFirst, IsFirstAtFault, IsLeastOutside, IsMadeBefore, IsOtherWord};
+ghost use Rattle.sci_reports.specs.Faulty.{IsOutOfOrder, is_made_by, is_one_of, makes_always};
 
 use crate::numbered::Numbered;
 use sci_history::{Entry, FaultKind};
@@ -76,22 +78,42 @@ fn makers(entries: &[Numbered]) -> u64
     entries.iter().filter(|it| it.entry.op.is_maker()).count() as u64
 }
 
-/// The least version from 1 on that none of the entries makes.
-fn least_unmade(alloc: Global, entries: &[Numbered]) -> Result<u64, AllocError> {
+/// The versions of the makers among the entries.
+fn versions_made(alloc: Global, entries: &[Numbered]) -> Result<Vec<u64>, AllocError>
+    ensures { IfOk result (λ versions. (version : ℕ) →
+        is_one_of versions.items version ≡ is_made_by (entries_in entries.now) version) }
+{
     let mut versions = Vec::new(alloc);
     for at in entries {
         if at.entry.op.is_maker() {
             versions.push(at.entry.version)?;
         }
     }
-    versions.sort()?;
+    Ok(versions)
+}
+
+/// The least number from 1 on that isn't one of these, of which none is below the one before it.
+fn least_outside(numbers: &[u64]) -> u64
+    requires rise { IsNonDecreasing numbers.now }
+    requires few { length numbers.now < 2 ^ 63 }
+    ensures { IsLeastOutside (is_one_of numbers.now) result }
+{
     let mut least = 1u64;
-    for version in versions {
-        if version == least {
+    for number in numbers {
+        if *number == least {
             least = least.saturating_add(1);
         }
     }
-    Ok(least)
+    least
+}
+
+/// The least version from 1 on that none of the entries makes.
+fn least_unmade(alloc: Global, entries: &[Numbered]) -> Result<u64, AllocError>
+    ensures { IfOk result (IsLeastOutside (is_made_by (entries_in entries.now))) }
+{
+    let mut versions = versions_made(alloc, entries)?;
+    versions.sort()?;
+    Ok(least_outside(&versions))
 }
 
 /// The first entry whose version is above the number of makers, or a maker of version 0.
