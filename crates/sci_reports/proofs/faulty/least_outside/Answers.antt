@@ -29,7 +29,8 @@ loop-number-preserved c =
             outside = λ k low is. let upper = c.requires.rise k i 0 (omega (arith, low)) lt in absurd (omega (arith, upper, is, here, next));
             below = λ n some under. elim (cases_eq n c.loop-number.least) [
               | inl same ↦ list_any_more (λ number. number == n) numbers i 0 lt
-                  ∙ ap (λ b. list_any (λ number. number == n) (take i numbers) || b) (eq-eqb (get_or numbers i 0) n (here ∙ sym same)) ∙ or_true (list_any (λ number. number == n) (take i numbers))
+                  ∙ ap (λ b. list_any (λ number. number == n) (take i numbers) || b) (eq-eqb (get_or numbers i 0) n (here ∙ sym same))
+                  ∙ or_true (list_any (λ number. number == n) (take i numbers))
               | inr other ↦ list_any_kept (λ number. number == n) numbers i (was.below n some (omega (arith, under, next, other)))
             ];
           }
