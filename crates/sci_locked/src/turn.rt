@@ -2,8 +2,8 @@
 
 ghost use Rattle.std.specs.Prelude.{◌≡◌, ◌<◌, true, None, IfOk, IsErr};
 ghost use Rattle.sci_core.specs.Core.{node_at};
-ghost use Rattle.sci_policy.specs.{Policy.{turned}, Rest.{MayIdle}, Turn.{MayPerform, is_idle}, Worker.{HasSameWork}};
-ghost use Rattle.sci_turn.specs.{Far.{HasAskedAll}, Idle.{IsIdleTurn}, Moves.{IsTurn}};
+ghost use Rattle.sci_policy.specs.{Rest.{MayIdle}, Turn.{MayPerform, is_idle}, Worker.{HasSameWork}};
+ghost use Rattle.sci_turn.specs.{Idle.{IsIdleTurn}, Moves.{IsTurn}, Whole.{IsWholeTurn}};
 ghost use Rattle.sci_locked.specs.Lent.{IsPartOfTurn, KeepsRoom, post_at};
 
 use crate::post::Lent;
@@ -28,7 +28,7 @@ pub fn turn_on(machine: &mut Machine, policy: &mut Policy, node: u8) -> Result<P
         policy.new (post_at node machine.new) progress) }
     ensures kept { IsErr result → IsPartOfTurn node policy.old machine.old policy.new machine.new }
     ensures ready { IfOk result (λ progress. MayPerform (node_at machine.new node) progress.ready) }
-    ensures asks { IfOk result (λ progress. HasAskedAll (turned policy.old) (post_at node machine.old)
+    ensures whole { IfOk result (λ progress. IsWholeTurn policy.old (post_at node machine.old)
         policy.new (post_at node machine.new) progress) }
     ensures idle { IfOk result (λ progress. is_idle progress ≡ true → IsIdleTurn
         policy.old (post_at node machine.old) policy.new (post_at node machine.new)) }

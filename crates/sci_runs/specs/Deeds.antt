@@ -3,8 +3,8 @@ use Rattle.std.specs.Prelude.{◌≡◌, ◌≤◌, ◌⊎◌, ℕ, Bool, true, 
 use Rattle.std.specs.List.{AllByRecursion}
 use Rattle.sci_words.specs.declared.{event.Event.{Event}, limits.TheConstants.{MAX_EVENTS}}
 use Rattle.sci_core.specs.Core.{Core, node_of, stepping}
-use Rattle.sci_policy.specs.{declared.progress.Progress.{Progress}, Policy.{PolicyOf, turned}, Turn.{is_idle}}
-use Rattle.sci_turn.specs.{Far.{HasAskedAll}, Idle.{IsIdleTurn}, Moves.{IsTurn}, Posts.{PostOf}}
+use Rattle.sci_policy.specs.{declared.progress.Progress.{Progress}, Policy.{PolicyOf}}
+use Rattle.sci_turn.specs.{Moves.{IsTurn}, Posts.{PostOf}, Whole.{IsWholeTurn}}
 use Rattle.sci_runs.specs.Recorded.{Course, gone_on}
 use Rattle.sci_words.specs.declared.event.Event.TheVariants as event
 
@@ -39,19 +39,15 @@ post_on n course = record { me = n; core = course.core; schedule = Some course.e
 abbrev pub AddsOwn : ℕ → List Event → List Event → Type 0
 AddsOwn n old new = (more : List Event) × (new ≡ old ++ more) × AllByRecursion (λ e. node_of e ≡ n) more
 
--- A turn of node n to its end: it adds events of the node alone, which are those that the policy decides; it asks until the
--- policy wants no more or four times; and it reports nothing only if there was nothing to do.
-pub record IsWholeTurn (n : ℕ) (before : PolicyOf) (old : Course) (after : PolicyOf) (new : Course) (progress : Progress) : Type 0 where
+-- a turn of node n so far: it adds events of the node alone, which are those that the policy decides
+pub record IsTurnSoFar (n : ℕ) (before : PolicyOf) (old : Course) (after : PolicyOf) (new : Course) (progress : Progress) : Type 0 where
   pub turn : IsTurn before (post_on n old) after (post_on n new) progress
   pub own : AddsOwn n old.events new.events
-  pub asks : HasAskedAll (turned before) (post_on n old) after (post_on n new) progress
-  pub idle : is_idle progress ≡ true → IsIdleTurn before (post_on n old) after (post_on n new)
 
--- a turn of node n so far: its events, which are the node's alone
-pub record IsTurnSoFar (n : ℕ) (before : PolicyOf) (old : Course) (after : PolicyOf) (new : Course) : Type 0 where
-  pub progress : Progress
-  pub turn : IsTurn before (post_on n old) after (post_on n new) progress
-  pub own : AddsOwn n old.events new.events
+-- a turn of node n to its end
+pub record IsTurnDone (n : ℕ) (before : PolicyOf) (old : Course) (after : PolicyOf) (new : Course) (progress : Progress) : Type 0 where
+  pub so_far : IsTurnSoFar n before old after new progress
+  pub whole : IsWholeTurn before (post_on n old) after (post_on n new) progress
 
 -- These deeds of node n, one after another, lead from one state and what its policy remembers to others. The events are
 -- those of the deeds, in their order.
@@ -60,7 +56,7 @@ Does n [] before old after new = (before ≡ after) × (old ≡ new)
 Does n (Works e ∷ deeds) before old after new =
     (next : Core) × IsWorkOf n e × (stepping old.core e ≡ Some next) × Does n deeds before (gone_on old e next) after new
 Does n (Turns progress ∷ deeds) before old after new =
-    (policy : PolicyOf) × (next : Course) × IsWholeTurn n before old policy next progress × Does n deeds policy next after new
+    (policy : PolicyOf) × (next : Course) × IsTurnDone n before old policy next progress × Does n deeds policy next after new
 
 -- this many turns of node n, with what it issues and performs between them
 pub record Takes (n turns : ℕ) (before : PolicyOf) (old : Course) (after : PolicyOf) (new : Course) : Type 0 where
@@ -76,5 +72,5 @@ pub record Fills (n : ℕ) (before : PolicyOf) (old : Course) : Type 0 where
   pub does : Does n deeds before old policy mid
   pub after : PolicyOf
   pub full : Course
-  pub rest : (mid ≡ full) ⊎ IsTurnSoFar n policy mid after full
+  pub rest : (mid ≡ full) ⊎ ((progress : Progress) × IsTurnSoFar n policy mid after full progress)
   pub many : MAX_EVENTS ≤ length full.events

@@ -60,8 +60,8 @@ impl<'a> Player<'a> {
     ghost use Rattle.sci_drive.specs.Driving.{IsDriven, IsInOrder};
     ghost use Rattle.sci_runs.specs.{Deeds.{Takes}, Goings.{Goes}, Played.{GoesOpenly}, Recorded.{SparesOthers, course_of}};
 
-    /// Does a round at a node. Requires that there is such a node, and that this player has driven it. Refused if memory
-    /// is, for a lane.
+    /// Does a round at a node. Requires that there is such a node, and that this player has driven it. Refused where an
+    /// event is lost, and the recorder has the reason.
     pub(crate) fn round(&mut self, recorder: &mut Recorder, node: u8) -> Result<Round, AllocError>
         requires some { node < recorder.old.core.size.nodes }
         requires driven { IsDriven self.old.driver (node_at recorder.old.core node) }

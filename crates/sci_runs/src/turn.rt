@@ -2,8 +2,8 @@
 
 ghost use Rattle.std.specs.Prelude.{◌≡◌, ◌≢◌, ◌<◌, true, None, IfOk, IsErr};
 ghost use Rattle.sci_core.specs.Core.{node_at};
-ghost use Rattle.sci_policy.specs.{Rest.{MayIdle}, Turn.{is_idle}, Worker.{HasSameWork, IsNodeTurn}};
-ghost use Rattle.sci_runs.specs.{Deeds.{IsTurnSoFar, IsWholeTurn}, Recorded.{KeepsLoss, SparesOthers, course_of}};
+ghost use Rattle.sci_policy.specs.{declared.progress.Progress.{Progress}, Rest.{MayIdle}, Turn.{is_idle}, Worker.{HasSameWork, IsNodeTurn}};
+ghost use Rattle.sci_runs.specs.{Deeds.{IsTurnDone, IsTurnSoFar}, Recorded.{KeepsLoss, SparesOthers, course_of}};
 
 use crate::post::Lent;
 use crate::recorder::Recorder;
@@ -19,9 +19,10 @@ pub(crate) fn turn_on(
     node: u8,
 ) -> Result<Progress, AllocError>
     requires { node < recorder.old.core.size.nodes }
-    ensures whole { IfOk result
-        (IsWholeTurn node policy.old (course_of recorder.old) policy.new (course_of recorder.new)) }
-    ensures so_far { IsTurnSoFar node policy.old (course_of recorder.old) policy.new (course_of recorder.new) }
+    ensures done { IfOk result
+        (IsTurnDone node policy.old (course_of recorder.old) policy.new (course_of recorder.new)) }
+    ensures part { IsErr result → (progress : Progress) ×
+        IsTurnSoFar node policy.old (course_of recorder.old) policy.new (course_of recorder.new) progress }
     ensures keeps { KeepsLoss recorder.old recorder.new }
     ensures lost { IsErr result → recorder.new.lost ≢ None }
     ensures turn { IfOk result

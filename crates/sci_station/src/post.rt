@@ -52,7 +52,7 @@ impl HasEnd for StationPost {
 }
 
 impl StationPost {
-    ghost use Rattle.std.specs.Prelude.{◌≡◌, ◌≢◌, ◌<◌, [], true, false, None, IfSome, IsErr, IsOk};
+    ghost use Rattle.std.specs.Prelude.{◌≡◌, ◌<◌, [], true, false, Some, None, IfSome, IsErr, IsOk};
     ghost use Rattle.sci_station.specs.{Budgets.{HasNoMore}, Ends.{IsStill, SeesFirst}, Posts.{IsRead, is_kept, post_of}};
     ghost use Rattle.sci_turn.specs.Posts.{lane_to};
     ghost use Rattle.sci_core.specs.Node.{node_issuing, node_performing};
@@ -138,7 +138,7 @@ impl StationPost {
         ensures still { IsStill self.old.end self.new.end }
         ensures shown { IsShown self.new.end.part }
         ensures budget { HasNoMore self.old.left self.new.left }
-        ensures spent { IsErr result → self.old.left ≢ None }
+        ensures spent { IsErr result → self.new.left ≡ Some 0 }
     {
         // Here, not where it was seen: a look for which nothing has come needs no cell.
         let cell = self.end.next_to_take(kind, from);
@@ -165,7 +165,7 @@ impl StationPost {
 }
 
 impl Post for StationPost {
-    ghost use Rattle.std.specs.Prelude.{◌≢◌, None};
+    ghost use Rattle.std.specs.Prelude.{◌≡◌, Some};
     ghost use Rattle.sci_station.specs.{Budgets.{HasNoMore}, Ends.{IsSameEnd}, Posts.{IsRead, post_of}};
     ghost use Rattle.std.proofs.Common.{arith, refl, ◌∙◌};
 
@@ -177,7 +177,7 @@ impl Post for StationPost {
 
     ghost sees = { λ post kind from. IsRead post.end post.kept kind from };
 
-    ghost may_stop = { λ post. post.left ≢ None };
+    ghost may_stop = { λ post. post.left ≡ Some 0 };
 
     #[inline(always)]
     fn me(&self) -> u8 {

@@ -1,6 +1,6 @@
 //! Receiving a whole packet.
 
-ghost use Rattle.std.specs.Prelude.{◌≡◌, ◌≢◌, ◌<◌, ◌≤◌, ℕ, [], ◌∷◌, length, take, None, IfOk, IfSome, IsErr, IsOk};
+ghost use Rattle.std.specs.Prelude.{◌≡◌, ◌<◌, ◌≤◌, ℕ, [], ◌∷◌, length, take, Some, None, IfOk, IfSome, IsErr, IsOk};
 ghost use Rattle.sci_core.specs.Core.{lane_of, lane_place};
 ghost use Rattle.sci_lanes.specs.{Shown.{inbound_at, me_of}, Telling.{IsShown, state_of}};
 ghost use Rattle.sci_lanes.specs.Ends.{IsNextToTake, lane_at_cell, nodes_in};
@@ -37,7 +37,7 @@ pub fn see(
         end.old.part end.new.part }
     ensures still { IsStill end.old end.new }
     ensures budget { HasNoMore budget.old.left budget.new.left }
-    ensures spent { IsErr result → budget.old.left ≢ None }
+    ensures spent { IsErr result → budget.new.left ≡ Some 0 }
 {
     budget.spend()?;
     let first = end.look_for(kind, from);
@@ -54,7 +54,7 @@ pub fn read_packet(end: &mut LaneEnd, budget: &mut Budget, seen: Seen) -> Result
     ensures others { LeavesOthers (lane_at_cell end.old.part seen.cell) end.old.part end.new.part }
     ensures still { IsStill end.old end.new }
     ensures budget { HasNoMore budget.old.left budget.new.left }
-    ensures spent { IsErr result → budget.old.left ≢ None }
+    ensures spent { IsErr result → budget.new.left ≡ Some 0 }
 {
     let Seen { cell, first } = seen;
     let mut words = [0; PACKET_WORDS];
@@ -88,7 +88,7 @@ fn read(
     ensures begins { take 1 words.new ≡ take 1 words.old }
     ensures others { LeavesOthers (lane_at_cell end.old.part cell) end.old.part end.new.part }
     ensures budget { HasNoMore budget.old.left budget.new.left }
-    ensures spent { IsErr result → budget.old.left ≢ None }
+    ensures spent { IsErr result → budget.new.left ≡ Some 0 }
 {
     let place = end.place_of(cell);
     for index in 1..count {

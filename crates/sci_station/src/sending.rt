@@ -1,6 +1,6 @@
 //! Sending a whole packet.
 
-ghost use Rattle.std.specs.Prelude.{◌≡◌, ◌≢◌, ◌<◌, ◌≤◌, ◌-◌, length, take, drop, true, false, IfOk, IsErr, IsOk};
+ghost use Rattle.std.specs.Prelude.{◌≡◌, ◌<◌, ◌≤◌, ◌-◌, length, take, drop, true, false, Some, IfOk, IsErr, IsOk};
 ghost use Rattle.sci_cache.specs.Cache.{letter_of};
 ghost use Rattle.sci_core.specs.Core.{Sends, lane_of, lane_place, node_of, side};
 ghost use Rattle.sci_core.specs.declared.lane.LaneKind.TheVariants.{Requests};
@@ -46,7 +46,7 @@ pub fn send(
         end.old.part end.new.part }
     ensures same { IsSameEnd end.old end.new }
     ensures budget { HasNoMore budget.old.left budget.new.left }
-    ensures spent { IsErr result → budget.old.left ≢ None }
+    ensures spent { IsErr result → budget.new.left ≡ Some 0 }
 {
     let cell = end.next_to_send(kind, target_of(end, packet));
     // Before the look: behind an atomic load the compiler clears the words a second time.
@@ -84,7 +84,7 @@ fn fill(end: &mut LaneEnd, budget: &mut Budget, cell: CellId, words: &[u64]) -> 
         (outbound_at end.new.part (lane_at_cell end.new.part cell)).filled ≡ words.now }
     ensures others { LeavesOthers (lane_at_cell end.old.part cell) end.old.part end.new.part }
     ensures budget { HasNoMore budget.old.left budget.new.left }
-    ensures spent { IsErr result → budget.old.left ≢ None }
+    ensures spent { IsErr result → budget.new.left ≡ Some 0 }
 {
     // Once, since each store makes the processor read the end's fields again.
     let place = end.place_of(cell);

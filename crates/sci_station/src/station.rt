@@ -37,13 +37,13 @@ impl HasEnd for Station {
 }
 
 impl Station {
-    ghost use Rattle.std.specs.Prelude.{◌≡◌, ◌<◌, ◌≤◌, [], true, Some, None, IfErr, IfOk, IfSome, IsErr, IsOk};
+    ghost use Rattle.std.specs.Prelude.{◌≡◌, ◌<◌, ◌≤◌, ◌⊎◌, [], true, Some, None, IfErr, IfOk, IfSome, IsErr, IsOk};
     ghost use Rattle.sci_core.specs.{Node.{node_issuing, node_performing}, Work.{IsIssued, IsLogged}};
     ghost use Rattle.sci_policy.specs.{Rest.{MayIdle}, Turn.{MayPerform, is_idle, submit_fault}};
-    ghost use Rattle.sci_policy.specs.{Worker.{HasSameWork, IsNodeTurn}, Policy.{turned}};
+    ghost use Rattle.sci_policy.specs.Worker.{HasSameWork, IsNodeTurn};
     ghost use Rattle.sci_words.specs.declared.event.Event.TheVariants.{Issue, Perform};
     ghost use Rattle.sci_lanes.specs.{Shown.{me_of}, Telling.{IsMade}};
-    ghost use Rattle.sci_turn.specs.{Far.{HasAskedAll}, Idle.{IsIdleTurn}, Moves.{IsTurn}};
+    ghost use Rattle.sci_turn.specs.{Idle.{IsIdleTurn}, Moves.{IsTurn}, Whole.{IsWholeTurn}};
     ghost use Rattle.sci_station.specs.{Ends.{IsSameEnd}, Posts.{post_of}, OneLog.{IsOneLog}};
     ghost use Rattle.sci_station.specs.Station.{beaten_to, node_in, opening_station, schedule_in};
 
@@ -105,14 +105,17 @@ impl Station {
     /// - Each event is the node's own, enabled when it comes. The policy counts the turn, decides each request that is
     ///   taken, and wants each ask.
     /// - The report counts the events. A line that it names has an operation that can be performed.
-    /// - It ends after four asks, at a line that can be performed, when the policy wants no more, or at a full lane.
+    /// - It is whole: each step goes as far as it can, in this order. From a node fewer than four answers are accepted only
+    ///   if no more have come, and fewer than four requests are taken only if no more have come, the next one is kept, or an
+    ///   answer waits whose lane is full. It ends after four asks, at a line that can be performed, when the policy wants no
+    ///   more, or at a full lane.
     /// - Nothing is reported only if there was nothing to do: from no node an answer had come, and each request that had
     ///   come is kept, or an answer waits that found its lane full. Then no operation is pending, or there are other
     ///   nodes and some line awaits an answer.
     pub fn turn(&mut self) -> Progress
         ensures turn { IsTurn self.old.policy (post_of self.old.end)
             self.new.policy (post_of self.new.end) result }
-        ensures asks { HasAskedAll (turned self.old.policy) (post_of self.old.end)
+        ensures whole { IsWholeTurn self.old.policy (post_of self.old.end)
             self.new.policy (post_of self.new.end) result }
         ensures ready { MayPerform (node_in self.new) result.ready }
         ensures node { IsNodeTurn (node_in self.old) (node_in self.new) result }
@@ -133,9 +136,9 @@ impl Station {
         progress
     }
 
-    /// Takes a turn that ends before it would make more than `steps` steps on words of the table, and gives how many it
-    /// made. What it didn't come to is not reported. A packet that was partly sent or partly read is begun again in a later
-    /// turn.
+    /// Takes a turn that stops before it would make more than `steps` steps on words of the table, and gives how many it
+    /// made. If it made fewer, it is a whole turn, as `turn` takes. What it didn't come to is not reported. A packet that was
+    /// partly sent or partly read is begun again in a later turn.
     pub fn turn_within(&mut self, steps: u32) -> (Progress, u32)
         ensures turn { IsTurn self.old.policy (post_of self.old.end)
             self.new.policy (post_of self.new.end) result.0 }
@@ -143,6 +146,8 @@ impl Station {
         ensures node { IsNodeTurn (node_in self.old) (node_in self.new) result.0 }
         ensures work { HasSameWork (node_in self.old) (node_in self.new) }
         ensures steps { result.1 ≤ steps }
+        ensures whole { IsWholeTurn self.old.policy (post_of self.old.end)
+            self.new.policy (post_of self.new.end) result.0 ⊎ (result.1 ≡ steps) }
         ensures end { IsSameEnd self.old.end self.new.end }
     {
         let mut progress = Progress::new();

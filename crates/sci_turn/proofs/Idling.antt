@@ -10,41 +10,16 @@ use Rattle.sci_core.specs.{Reached.{IsReached}, Size.{Size}, WellFormed.{IsInLan
 use Rattle.sci_core.proofs.{Step.{Applied.{front_holds}, Places.{place_from}}, Settling.Drains.{some_node}}
 use Rattle.sci_core.proofs.{Tidy.Enabled.{request_enabled}, Basics.Options.{of_some, found}}
 use Rattle.sci_core.proofs.WellFormed.WellFormedSteps.{reached_well}
-use Rattle.sci_policy.specs.declared.{progress.Progress.{Progress}, want.Want.{Want, TheVariants.{Perform, Ask}}}
+use Rattle.sci_policy.specs.declared.{want.Want.{Want, TheVariants.{Perform, Ask}}}
 use Rattle.sci_policy.specs.Lines.{state_on}
-use Rattle.sci_policy.specs.Policy.{IsEnabledWant, PolicyOf, decided, next_policy, next_wanted, ticked, turned}
+use Rattle.sci_policy.specs.Policy.{IsEnabledWant, PolicyOf, decided, next_wanted, ticked, turned}
 use Rattle.sci_policy.specs.Rest.{AwaitsOthers, Awaits, MayIdle, MayRest, NothingPending, NothingPends}
 use Rattle.sci_policy.specs.Turn.{decided_event}
 use Rattle.sci_policy.proofs.{Alone.{alone_rests, first_only}, Deciding.{keep_of, keeps_no_own}, AlwaysWants.{may_rest}}
 use Rattle.sci_policy.proofs.{Targets.{asked_target, waiting_target}, Wants.{wanted_enabled}}
-use Rattle.sci_turn.specs.Posts.{IsFull, IsPost, IsStill, OthersLead, PostOf, lane_to, node_in, nodes_in}
+use Rattle.sci_turn.specs.Posts.{IsFull, IsPost, OthersLead, PostOf, node_in, nodes_in}
 use Rattle.sci_turn.specs.Moves.{taken_next, taking_event}
-use Rattle.sci_turn.specs.Idle.{AsksNothing, IsHeldUp, IsIdleTurn, IsReplyHeldUp, TookNone, WasEmpty, WasSo}
-use Rattle.sci_turn.proofs.{Moments.{node_stays, so_after, so_still}, Stills.{still_then}}
-
--- what each step of the turn has found
-pub idle_turn : (before begun policy after : PolicyOf) (old replied accepted taken new : PostOf) (told : Progress) → begun ≡ turned before → IsStill old replied
-    → IsStill replied accepted → IsStill accepted taken → policy ≡ begun → IsReplyHeldUp replied
-    → ((from : ℕ) → from < nodes_in replied → WasEmpty Answers from replied accepted)
-    → ((from : ℕ) → from < nodes_in accepted → TookNone begun from accepted taken) → AsksNothing policy taken after new told
-    → IsIdleTurn before old after new
-idle_turn before begun policy after old replied accepted taken new told begins one two three kept reply answers requests asks =
-    let is : policy ≡ turned before = kept ∙ begins in
-    let last : IsStill accepted new = still_then accepted taken new three asks.still in
-    let rest : IsStill replied new = still_then replied accepted new two last in
-    let before_ : IsStill old accepted = still_then old replied accepted one two in
-    record {
-      still = still_then old replied new one rest;
-      policy = asks.policy ∙ ap (λ (p : PolicyOf). next_policy p (node_in new)) is;
-      reply = record { mid = replied; before = one; after = rest; so = reply };
-      answers = λ from f. so_after (λ (post : PostOf). lane_to post Answers from ≡ []) old replied new one
-          (so_still (λ (post : PostOf). lane_to post Answers from ≡ []) replied accepted new (answers from (node_stays from old replied one.same f)) last);
-      requests = λ from f. (
-          let P : PostOf → Type 0 = λ post. taken_next begun post.core from post.me ≡ None in
-          subst (λ (p : PolicyOf). TookNone p from old new) begins
-          (so_after P old accepted new before_ (so_still P accepted taken new (requests from (node_stays from old accepted before_.same f)) asks.still)));
-      wants = subst (λ (p : PolicyOf). IfSome (next_wanted p (node_in new)) (IsHeldUp new)) is asks.wants;
-    }
+use Rattle.sci_turn.specs.Idle.{IsHeldUp, IsIdleTurn, WasSo}
 
 -- ---- a machine of one node
 

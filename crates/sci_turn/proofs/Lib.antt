@@ -5,4 +5,5 @@ pub mod TurnEvents
 pub mod Moments
 pub mod Idling
 pub mod Working
-pub mod Asking
+pub mod Steps
+pub mod Wholes

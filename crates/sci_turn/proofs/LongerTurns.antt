@@ -5,11 +5,14 @@ use Rattle.std.specs.Prelude.{cond}
 use Rattle.sci_words.specs.declared.event.Event.{Event}
 use Rattle.sci_core.specs.Core.{Core, node_of, stepping}
 use Rattle.sci_policy.specs.{declared.progress.Progress.{Progress}, Policy.{PolicyOf, next_policy}}
-use Rattle.sci_policy.specs.Turn.{Counts, IsTurnEvent, MadeNothing, counted}
-use Rattle.sci_policy.proofs.Telling.{tells_something}
-use Rattle.sci_turn.specs.Posts.{IsFurther, IsMade, IsSamePost, IsStill, OthersLead, PostOf, node_in}
-use Rattle.sci_turn.specs.Moves.{Decides, GoesOn, HasEnded, HasMoved, IsOwn, Leads, own_of}
-use Rattle.sci_turn.proofs.Stills.{further_itself, further_then, same_itself, same_then, still_then}
+use Rattle.sci_policy.specs.Turn.{Counts, IsTurnEvent}
+use Rattle.sci_turn.specs.Posts.{IsFurther, IsSamePost, IsStill, OthersLead, PostOf, node_in}
+use Rattle.sci_turn.specs.{Moves.{GoesOn, HasEnded, HasMoved, IsOwn, Leads, Stage, own_of}, Whole.{Makes, MakesNone}}
+use Rattle.sci_turn.proofs.Stills.{further_itself, further_then, same_itself, same_then}
+
+-- the report of a turn with one event more
+abbrev pub CountsOne : Event → Progress → Progress → Type 0
+CountsOne e told tells = (events : List Event) → Counts events told → Counts (events ++ e ∷ []) tells
 
 leads_join : (n : ℕ) (a : PolicyOf) (x : Core) (xs : List Event) (b : PolicyOf) (y : Core) (ys : List Event) (c : PolicyOf) (z : Core) → Leads n a x xs b y
     → Leads n b y ys c z → Leads n a x (xs ++ ys) c z
@@ -43,80 +46,70 @@ own_more n more e is = own_join n more (e ∷ []) ∙ ap (λ (es : List Event). 
 -- ---- going on
 
 -- no event was made
-pub moved_still : (first policy : PolicyOf) (start old new : PostOf) (told : Progress) → IsStill old new → (moved : HasMoved first start policy old told)
-    → (now : HasMoved first start policy new told) × (own_of start.me now.more ≡ own_of start.me moved.more)
+moved_still : (first policy : PolicyOf) (start old new : PostOf) (told : Progress) → IsStill old new → HasMoved first start policy old told
+    → HasMoved first start policy new told
 moved_still first policy start old new told still moved =
     let lead : OthersLead start.me old.core still.others new.core = subst (λ (n : ℕ). OthersLead n old.core still.others new.core) moved.same.me still.lead in
-    let own = own_seen start.me old.core moved.more still.others new.core lead in (
-      record {
-        same = same_then start old new moved.same still.same;
-        more = moved.more ++ still.others;
-        leads = leads_join start.me first start.core moved.more policy old.core still.others policy new.core moved.leads
-            (leads_others start.me policy old.core still.others new.core lead);
-        further = further_then start.me start.schedule moved.more old.schedule still.others new.schedule moved.further
-            (subst (λ (n : ℕ). IsFurther n old.schedule still.others new.schedule) moved.same.me still.further);
-        counts = subst (λ (es : List Event). Counts es told) (sym own) moved.counts;
-      },
-      own,
-    )
+    record {
+      same = same_then start old new moved.same still.same;
+      more = moved.more ++ still.others;
+      leads = leads_join start.me first start.core moved.more policy old.core still.others policy new.core moved.leads
+          (leads_others start.me policy old.core still.others new.core lead);
+      further = further_then start.me start.schedule moved.more old.schedule still.others new.schedule moved.further
+          (subst (λ (n : ℕ). IsFurther n old.schedule still.others new.schedule) moved.same.me still.further);
+      counts = subst (λ (es : List Event). Counts es told) (sym (own_seen start.me old.core moved.more still.others new.core lead)) moved.counts;
+    }
 
 -- an event was made
-pub moved_more : (first before after : PolicyOf) (start mid new : PostOf) (told tells : Progress) (e : Event) → (moved : HasMoved first start before mid told)
+moved_more : (first before after : PolicyOf) (start mid new : PostOf) (told tells : Progress) (e : Event) → HasMoved first start before mid told
     → IsSamePost mid new → stepping mid.core e ≡ Some new.core → IsOwn mid.me before mid.core e after
-    → IsFurther mid.me mid.schedule (e ∷ []) new.schedule → ((events : List Event) → Counts events told → Counts (events ++ e ∷ []) tells)
-    → (now : HasMoved first start after new tells) × (own_of start.me now.more ≡ own_of start.me moved.more ++ e ∷ [])
+    → IsFurther mid.me mid.schedule (e ∷ []) new.schedule → CountsOne e told tells → HasMoved first start after new tells
 moved_more first before after start mid new told tells e moved same steps own further counts =
     let here : IsOwn start.me before mid.core e after = subst (λ (n : ℕ). IsOwn n before mid.core e after) moved.same.me own in
-    let more = own_more start.me moved.more e here.kind.own in (
-      record {
-        same = same_then start mid new moved.same same;
-        more = moved.more ++ e ∷ [];
-        leads = leads_join start.me first start.core moved.more before mid.core (e ∷ []) after new.core moved.leads (
-          new.core,
-          after,
-          steps,
-          inl here,
-          (refl, refl),
-        );
-        further = further_then start.me start.schedule moved.more mid.schedule (e ∷ []) new.schedule moved.further
-            (subst (λ (n : ℕ). IsFurther n mid.schedule (e ∷ []) new.schedule) moved.same.me further);
-        counts = subst (λ (es : List Event). Counts es tells) (sym more) (counts (own_of start.me moved.more) moved.counts);
-      },
-      more,
-    )
+    record {
+      same = same_then start mid new moved.same same;
+      more = moved.more ++ e ∷ [];
+      leads = leads_join start.me first start.core moved.more before mid.core (e ∷ []) after new.core moved.leads (
+        new.core,
+        after,
+        steps,
+        inl here,
+        (refl, refl),
+      );
+      further = further_then start.me start.schedule moved.more mid.schedule (e ∷ []) new.schedule moved.further
+          (subst (λ (n : ℕ). IsFurther n mid.schedule (e ∷ []) new.schedule) moved.same.me further);
+      counts = subst (λ (es : List Event). Counts es tells) (sym (own_more start.me moved.more e here.kind.own))
+          (counts (own_of start.me moved.more) moved.counts);
+    }
 
-pub goes_still : (policy : PolicyOf) (old new : PostOf) (told tells : Progress) → IsStill old new → tells ≡ told → GoesOn policy old policy new told tells
-goes_still policy old new told tells still is = record {
-  same = still.same;
-  ready = ap (λ (p : Progress). p.ready) is;
-  turn = λ first start moved. subst (λ (p : Progress). HasMoved first start policy new p) (sym is) (moved_still first policy start old new told still moved).0;
-  still = λ nothing. record { post = still; policy = refl; nothing = subst MadeNothing is nothing };
+pub goes_still : (old new : Stage) → MakesNone old new → GoesOn old new
+goes_still old new none = record {
+  same = none.still.same;
+  ready = ap (λ (p : Progress). p.ready) none.report;
+  turn = λ before start moved. subst (λ (p : PolicyOf). HasMoved before start p new.post new.report) (sym none.policy)
+      (subst (λ (p : Progress). HasMoved before start old.policy new.post p) (sym none.report)
+      (moved_still before old.policy start old.post new.post old.report none.still moved));
 }
 
-pub goes_then : (before between after : PolicyOf) (old mid new : PostOf) (first then_ tells : Progress) → GoesOn before old between mid first then_
-    → GoesOn between mid after new then_ tells → GoesOn before old after new first tells
-goes_then before between after old mid new first then_ tells one two = record {
-  same = same_then old mid new one.same two.same;
+pub goes_then : (old mid new : Stage) → GoesOn old mid → GoesOn mid new → GoesOn old new
+goes_then old mid new one two = record {
+  same = same_then old.post mid.post new.post one.same two.same;
   ready = two.ready ∙ one.ready;
-  turn = λ policy start moved. two.turn policy start (one.turn policy start moved);
-  still = λ nothing. (
-      let later = two.still nothing in
-      let earlier = one.still later.nothing in
-      record { post = still_then old mid new earlier.post later.post; policy = later.policy ∙ earlier.policy; nothing = earlier.nothing });
+  turn = λ before start moved. two.turn before start (one.turn before start moved);
 }
 
--- an event was made, and is counted
-pub goes_made : (before after : PolicyOf) (old new : PostOf) (told tells : Progress) (e : Event) → IsTurnEvent old.me e → (made : IsMade old e new)
-    → Decides before made.mid.core old.me e after → tells ≡ counted told e
-    → ((events : List Event) → Counts events told → Counts (events ++ e ∷ []) tells) → GoesOn before old after new told tells
-goes_made before after old new told tells e own made decides is counts = record {
-  same = same_then old made.mid new made.still.same made.same;
-  ready = ap (λ (p : Progress). p.ready) is;
-  turn = λ policy start moved. (moved_more policy before after start made.mid new told tells e
-      (moved_still policy before start old made.mid told made.still moved).0 made.same made.made
-      (subst (λ (n : ℕ). IsOwn n before made.mid.core e after) (sym made.still.same.me) (record { kind = own; decides = decides })) made.further counts).0;
-  still = λ nothing. absurd (tells_something old.me e told tells own is nothing);
-}
+pub goes_made : (e : Event) (old new : Stage) → IsTurnEvent old.post.me e → Makes e old new → CountsOne e old.report new.report → GoesOn old new
+goes_made e old new own made counts =
+    let mid = made.made.mid in
+    let still = made.made.still in
+    record {
+      same = same_then old.post mid new.post still.same made.made.same;
+      ready = ap (λ (p : Progress). p.ready) made.counted;
+      turn = λ before start moved. moved_more before old.policy new.policy start mid new.post old.report new.report e
+          (moved_still before old.policy start old.post mid old.report still moved) made.made.same made.made.made
+          (subst (λ (n : ℕ). IsOwn n old.policy mid.core e new.policy) (sym still.same.me) (record { kind = own; decides = made.decides })) made.made.further
+          counts;
+    }
 
 -- ---- the beginning and the end of a turn
 

@@ -3,7 +3,7 @@ use Rattle.std.specs.Prelude.{◌≡◌, ◌<◌, ℕ, [], None, IfSome}
 use Rattle.sci_core.specs.{declared.lane.LaneKind.{LaneKind, TheVariants.{Requests, Answers}}, Node.{node_asking}}
 use Rattle.sci_words.specs.declared.event.AskKind.{AskKind}
 use Rattle.sci_policy.specs.declared.{progress.Progress.{Progress}, want.Want.{Want, TheVariants.{Perform, Ask}}}
-use Rattle.sci_policy.specs.{Policy.{PolicyOf, next_policy, next_wanted, turned}, Turn.{MadeNothing}}
+use Rattle.sci_policy.specs.{Policy.{PolicyOf, next_policy, next_wanted, turned}}
 use Rattle.sci_turn.specs.{Posts.{IsFull, IsStill, PostOf, lane_to, node_in, nodes_in}, Moves.{taken_next}}
 
 -- what the policy wants is an ask, and the lane to its target is full
@@ -44,10 +44,3 @@ pub record WasHeldUp (line : ℕ) (kind : AskKind) (old new : PostOf) (told tell
   pub still : IsStill old new
   pub same : tells ≡ told
   pub full : IsHeldUp new (Ask line kind)
-
--- nothing was asked: the policy was looked at once, and no event was made
-pub record AsksNothing (before : PolicyOf) (old : PostOf) (after : PolicyOf) (new : PostOf) (told : Progress) : Type 0 where
-  pub still : IsStill old new
-  pub policy : after ≡ next_policy before (node_in new)
-  pub wants : IfSome (next_wanted before (node_in new)) (IsHeldUp new)
-  pub nothing : MadeNothing told

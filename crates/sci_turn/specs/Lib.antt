@@ -1,4 +1,4 @@
 pub mod Posts
 pub mod Moves
 pub mod Idle
-pub mod Far
+pub mod Whole

@@ -6,8 +6,8 @@ use Rattle.sci_core.specs.declared.lane.LaneKind.TheVariants.{Requests}
 use Rattle.sci_core.specs.{Core.{Core, lane_of, node_at, node_of, stepping}, Node.{NodeOf}}
 use Rattle.sci_policy.specs.declared.{progress.Progress.{Progress}, want.Want.TheVariants.{Ask}}
 use Rattle.sci_policy.specs.Policy.{PolicyOf, decided, next_policy, next_wanted, turned}
-use Rattle.sci_policy.specs.Turn.{Counts, IsTurnEvent, MadeNothing, counted, decided_event}
-use Rattle.sci_turn.specs.Posts.{IsFurther, IsMade, IsSamePost, IsStill, PostOf, node_in}
+use Rattle.sci_policy.specs.Turn.{Counts, IsTurnEvent, counted, decided_event}
+use Rattle.sci_turn.specs.Posts.{IsFurther, IsMade, IsSamePost, PostOf, node_in}
 use Rattle.sci_words.specs.declared.event.Event.TheVariants as event
 
 -- ---- which request is taken, and how
@@ -74,22 +74,28 @@ IsTurn before old after new progress = HasEnded (turned before) old after new pr
 
 -- ---- steps of a turn
 
--- no event was made
-pub record WasStill (before : PolicyOf) (old : PostOf) (after : PolicyOf) (new : PostOf) (told : Progress) : Type 0 where
-  pub post : IsStill old new
-  pub policy : after ≡ before
-  pub nothing : MadeNothing told
+-- where a turn stands: what the policy remembers, the node's post, and the report so far
+pub record Stage : Type 0 where
+  pub policy : PolicyOf
+  pub post : PostOf
+  pub report : Progress
 
--- whatever turn came so far goes on by it; and if no event was made in the end, it has made none
-pub record GoesOn (before : PolicyOf) (old : PostOf) (after : PolicyOf) (new : PostOf) (told tells : Progress) : Type 0 where
-  pub same : IsSamePost old new
-  pub ready : tells.ready ≡ told.ready
-  pub turn : (policy : PolicyOf) (start : PostOf) → HasMoved policy start before old told → HasMoved policy start after new tells
-  pub still : MadeNothing tells → WasStill before old after new told
+abbrev pub stage : PolicyOf → PostOf → Progress → Stage
+stage policy post report = record { policy = policy; post = post; report = report }
+
+-- what came so far of a turn that began with this policy at this post
+abbrev pub HasCome : PolicyOf → PostOf → Stage → Type 0
+HasCome before start now = HasMoved before start now.policy now.post now.report
+
+-- whatever turn came so far goes on by it
+pub record GoesOn (old new : Stage) : Type 0 where
+  pub same : IsSamePost old.post new.post
+  pub ready : new.report.ready ≡ old.report.ready
+  pub turn : (before : PolicyOf) (start : PostOf) → HasCome before start old → HasCome before start new
 
 -- the last step of a turn: whatever turn came so far ends by it
-abbrev pub EndsTurn : PolicyOf → PostOf → PolicyOf → PostOf → Progress → Progress → Type 0
-EndsTurn before old after new told tells = (policy : PolicyOf) (start : PostOf) → HasMoved policy start before old told → HasEnded policy start after new tells
+abbrev pub EndsTurn : Stage → Stage → Type 0
+EndsTurn old new = (before : PolicyOf) (start : PostOf) → HasCome before start old → HasEnded before start new.policy new.post new.report
 
 -- the node asked this, and it is counted
 pub record IsAsked (e : Event) (old new : PostOf) (told tells : Progress) : Type 0 where

@@ -3,11 +3,11 @@
 ghost use Rattle.std.specs.Prelude.{◌≡◌, ◌<◌, ◌+◌, ◌%◌, ℕ, [], true, false, None, IfOk, IfSome, IsErr, IsOk, IsSome};
 ghost use Rattle.sci_core.specs.{declared.lane.LaneKind.TheVariants.{Answers, Requests}, Node.{node_asking}};
 ghost use Rattle.sci_words.specs.declared.event.Event.TheVariants.{Ask};
-ghost use Rattle.sci_policy.specs.{Policy.{PolicyOf, turned}, Rest.{MayIdle}};
-ghost use Rattle.sci_policy.specs.{Turn.{Counts, MadeNothing, MayPerform, is_idle}, Worker.{HasSameWork, IsNodeTurn}};
-ghost use Rattle.sci_turn.specs.{Posts.{IsStill, node_in, nodes_in}, Moves.{EndsTurn, GoesOn, IsAsked, IsTurn}};
-ghost use Rattle.sci_turn.specs.Far.{AsksAll, HasAskedAll};
-ghost use Rattle.sci_turn.specs.Idle.{AsksNothing, IsIdleTurn, IsReplyHeldUp, TookNone, WasEmpty, WasHeldUp};
+ghost use Rattle.sci_policy.specs.{Policy.{PolicyOf}, Rest.{MayIdle}};
+ghost use Rattle.sci_policy.specs.{Turn.{Counts, MayPerform, is_idle}, Worker.{HasSameWork, IsNodeTurn}};
+ghost use Rattle.sci_turn.specs.{Posts.{IsStill, node_in, nodes_in}, Moves.{EndsTurn, GoesOn, IsAsked, IsTurn, stage}};
+ghost use Rattle.sci_turn.specs.Idle.{IsIdleTurn, WasHeldUp};
+ghost use Rattle.sci_turn.specs.Whole.{Accepts, AcceptsAll, AcceptsFrom, AsksSome, FindsNoAnswer, FindsNoRequest, IsWholeTurn, Replies, Takes, TakesAll, TakesFrom};
 
 use crate::post::Post;
 use sci_core::LaneKind;
@@ -26,7 +26,7 @@ pub fn take_turn<P: Post>(
     requires ready { progress.old.ready ≡ None }
     ensures turn { IsTurn policy.old (P.post post.old) policy.new (P.post post.new) progress.new }
     ensures ready { MayPerform (node_in (P.post post.new)) progress.new.ready }
-    ensures asks { IsOk result → HasAskedAll (turned policy.old) (P.post post.old)
+    ensures whole { IsOk result → IsWholeTurn policy.old (P.post post.old)
         policy.new (P.post post.new) progress.new }
     ensures idle { IsOk result → is_idle progress.new ≡ true →
         IsIdleTurn policy.old (P.post post.old) policy.new (P.post post.new) }
@@ -47,9 +47,10 @@ pub fn take_turn<P: Post>(
 
 /// The answer that waits goes out, if one does and its lane has room.
 fn reply<P: Post>(post: &mut P, progress: &mut Progress) -> Result<(), P::Stop>
-    ensures goes { (policy : PolicyOf) →
-        GoesOn policy (P.post post.old) policy (P.post post.new) progress.old progress.new }
-    ensures idle { IsOk result → MadeNothing progress.new → IsReplyHeldUp (P.post post.new) }
+    ensures goes { (policy : PolicyOf) → GoesOn
+        (stage policy (P.post post.old) progress.old) (stage policy (P.post post.new) progress.new) }
+    ensures replies { IsOk result → (policy : PolicyOf) → Replies
+        (stage policy (P.post post.old) progress.old) (stage policy (P.post post.new) progress.new) }
     ensures stays { P.stays post.old post.new }
     ensures stops { IsErr result → P.may_stop post.new }
 {
@@ -69,10 +70,10 @@ fn reply<P: Post>(post: &mut P, progress: &mut Progress) -> Result<(), P::Stop>
 
 /// Up to four answers from each node are accepted.
 fn accept_all<P: Post>(post: &mut P, progress: &mut Progress) -> Result<(), P::Stop>
-    ensures goes { (policy : PolicyOf) →
-        GoesOn policy (P.post post.old) policy (P.post post.new) progress.old progress.new }
-    ensures idle { IsOk result → MadeNothing progress.new → (from : ℕ) →
-        from < nodes_in (P.post post.old) → WasEmpty Answers from (P.post post.old) (P.post post.new) }
+    ensures goes { (policy : PolicyOf) → GoesOn
+        (stage policy (P.post post.old) progress.old) (stage policy (P.post post.new) progress.new) }
+    ensures accepts { IsOk result → (policy : PolicyOf) → AcceptsAll
+        (stage policy (P.post post.old) progress.old) (stage policy (P.post post.new) progress.new) }
     ensures stays { P.stays post.old post.new }
     ensures stops { IsErr result → P.may_stop post.new }
 {
@@ -89,10 +90,10 @@ fn accept_all<P: Post>(post: &mut P, progress: &mut Progress) -> Result<(), P::S
 /// Up to four answers from a node are accepted.
 fn accept_from<P: Post>(post: &mut P, progress: &mut Progress, from: u8) -> Result<(), P::Stop>
     requires { from < nodes_in (P.post post.old) }
-    ensures goes { (policy : PolicyOf) →
-        GoesOn policy (P.post post.old) policy (P.post post.new) progress.old progress.new }
-    ensures idle { IsOk result → MadeNothing progress.new →
-        WasEmpty Answers from (P.post post.old) (P.post post.new) }
+    ensures goes { (policy : PolicyOf) → GoesOn
+        (stage policy (P.post post.old) progress.old) (stage policy (P.post post.new) progress.new) }
+    ensures accepts { IsOk result → (policy : PolicyOf) → AcceptsFrom from
+        (stage policy (P.post post.old) progress.old) (stage policy (P.post post.new) progress.new) }
     ensures stays { P.stays post.old post.new }
     ensures stops { IsErr result → P.may_stop post.new }
 {
@@ -107,11 +108,12 @@ fn accept_from<P: Post>(post: &mut P, progress: &mut Progress, from: u8) -> Resu
 /// The oldest answer from a node is accepted. False if none has come.
 fn accept<P: Post>(post: &mut P, progress: &mut Progress, from: u8) -> Result<bool, P::Stop>
     requires { from < nodes_in (P.post post.old) }
-    ensures goes { (policy : PolicyOf) →
-        GoesOn policy (P.post post.old) policy (P.post post.new) progress.old progress.new }
-    ensures idle { IfOk result (λ accepted. accepted ≡ false →
-        WasEmpty Answers from (P.post post.old) (P.post post.new)) }
-    ensures told { IfOk result (λ accepted. accepted ≡ true → MadeNothing progress.new → ⊥) }
+    ensures goes { (policy : PolicyOf) → GoesOn
+        (stage policy (P.post post.old) progress.old) (stage policy (P.post post.new) progress.new) }
+    ensures accepts { IfOk result (λ accepted. accepted ≡ true → (policy : PolicyOf) → Accepts from
+        (stage policy (P.post post.old) progress.old) (stage policy (P.post post.new) progress.new)) }
+    ensures none { IfOk result (λ accepted. accepted ≡ false → (policy : PolicyOf) → FindsNoAnswer from
+        (stage policy (P.post post.old) progress.old) (stage policy (P.post post.new) progress.new)) }
     ensures stays { P.stays post.old post.new }
     ensures stops { IsErr result → P.may_stop post.new }
 {
@@ -127,9 +129,10 @@ fn accept<P: Post>(post: &mut P, progress: &mut Progress, from: u8) -> Result<bo
 fn accept_seen<P: Post>(post: &mut P, progress: &mut Progress, from: u8) -> Result<(), P::Stop>
     requires from { from < nodes_in (P.post post.old) }
     requires sees { P.sees post.old Answers from }
-    ensures goes { (policy : PolicyOf) →
-        GoesOn policy (P.post post.old) policy (P.post post.new) progress.old progress.new }
-    ensures told { IsOk result → MadeNothing progress.new → ⊥ }
+    ensures goes { (policy : PolicyOf) → GoesOn
+        (stage policy (P.post post.old) progress.old) (stage policy (P.post post.new) progress.new) }
+    ensures accepts { IsOk result → (policy : PolicyOf) → Accepts from
+        (stage policy (P.post post.old) progress.old) (stage policy (P.post post.new) progress.new) }
     ensures stays { P.stays post.old post.new }
     ensures stops { IsErr result → P.may_stop post.new }
 {
@@ -149,11 +152,10 @@ fn take_all<P: Post>(
     policy: &mut Policy,
     progress: &mut Progress,
 ) -> Result<(), P::Stop>
-    ensures goes { GoesOn policy.old (P.post post.old) policy.new (P.post post.new)
-        progress.old progress.new }
-    ensures idle { IsOk result → MadeNothing progress.new → (from : ℕ) →
-        from < nodes_in (P.post post.old) →
-        TookNone policy.old from (P.post post.old) (P.post post.new) }
+    ensures goes { GoesOn (stage policy.old (P.post post.old) progress.old)
+        (stage policy.new (P.post post.new) progress.new) }
+    ensures takes { IsOk result → TakesAll (stage policy.old (P.post post.old) progress.old)
+        (stage policy.new (P.post post.new) progress.new) }
     ensures stays { P.stays post.old post.new }
     ensures stops { IsErr result → P.may_stop post.new }
 {
@@ -184,10 +186,10 @@ fn take_from<P: Post>(
     from: u8,
 ) -> Result<(), P::Stop>
     requires { from < nodes_in (P.post post.old) }
-    ensures goes { GoesOn policy.old (P.post post.old) policy.new (P.post post.new)
-        progress.old progress.new }
-    ensures idle { IsOk result → MadeNothing progress.new →
-        TookNone policy.old from (P.post post.old) (P.post post.new) }
+    ensures goes { GoesOn (stage policy.old (P.post post.old) progress.old)
+        (stage policy.new (P.post post.new) progress.new) }
+    ensures takes { IsOk result → TakesFrom from (stage policy.old (P.post post.old) progress.old)
+        (stage policy.new (P.post post.new) progress.new) }
     ensures stays { P.stays post.old post.new }
     ensures stops { IsErr result → P.may_stop post.new }
 {
@@ -208,11 +210,12 @@ fn take<P: Post>(
     from: u8,
 ) -> Result<bool, P::Stop>
     requires { from < nodes_in (P.post post.old) }
-    ensures goes { GoesOn policy.old (P.post post.old) policy.new (P.post post.new)
-        progress.old progress.new }
-    ensures idle { IfOk result (λ taken. taken ≡ false →
-        TookNone policy.old from (P.post post.old) (P.post post.new)) }
-    ensures told { IfOk result (λ taken. taken ≡ true → MadeNothing progress.new → ⊥) }
+    ensures goes { GoesOn (stage policy.old (P.post post.old) progress.old)
+        (stage policy.new (P.post post.new) progress.new) }
+    ensures takes { IfOk result (λ taken. taken ≡ true → Takes from
+        (stage policy.old (P.post post.old) progress.old) (stage policy.new (P.post post.new) progress.new)) }
+    ensures none { IfOk result (λ taken. taken ≡ false → FindsNoRequest from
+        (stage policy.old (P.post post.old) progress.old) (stage policy.new (P.post post.new) progress.new)) }
     ensures stays { P.stays post.old post.new }
     ensures stops { IsErr result → P.may_stop post.new }
 {
@@ -237,11 +240,12 @@ fn take_seen<P: Post>(
     requires from { from < nodes_in (P.post post.old) }
     requires free { (node_in (P.post post.old)).waiting ≡ None }
     requires sees { P.sees post.old Requests from }
-    ensures goes { GoesOn policy.old (P.post post.old) policy.new (P.post post.new)
-        progress.old progress.new }
-    ensures idle { IfOk result (λ taken. taken ≡ false →
-        TookNone policy.old from (P.post post.old) (P.post post.new)) }
-    ensures told { IfOk result (λ taken. taken ≡ true → MadeNothing progress.new → ⊥) }
+    ensures goes { GoesOn (stage policy.old (P.post post.old) progress.old)
+        (stage policy.new (P.post post.new) progress.new) }
+    ensures takes { IfOk result (λ taken. taken ≡ true → Takes from
+        (stage policy.old (P.post post.old) progress.old) (stage policy.new (P.post post.new) progress.new)) }
+    ensures none { IfOk result (λ taken. taken ≡ false → FindsNoRequest from
+        (stage policy.old (P.post post.old) progress.old) (stage policy.new (P.post post.new) progress.new)) }
     ensures stays { P.stays post.old post.new }
     ensures stops { IsErr result → P.may_stop post.new }
 {
@@ -265,13 +269,11 @@ fn ask_some<P: Post>(
     progress: &mut Progress,
 ) -> Result<(), P::Stop>
     requires ready { progress.old.ready ≡ None }
-    ensures turn { EndsTurn policy.old (P.post post.old) policy.new (P.post post.new)
-        progress.old progress.new }
+    ensures turn { EndsTurn (stage policy.old (P.post post.old) progress.old)
+        (stage policy.new (P.post post.new) progress.new) }
     ensures ready { MayPerform (node_in (P.post post.new)) progress.new.ready }
-    ensures asks { IsOk result → AsksAll policy.old (P.post post.old) policy.new (P.post post.new)
-        progress.old progress.new }
-    ensures idle { IsOk result → MadeNothing progress.new → progress.new.ready ≡ None →
-        AsksNothing policy.old (P.post post.old) policy.new (P.post post.new) progress.old }
+    ensures asks { IsOk result → AsksSome (stage policy.old (P.post post.old) progress.old)
+        (stage policy.new (P.post post.new) progress.new) }
     ensures stays { P.stays post.old post.new }
     ensures stops { IsErr result → P.may_stop post.new }
 {

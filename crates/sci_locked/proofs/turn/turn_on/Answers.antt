@@ -1,7 +1,6 @@
 use Rattle.std.proofs.Common.{◌≡◌, ℕ, refl, sym, subst, rules}
 use Rattle.sci_core.specs.Core.{Core}
-use Rattle.sci_policy.specs.Policy.{turned}
-use Rattle.sci_turn.specs.{Far.{HasAskedAll}, Posts.{IsPost}}
+use Rattle.sci_turn.specs.{Posts.{IsPost}, Whole.{IsWholeTurn}}
 use Rattle.sci_turn.proofs.{Idling.{may_idle}, Working.{post_after}}
 use Rattle.sci_locked.specs.Lent.{post_at}
 use Rattle.sci_locked.proofs.Lanes.{alone_still}
@@ -13,15 +12,14 @@ returns-clause-turn c = search rules
 pub returns-clause-idle : goal.returns-clause-idle
 returns-clause-idle c = search rules
 
-pub returns-clause-asks : goal.returns-clause-asks
-returns-clause-asks c =
+pub returns-clause-whole : goal.returns-clause-whole
+returns-clause-whole c =
     let post = c.take_turn.new.post in
-    let asked : ℕ → Core → Type 0 =
-    λ n core. HasAskedAll (turned c.args.policy.now) (post_at c.args.node c.args.machine.now) c.take_turn.new.policy (post_at n core)
-    c.take_turn.new.progress in
-    let there : (core : Core) → core ≡ post.machine.now → asked c.args.node core =
-    λ core is. subst (asked c.args.node) (sym is)
-    (subst (λ (n : ℕ). asked n post.machine.now) c.take_turn.ensures.turn.moved.same.me (c.in_ok-take_turn.ensures.asks refl)) in
+    let whole : ℕ → Core → Type 0 =
+    λ n core. IsWholeTurn c.args.policy.now (post_at c.args.node c.args.machine.now) c.take_turn.new.policy (post_at n core) c.take_turn.new.progress in
+    let there : (core : Core) → core ≡ post.machine.now → whole c.args.node core =
+    λ core is. subst (whole c.args.node) (sym is)
+    (subst (λ (n : ℕ). whole n post.machine.now) c.take_turn.ensures.turn.moved.same.me (c.in_ok-take_turn.ensures.whole refl)) in
     there _ (search rules)
 
 pub returns-clause-same : goal.returns-clause-same

@@ -1,8 +1,10 @@
-use Rattle.std.proofs.{Common.{rules, ◌≡◌, ◌<◌, ℕ, refl, sym, subst, arith, inl, inr, []}, lemmas.Bool.{cases_lt}}
-use Rattle.sci_core.specs.{declared.lane.LaneKind.TheVariants.{Answers}, Size.{Size}}
+use Rattle.std.proofs.{Common.{rules, ◌≡◌, ◌<◌, ◌+◌, ◌-◌, ℕ, suc, refl, sym, subst, arith}}
+use Rattle.std.specs.List.{range_with_len}
+use Rattle.sci_core.specs.Size.{Size}
 use Rattle.sci_policy.specs.Policy.{opening_policy}
-use Rattle.sci_turn.specs.{Posts.{IsSamePost, PostOf, lane_to, nodes_in}, Idle.{WasEmpty}}
-use Rattle.sci_turn.proofs.{Moments.{node_stays, so_after, so_now, so_still}, LongerTurns.{goes_then}}
+use Rattle.sci_turn.specs.{Posts.{IsSamePost, PostOf, nodes_in}, Moves.{stage}, Whole.{AcceptsFrom, InTurn}}
+use Rattle.sci_turn.proofs.{Moments.{node_stays}, LongerTurns.{goes_then}, Steps.{passes_empty}}
+use Rattle.sci_turn.proofs.turn.accept_all.Goals.{After-accept_from}
 use Rattle.sci_turn.proofs.turn.accept_all.Goals as goal
 
 -- a node that is there before is one of this many
@@ -10,36 +12,36 @@ below_nodes : (from nodes : ℕ) (old mid : PostOf) → IsSamePost old mid → n
 below_nodes from nodes old mid same is lt = subst (λ (n : ℕ). from < n) (sym is) (subst (λ (size : Size). from < size.nodes) same.size lt)
 
 pub returns-in_err-accept_from-clause-goes : goal.returns-in_err-accept_from-clause-goes
-returns-in_err-accept_from-clause-goes g c =
-    λ policy. goes_then policy policy policy _ _ _ _ _ _ (c.answers.invariant.goes policy) (c.accept_from.ensures.goes policy)
+returns-in_err-accept_from-clause-goes g c = λ policy. goes_then _ _ _ (c.answers.invariant.goes policy) (c.accept_from.ensures.goes policy)
 
 pub answers-preserved : goal.answers-preserved
 answers-preserved g c =
+    let nodes = c.nodes-nodes.result in
     let old = g.P.Post.post c.args.post.now in
     let mid = g.P.Post.post c.answers.post in
-    let new = g.P.Post.post c.accept_from.new.post in
+    let next = c.answers.next in
     let from = c.in-Some.from in
-    let empty : ℕ → PostOf → Type 0 = λ other post. lane_to post Answers other ≡ [] in
     let came = c.answers.invariant.goes opening_policy in
+    let order = c.in-Some.ensures.order in
+    let here : from < nodes = below_nodes from nodes old mid came.same c.nodes-nodes.ensures c.in-Some.ensures.here in
+    let few = c.answers.invariant.few in
+    let there : next + (from - next) ≡ from = omega arith in
+    let left : (from - next) + (nodes - from) ≡ nodes - next = omega arith in
+    let more : nodes - from ≡ suc (nodes - (from + 1)) = omega arith in
     record {
-      goes = λ policy. goes_then policy policy policy _ _ _ _ _ _ (c.answers.invariant.goes policy) (c.accept_from.ensures.goes policy);
+      goes = λ policy. goes_then _ _ _ (c.answers.invariant.goes policy) (c.accept_from.ensures.goes policy);
       stays = search rules;
-      none = λ nothing other some below. (
-          let later = (c.accept_from.ensures.goes opening_policy).still nothing in
-          let earlier = came.still later.nothing in
-          elim (cases_lt other c.answers.next) [
-            | inl before ↦ so_still (empty other) old mid new (c.answers.invariant.none later.nothing other some before) later.post
-            | inr past ↦ elim (cases_lt other from) [
-              | inl passed ↦ so_still (empty other) old mid new
-                  (so_after (empty other) old mid mid earlier.post
-                  (so_now (empty other) mid (c.in-Some.ensures.passed other past (node_stays other old mid came.same some) passed))) later.post
-              | inr here ↦
-                  let same : from ≡ other = omega arith in
-                  subst (λ (j : ℕ). WasEmpty Answers j old new) same
-                  (so_after (empty from) old mid new earlier.post (c.in_ok-accept_from.ensures.idle refl nothing))
-            ]
-          ]);
-      few = (let here = below_nodes from c.nodes-nodes.result old mid came.same c.nodes-nodes.ensures c.in-Some.ensures.here in omega arith);
+      passed = λ policy end rest. (
+          let now = stage policy mid c.answers.progress in
+          c.answers.invariant.passed policy end
+          (subst (λ (n : ℕ). InTurn AcceptsFrom (range_with_len next n) now end) left
+          (passes_empty now end next (from - next) (nodes - from)
+          (λ other some below. c.in-Some.ensures.passed other some (node_stays other old mid came.same (subst (λ (n : ℕ). other < n) c.nodes-nodes.ensures
+          (omega arith))) (subst (λ (k : ℕ). other < k) there below))
+          (subst (λ (k : ℕ). InTurn AcceptsFrom (range_with_len k (nodes - from)) now end) (sym there)
+          (subst (λ (n : ℕ). InTurn AcceptsFrom (range_with_len from n) now end) (sym more)
+          (_, c.in_ok-accept_from.ensures.accepts refl policy, rest))))));
+      few = omega arith;
     }
 
 pub overflow_add-next : goal.overflow_add-next
@@ -54,14 +56,20 @@ answers-smaller g c =
     let order = c.in-Some.ensures.order in
     omega arith
 
-pub returns-clause-idle : goal.returns-clause-idle
-returns-clause-idle g c = λ _ nothing other some.
+pub returns-clause-accepts : goal.returns-clause-accepts
+returns-clause-accepts g c = λ _ policy.
+    let nodes = c.nodes-nodes.result in
     let old = g.P.Post.post c.args.post.now in
     let mid = g.P.Post.post c.answers.post in
-    let empty : PostOf → Type 0 = λ post. lane_to post Answers other ≡ [] in
+    let next = c.answers.next in
     let came = c.answers.invariant.goes opening_policy in
-    elim (cases_lt other c.answers.next) [
-      | inl before ↦ c.answers.invariant.none nothing other some before
-      | inr past ↦ so_after empty old mid mid (came.still nothing).post
-          (so_now empty mid (c.in_default.ensures.passed other past (node_stays other old mid came.same some) tt))
-    ]
+    let few = c.answers.invariant.few in
+    let left : (nodes - next) + 0 ≡ nodes - next = omega arith in
+    let now = stage policy mid c.answers.progress in
+    subst (λ (n : ℕ). InTurn AcceptsFrom (range_with_len 0 n) (stage policy old c.args.progress.now) now) c.nodes-nodes.ensures
+    (c.answers.invariant.passed policy now
+    (subst (λ (n : ℕ). InTurn AcceptsFrom (range_with_len next n) now now) left
+    (passes_empty now now next (nodes - next) 0
+    (λ other some below. c.in_default.ensures.passed other some (node_stays other old mid came.same (subst (λ (n : ℕ). other < n) c.nodes-nodes.ensures
+    (omega arith))) tt)
+    refl)))

@@ -1,8 +1,9 @@
-use Rattle.std.proofs.Common.{refl, sym, subst}
+use Rattle.std.proofs.Common.{ℕ, refl, sym, subst}
 use Rattle.sci_cache.specs.Cache.{letter_of}
 use Rattle.sci_core.specs.declared.lane.LaneKind.TheVariants.{Answers}
-use Rattle.sci_turn.specs.Posts.{MayTake}
-use Rattle.sci_turn.proofs.{AtPosts.{may_accept}, TurnEvents.{goes_accepted}, LongerTurns.{goes_still}}
+use Rattle.sci_policy.specs.Policy.{PolicyOf}
+use Rattle.sci_turn.specs.{Posts.{MayTake}, Moves.{stage}, Whole.{Makes}}
+use Rattle.sci_turn.proofs.{AtPosts.{may_accept}, LongerTurns.{goes_made, goes_still}, Steps.{none_at}, turn.accept_seen.Goals.{After-count}}
 use Rattle.sci_words.specs.declared.event.Event.TheVariants as event
 use Rattle.sci_turn.proofs.turn.accept_seen.Goals as goal
 
@@ -16,12 +17,24 @@ take-requires-clause-may g c =
     )
 
 pub returns-in_err-take-clause-goes : goal.returns-in_err-take-clause-goes
-returns-in_err-take-clause-goes g c =
-    λ policy. goes_still policy (g.P.Post.post c.args.post.now) (g.P.Post.post c.take.new.self) c.args.progress.now c.args.progress.now
-    (c.in_err-take.ensures.cut refl) refl
+returns-in_err-take-clause-goes g c = λ policy. goes_still _ _ (none_at policy c.args.progress.now _ _ (c.in_err-take.ensures.cut refl))
+
+-- the answer is accepted
+accepted : (g : _) (c : After-count g) (policy : PolicyOf) → Makes (event.Accept c.args.from c.me-node.result)
+    (stage policy (g.P.Post.post c.args.post.now) c.args.progress.now) (stage policy (g.P.Post.post c.take.new.self) c.count.new.self)
+accepted g c policy = record {
+  made = (c.in_ok-take.ensures.taken (letter_of c.front-answer.result.now) c.front-answer.ensures).made;
+  decides = refl;
+  counted = c.count.ensures.more;
+}
 
 pub returns-clause-goes : goal.returns-clause-goes
 returns-clause-goes g c = λ policy.
-    goes_accepted policy (g.P.Post.post c.args.post.now) (g.P.Post.post c.take.new.self) c.me-node.result c.args.from (letter_of c.front-answer.result.now)
-    c.args.progress.now c.count.new.self c.me-node.ensures (c.in_ok-take.ensures.taken (letter_of c.front-answer.result.now) c.front-answer.ensures)
-    c.count.ensures.more c.count.ensures.counted
+    goes_made (event.Accept c.args.from c.me-node.result) _ _ (record { own = c.me-node.ensures; kind = refl })
+    (accepted g (goal.at.returns-clause-goes g c).After-count policy) c.count.ensures.counted
+
+pub returns-clause-accepts : goal.returns-clause-accepts
+returns-clause-accepts g c = λ _ policy.
+    subst (λ (n : ℕ). Makes (event.Accept c.args.from n) (stage policy (g.P.Post.post c.args.post.now) c.args.progress.now)
+    (stage policy (g.P.Post.post c.take.new.self) c.count.new.self)) c.me-node.ensures
+    (accepted g (goal.at.returns-clause-accepts g c).After-count policy)

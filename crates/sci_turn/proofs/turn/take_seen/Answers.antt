@@ -1,11 +1,10 @@
-use Rattle.std.proofs.Common.{◌≡◌, None, refl, sym, ap, ◌∙◌, rules}
+use Rattle.std.proofs.Common.{◌≡◌, ℕ, refl, sym, ap, subst, ◌∙◌, rules}
 use Rattle.sci_cache.specs.Cache.{letter_of}
 use Rattle.sci_core.specs.Node.{NodeOf}
-use Rattle.sci_policy.specs.{Policy.{decided}, Turn.{decided_event}}
-use Rattle.sci_policy.proofs.Telling.{tells_something}
-use Rattle.sci_turn.specs.{Posts.{PostOf, node_in}, Moves.{GoesOn, taken_next}}
-use Rattle.sci_turn.proofs.{AtPosts.{may_take}, TurnEvents.{goes_taken, take_is_own}, Moments.{so_now, taken_event}}
-use Rattle.sci_turn.proofs.{LongerTurns.{goes_still, goes_then}, turn.take_seen.Goals.{After-reply}}
+use Rattle.sci_policy.specs.{Policy.{decided}, Turn.{IsTurnEvent, decided_event}}
+use Rattle.sci_turn.specs.{Posts.{node_in}, Moves.{GoesOn, stage}, Whole.{Makes}}
+use Rattle.sci_turn.proofs.{AtPosts.{may_take}, TurnEvents.{makes_taken, take_is_own, takes_by}, Moments.{taken_event}}
+use Rattle.sci_turn.proofs.{LongerTurns.{goes_made, goes_still, goes_then}, Steps.{none_at, none_itself}, turn.take_seen.Goals.{After-reply}}
 use Rattle.sci_turn.proofs.turn.take_seen.Goals as goal
 
 pub take-requires-clause-may : goal.take-requires-clause-may
@@ -20,20 +19,26 @@ take-requires-clause-may g c =
     )
 
 pub returns-in_err-take-clause-goes : goal.returns-in_err-take-clause-goes
-returns-in_err-take-clause-goes g c =
-    goes_still c.args.policy.now (g.P.Post.post c.args.post.now) (g.P.Post.post c.take.new.self) c.args.progress.now c.args.progress.now
-    (c.in_err-take.ensures.cut refl) refl
+returns-in_err-take-clause-goes g c = goes_still _ _ (none_at c.args.policy.now c.args.progress.now _ _ (c.in_err-take.ensures.cut refl))
 
--- the request is taken, and its answer sent
-served : (g : _) (c : After-reply g) → GoesOn c.args.policy.now (g.P.Post.post c.args.post.now) c.served.new.self (g.P.Post.post c.reply.new.post)
-    c.args.progress.now c.reply.new.progress
-served g c =
+-- the request is taken
+taken : (g : _) (c : After-reply g) → Makes c.in-Some.event (stage c.args.policy.now (g.P.Post.post c.args.post.now) c.args.progress.now)
+    (stage c.served.new.self (g.P.Post.post c.take.new.self) c.count.new.self)
+taken g c =
     let request = letter_of c.front-request.result.now in
     let decides = ap (λ (m : NodeOf). decided c.args.policy.now m request) (sym c.node.ensures.node) ∙ sym c.decide.ensures in
-    goes_then _ c.served.new.self c.served.new.self _ (g.P.Post.post c.take.new.self) _ _ c.count.new.self _
-    (goes_taken c.args.policy.now c.served.new.self _ (g.P.Post.post c.take.new.self) c.me-me.result c.args.from c.decide.result c.in-Some.event request
+    makes_taken c.args.policy.now c.served.new.self _ (g.P.Post.post c.take.new.self) c.me-me.result c.args.from c.decide.result c.in-Some.event request
     c.args.progress.now c.count.new.self c.me-me.ensures c.requires.free decides c.in-Some.ensures
-    (c.in_ok-take.ensures.taken request c.front-request.ensures) c.served.ensures c.count.ensures.more c.count.ensures.counted)
+    (c.in_ok-take.ensures.taken request c.front-request.ensures) c.served.ensures c.count.ensures.more
+
+-- and its answer sent
+served : (g : _) (c : After-reply g) → GoesOn (stage c.args.policy.now (g.P.Post.post c.args.post.now) c.args.progress.now)
+    (stage c.served.new.self (g.P.Post.post c.reply.new.post) c.reply.new.progress)
+served g c =
+    goes_then _ _ _
+    (goes_made c.in-Some.event _ _
+    (subst (λ (n : ℕ). IsTurnEvent n c.in-Some.event) c.me-me.ensures
+    (take_is_own c.decide.result c.args.from c.me-me.result c.in-Some.event c.in-Some.ensures)) (taken g c) c.count.ensures.counted)
     (c.reply.ensures.goes c.served.new.self)
 
 pub returns-in_err-reply-clause-goes : goal.returns-in_err-reply-clause-goes
@@ -42,22 +47,25 @@ returns-in_err-reply-clause-goes g c = served g (goal.at.returns-in_err-reply-cl
 pub returns-clause-goes : goal.returns-clause-goes
 returns-clause-goes g c = served g (goal.at.returns-clause-goes g c).After-reply
 
-pub returns-clause-told : goal.returns-clause-told
-returns-clause-told g c = λ _ nothing.
-    let earlier = (c.reply.ensures.goes c.served.new.self).still nothing in
-    tells_something c.me-me.result c.in-Some.event c.args.progress.now c.count.new.self
-    (take_is_own c.decide.result c.args.from c.me-me.result c.in-Some.event c.in-Some.ensures) c.count.ensures.more earlier.nothing
+pub returns-clause-takes : goal.returns-clause-takes
+returns-clause-takes g c = λ _. record {
+  taken = stage c.served.new.self (g.P.Post.post c.take.new.self) c.count.new.self;
+  takes = takes_by c.decide.result c.args.from (g.P.Post.post c.args.post.now).me c.in-Some.event _ _
+      (c.in-Some.ensures ∙ ap (decided_event c.decide.result c.args.from) c.me-me.ensures) (taken g (goal.at.returns-clause-takes g c).After-reply);
+  replies = c.in_ok-reply.ensures.replies refl c.served.new.self;
+}
 
 pub returns-in_default-clause-goes : goal.returns-in_default-clause-goes
 returns-in_default-clause-goes g c = search rules
 
-pub returns-in_default-clause-idle : goal.returns-in_default-clause-idle
-returns-in_default-clause-idle g c = λ _.
+pub returns-in_default-clause-none : goal.returns-in_default-clause-none
+returns-in_default-clause-none g c = λ _.
     let post = g.P.Post.post c.args.post.now in
     let request = letter_of c.front-request.result.now in
     let decides : decided c.args.policy.now (node_in post) request ≡ c.decide.result =
-    ap (λ (m : NodeOf). decided c.args.policy.now m request) (sym c.node.ensures.node) ∙ sym c.decide.ensures in
-    so_now (λ (x : PostOf). taken_next c.args.policy.now x.core c.args.from x.me ≡ None) post
-    (taken_event c.args.policy.now c.args.from post request c.front-request.ensures c.requires.free
-    ∙ (ap (λ d. decided_event d c.args.from post.me) decides
-    ∙ (ap (decided_event c.decide.result c.args.from) (sym c.me-me.ensures) ∙ (sym c.event.ensures ∙ c.in_default.is))))
+    ap (λ (m : NodeOf). decided c.args.policy.now m request) (sym c.node.ensures.node) ∙ sym c.decide.ensures in (
+      none_itself (stage c.args.policy.now post c.args.progress.now),
+      taken_event c.args.policy.now c.args.from post request c.front-request.ensures c.requires.free
+          ∙ (ap (λ d. decided_event d c.args.from post.me) decides
+          ∙ (ap (decided_event c.decide.result c.args.from) (sym c.me-me.ensures) ∙ (sym c.event.ensures ∙ c.in_default.is))),
+    )

@@ -1,10 +1,10 @@
-use Rattle.std.proofs.Common.{◌≡◌, [], None, refl, sym, subst, ◌∙◌}
+use Rattle.std.proofs.Common.{◌≡◌, ◌≤◌, [], None, refl, sym, ap, subst, ◌∙◌, arith}
 use Rattle.sci_policy.specs.{declared.progress.Progress.{Progress}, Policy.{PolicyOf, turned}}
 use Rattle.sci_policy.specs.{Turn.{Counts, MayPerform}, Worker.{HasSameWork, IsNodeTurn}}
 use Rattle.sci_policy.proofs.Telling.{idle_tells}
-use Rattle.sci_turn.specs.{Posts.{IsPost, PostOf, node_in}, Moves.{GoesOn, HasEnded, HasMoved, IsTurn}}
-use Rattle.sci_turn.specs.Far.{HasAskedAll}
-use Rattle.sci_turn.proofs.{Idling.{idle_turn, may_idle}, LongerTurns.{ends_there, goes_then, turn_begins}}
+use Rattle.sci_turn.specs.{Posts.{IsPost, PostOf, node_in, nodes_in}, Moves.{GoesOn, HasEnded, HasMoved, IsTurn, Stage, stage}}
+use Rattle.sci_turn.specs.Whole.{Replies, no_progress}
+use Rattle.sci_turn.proofs.{Idling.{may_idle}, LongerTurns.{ends_there, goes_then, turn_begins}, Wholes.{idles, nothing_yet}}
 use Rattle.sci_turn.proofs.Working.{node_turn, post_after, turn_work}
 use Rattle.sci_turn.proofs.turn.take_turn.Goals.{After-reply, After-accept_all, After-take_all}
 use Rattle.sci_turn.proofs.turn.take_turn.Goals as goal
@@ -17,7 +17,7 @@ record Came (before : PolicyOf) (old : PostOf) (after : PolicyOf) (new : PostOf)
   work : HasSameWork (node_in old) (node_in new)
 
 came : (before begun after : PolicyOf) (old new : PostOf) (told tells : Progress) → begun ≡ turned before → Counts [] told → told.ready ≡ None → IsPost old
-    → GoesOn begun old after new told tells → Came before old after new tells
+    → GoesOn (stage begun old told) (stage after new tells) → Came before old after new tells
 came before begun after old new told tells begins nothing none here goes =
     let turn : IsTurn before old after new tells =
     subst (λ (p : PolicyOf). HasEnded p old after new tells) begins
@@ -39,13 +39,13 @@ accepted : (g : _) (c : After-accept_all g)
     → Came c.args.policy.now (g.P.Post.post c.args.post.now) c.begin_turn.new.self (g.P.Post.post c.accept_all.new.post) c.accept_all.new.progress
 accepted g c = let p = c.begin_turn.new.self in
     came _ p _ _ _ c.args.progress.now _ c.begin_turn.ensures c.requires.nothing c.requires.ready c.node-here.ensures.post
-    (goes_then p p p _ _ _ _ _ _ (c.reply.ensures.goes p) (c.accept_all.ensures.goes p))
+    (goes_then _ _ _ (c.reply.ensures.goes p) (c.accept_all.ensures.goes p))
 
 -- the steps before the policy is asked
-taken_goes : (g : _) (c : After-take_all g) → GoesOn c.begin_turn.new.self (g.P.Post.post c.args.post.now) c.take_all.new.policy
-    (g.P.Post.post c.take_all.new.post) c.args.progress.now c.take_all.new.progress
+taken_goes : (g : _) (c : After-take_all g) → GoesOn (stage c.begin_turn.new.self (g.P.Post.post c.args.post.now) c.args.progress.now)
+    (stage c.take_all.new.policy (g.P.Post.post c.take_all.new.post) c.take_all.new.progress)
 taken_goes g c = let p = c.begin_turn.new.self in
-    goes_then _ _ _ _ _ _ _ _ _ (goes_then p p p _ _ _ _ _ _ (c.reply.ensures.goes p) (c.accept_all.ensures.goes p)) c.take_all.ensures.goes
+    goes_then _ _ _ (goes_then _ _ _ (c.reply.ensures.goes p) (c.accept_all.ensures.goes p)) c.take_all.ensures.goes
 
 taken_moved : (g : _) (c : After-take_all g) → HasMoved c.begin_turn.new.self (g.P.Post.post c.args.post.now) c.take_all.new.policy
     (g.P.Post.post c.take_all.new.post) c.take_all.new.progress
@@ -100,18 +100,29 @@ returns-clause-turn g c =
     subst (λ (p : PolicyOf). HasEnded p (g.P.Post.post c.args.post.now) c.ask_some.new.policy (g.P.Post.post c.ask_some.new.post) c.ask_some.new.progress)
     c.begin_turn.ensures (c.ask_some.ensures.turn _ _ (taken_moved g (goal.at.returns-clause-turn g c).After-take_all))
 
+pub returns-clause-whole : goal.returns-clause-whole
+returns-clause-whole g c = λ ok.
+    let start = stage c.begin_turn.new.self (g.P.Post.post c.args.post.now) c.args.progress.now in
+    let replied = stage c.begin_turn.new.self (g.P.Post.post c.reply.new.post) c.reply.new.progress in
+    let begins : start ≡ stage (turned c.args.policy.now) (g.P.Post.post c.args.post.now) no_progress =
+    ap (λ (p : PolicyOf). stage p (g.P.Post.post c.args.post.now) c.args.progress.now) c.begin_turn.ensures
+    ∙ ap (stage (turned c.args.policy.now) (g.P.Post.post c.args.post.now)) (nothing_yet c.args.progress.now c.requires.nothing c.requires.ready) in
+    record {
+      replied = replied;
+      accepted = stage c.begin_turn.new.self (g.P.Post.post c.accept_all.new.post) c.accept_all.new.progress;
+      taken = stage c.take_all.new.policy (g.P.Post.post c.take_all.new.post) c.take_all.new.progress;
+      replies = subst (λ (s : Stage). Replies s replied) begins (c.in_ok-reply.ensures.replies refl c.begin_turn.new.self);
+      accepts = c.in_ok-accept_all.ensures.accepts refl c.begin_turn.new.self;
+      takes = c.in_ok-take_all.ensures.takes refl;
+      asks = c.ask_some.ensures.asks ok;
+    }
+
 pub returns-clause-idle : goal.returns-clause-idle
 returns-clause-idle g c = λ ok idle.
-    let policy = c.begin_turn.new.self in
     let tells = idle_tells c.ask_some.new.progress idle in
-    let asks = c.ask_some.ensures.idle ok tells.0 tells.1 in
-    let third = c.take_all.ensures.goes.still asks.nothing in
-    let second = (c.accept_all.ensures.goes policy).still third.nothing in
-    let first = (c.reply.ensures.goes policy).still second.nothing in
-    idle_turn c.args.policy.now policy c.take_all.new.policy c.ask_some.new.policy (g.P.Post.post c.args.post.now) (g.P.Post.post c.reply.new.post)
-    (g.P.Post.post c.accept_all.new.post) (g.P.Post.post c.take_all.new.post) (g.P.Post.post c.ask_some.new.post) c.take_all.new.progress
-    c.begin_turn.ensures first.post second.post third.post third.policy (c.in_ok-reply.ensures.idle refl second.nothing)
-    (c.in_ok-accept_all.ensures.idle refl third.nothing) (c.in_ok-take_all.ensures.idle refl asks.nothing) asks
+    let some : 1 ≤ nodes_in (g.P.Post.post c.args.post.now) = (let here = c.node-here.ensures.post.some in omega arith) in
+    idles c.args.policy.now (g.P.Post.post c.args.post.now) c.ask_some.new.policy (g.P.Post.post c.ask_some.new.post) c.ask_some.new.progress some
+    (returns-clause-whole g c ok) tells.0 tells.1
 
 pub returns-clause-rest : goal.returns-clause-rest
 returns-clause-rest g c = λ ok idle.
@@ -129,9 +140,12 @@ pub returns-clause-work : goal.returns-clause-work
 returns-clause-work g c = turn_work c.args.policy.now (g.P.Post.post c.args.post.now) c.ask_some.new.policy (g.P.Post.post c.ask_some.new.post)
     c.ask_some.new.progress c.node-here.ensures.post (returns-clause-turn g c) c.ask_some.ensures.ready
 
--- ---- how far the turn goes
+-- ---- what stays
 
-pub returns-clause-asks : goal.returns-clause-asks
-returns-clause-asks g c = λ ok.
-    subst (λ (p : PolicyOf). HasAskedAll p (g.P.Post.post c.args.post.now) c.ask_some.new.policy (g.P.Post.post c.ask_some.new.post) c.ask_some.new.progress)
-    c.begin_turn.ensures (c.ask_some.ensures.asks ok _ _ (taken_moved g (goal.at.returns-clause-asks g c).After-take_all))
+pub returns-clause-stays : goal.returns-clause-stays
+returns-clause-stays g c =
+    let through = g.met.P.Post.stays_through in
+    through c.args.post.now c.take_all.new.post c.ask_some.new.post
+    (through c.args.post.now c.accept_all.new.post c.take_all.new.post
+    (through c.args.post.now c.reply.new.post c.accept_all.new.post c.reply.ensures.stays c.accept_all.ensures.stays) c.take_all.ensures.stays)
+    c.ask_some.ensures.stays

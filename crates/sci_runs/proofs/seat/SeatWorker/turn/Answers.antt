@@ -1,6 +1,6 @@
 use Rattle.std.proofs.Common.{◌≡◌, refl}
 use Rattle.sci_turn.proofs.Moments.{if_ok_map}
-use Rattle.sci_runs.specs.{Deeds.{IsWholeTurn}, Goings.{unlost}, Recorded.{course_of}}
+use Rattle.sci_runs.specs.{Deeds.{IsTurnDone}, Goings.{unlost}, Recorded.{course_of}}
 use Rattle.sci_runs.proofs.Playing.{TakesUnlost, goes_turning, takes_turn}
 use Rattle.sci_runs.proofs.seat.SeatWorker.turn.Goals as goal
 
@@ -11,8 +11,8 @@ returns-clause-turned c =
     let old = seat.recorder.now in
     let new = c.turn_on.new.recorder in
     let told = c.turn_on.ensures in
-    let goes = goes_turning c.turn_on.result seat.node seat.policy.now policy old new told.keeps told.whole told.lost told.so_far in
-    if_ok_map (IsWholeTurn seat.node seat.policy.now (course_of old) policy (course_of new))
+    let goes = goes_turning c.turn_on.result seat.node seat.policy.now policy old new told.keeps told.done told.lost told.part in
+    if_ok_map (IsTurnDone seat.node seat.policy.now (course_of old) policy (course_of new))
     (λ _. (seat.node ≡ seat.node) × TakesUnlost seat.node 1 seat.policy.now old policy new) c.turn_on.result
     (λ progress whole. (
       refl,
@@ -21,7 +21,7 @@ returns-clause-turned c =
         takes_turn seat.node seat.policy.now policy (course_of old) (course_of new) progress whole,
       ),
     ))
-    told.whole
+    told.done
 
 pub returns-clause-stays : goal.returns-clause-stays
 returns-clause-stays c =
@@ -31,6 +31,6 @@ returns-clause-stays c =
       refl,
       refl,
       told.spares,
-      goes_turning c.turn_on.result seat.node seat.policy.now c.turn_on.new.policy seat.recorder.now c.turn_on.new.recorder told.keeps told.whole told.lost
-          told.so_far,
+      goes_turning c.turn_on.result seat.node seat.policy.now c.turn_on.new.policy seat.recorder.now c.turn_on.new.recorder told.keeps told.done told.lost
+          told.part,
     )

@@ -1,8 +1,8 @@
 use Rattle.std.proofs.Common.{refl, ap, subst}
 use Rattle.sci_core.specs.Node.{NodeOf}
-use Rattle.sci_policy.specs.{Policy.{turned}, Rest.{MayIdle}, Turn.{MayPerform}, Worker.{HasSameWork, IsNodeTurn}}
+use Rattle.sci_policy.specs.{Rest.{MayIdle}, Turn.{MayPerform}, Worker.{HasSameWork, IsNodeTurn}}
 use Rattle.sci_lanes.specs.Ends.{EndOf}
-use Rattle.sci_turn.specs.Far.{HasAskedAll}
+use Rattle.sci_turn.specs.Whole.{IsWholeTurn}
 use Rattle.sci_station.specs.{Posts.{StationPostOf, post_of}, Station.{StationOf}}
 use Rattle.sci_station.proofs.Posts.{node_there, turned_so}
 use Rattle.sci_station.proofs.station.Station.turn.Goals as goal
@@ -22,11 +22,11 @@ returns-clause-work c = turned_so HasSameWork _ c.args.self.now c.allow.new.self
 pub returns-clause-rest : goal.returns-clause-rest
 returns-clause-rest c = λ idle. subst MayIdle (node_there c.take_turn.new.post.end.part c.left-left.ensures.shown) (c.in-Ok.ensures.rest refl idle)
 
-pub returns-clause-asks : goal.returns-clause-asks
-returns-clause-asks c =
+pub returns-clause-whole : goal.returns-clause-whole
+returns-clause-whole c =
     let new = c.take_turn.new.post.end in
     let policy = c.take_turn.new.policy in
     let progress = c.take_turn.new.progress in
-    subst (λ (s : StationOf). HasAskedAll (turned s.policy) (post_of s.end) policy (post_of new) progress) c.self.view_is
-    (subst (λ (e : EndOf). HasAskedAll (turned c.self.inside.policy) (post_of e) policy (post_of new) progress)
-    (ap (λ (p : StationPostOf). p.end) c.allow.ensures.allowed) (c.in-Ok.ensures.asks refl))
+    subst (λ (s : StationOf). IsWholeTurn s.policy (post_of s.end) policy (post_of new) progress) c.self.view_is
+    (subst (λ (e : EndOf). IsWholeTurn c.self.inside.policy (post_of e) policy (post_of new) progress)
+    (ap (λ (p : StationPostOf). p.end) c.allow.ensures.allowed) (c.in-Ok.ensures.whole refl))
