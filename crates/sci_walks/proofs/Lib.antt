@@ -1,1 +1,3 @@
 pub mod RandomWalks
+pub mod QuickLooks
+pub mod Walks

@@ -1,10 +1,11 @@
 //! Walks: schedules whose events are drawn by chance, mostly among the enabled ones.
 
-ghost use Rattle.std.specs.Prelude.{◌≡◌, ◌<◌, ◌≤◌, ◌+◌, ◌⊎◌, ℕ, IfOk, IfErr, IfSome, length};
-ghost use Rattle.sci_words.specs.declared.limits.TheConstants.{MAX_EVENTS};
-ghost use Rattle.sci_core.specs.Core.{node_of as node_of_event};
+ghost use Rattle.std.specs.Prelude.{◌≡◌, ◌<◌, ◌≤◌, ◌+◌, ◌%◌, ℕ, false, None, IfOk, IfErr, IfSome, length};
+ghost use Rattle.sci_words.specs.declared.limits.TheConstants.{MAX_EVENTS, MAX_OPERATIONS};
+ghost use Rattle.sci_cache.specs.{Asking.{asking}, Held.{state_of}};
+ghost use Rattle.sci_core.specs.{Core.{step, stepping}, Size.{size_of}};
 ghost use Rattle.sci_text.specs.{declared.fault.TextFaultKind.TheVariants.{Memory}, Schedule.{IsEventWithin}};
-ghost use Rattle.sci_walks.specs.RandomAnswer.{IsWalked};
+ghost use Rattle.sci_walks.specs.{RandomAnswer.{IsWalked}, Walking.{IsDrawn, IsFound, IsNext, moved_to}};
 
 use sci_cache::Held;
 use sci_chance::{Random, any_kind, any_line, any_operation};
@@ -21,8 +22,7 @@ const DRAWS: u16 = 10_000;
 fn turn(first: u8, steps: u8, nodes: u8) -> u8
     requires first { first < nodes }
     requires steps { steps < nodes }
-    ensures within { result < nodes }
-    ensures circle { (result ≡ first + steps) ⊎ (result + nodes ≡ first + steps) }
+    ensures { result ≡ (first + steps) % nodes }
 {
     let left = nodes - first;
     if steps < left {
@@ -34,7 +34,8 @@ fn turn(first: u8, steps: u8, nodes: u8) -> u8
 
 /// Any event of a machine of this size. First its sort is drawn, and then what it has beside.
 fn any_event(random: &mut Random, extent: Extent) -> Event
-    ensures { IsEventWithin extent.nodes extent.lines result }
+    ensures drawn { IsDrawn extent.nodes extent.lines random.old result random.new }
+    ensures within { IsEventWithin extent.nodes extent.lines result }
 {
     let sort = random.below(10);
     let (node, from) = (random.below(extent.nodes), random.below(extent.nodes));
@@ -59,7 +60,8 @@ fn any_event(random: &mut Random, extent: Extent) -> Event
 
 /// The same event at another node.
 fn moved(event: Event, node: u8) -> Event
-    ensures { (nodes lines : ℕ) → IsEventWithin nodes lines event → node < nodes →
+    ensures moved { result ≡ moved_to node event }
+    ensures within { (nodes lines : ℕ) → IsEventWithin nodes lines event → node < nodes →
         IsEventWithin nodes lines result }
 {
     match event {
@@ -74,7 +76,9 @@ fn moved(event: Event, node: u8) -> Event
 }
 
 /// Whether a state is one that may ask this kind: false only if it doesn't ask it.
-fn may_ask(held: &Held, kind: AskKind) -> bool {
+fn may_ask(held: &Held, kind: AskKind) -> bool
+    ensures { result ≡ false → asking (state_of held.now) kind ≡ None }
+{
     match held {
         Held::Out(_) => matches!(kind, AskKind::Mread | AskKind::Fread),
         Held::Joining(_) | Held::FreshJoining(_) => matches!(kind, AskKind::Cread),
@@ -86,115 +90,65 @@ fn may_ask(held: &Held, kind: AskKind) -> bool {
     }
 }
 
-/// Whether a packet is under way from one node to another. None is if there are no such nodes.
-fn is_under_way(machine: &Machine, kind: LaneKind, from: u8, to: u8) -> bool {
-    let nodes = machine.extent().nodes;
-    from < nodes && to < nodes && machine.count(kind, from, to) > 0
-}
-
-/// The circle of all nodes, from one of them on.
-#[derive(Clone, Copy)]
-struct Circle {
-    first: u8,
-    nodes: u8,
-}
-
-/// How many steps behind the first node of a circle, and no fewer than this many, a node stands that passes. None if there is
-/// none in the circle.
-fn steps_to_one<F: Fn(&Node) -> bool>(
-    machine: &Machine,
-    circle: Circle,
-    least: u8,
-    passes: F,
-) -> Option<u8>
-    requires first { circle.first < circle.nodes }
-    requires callable { F.IsAlwaysCallable passes }
-    ensures { IfSome result (λ steps. steps < circle.nodes) }
+/// Whether an event may be enabled at a node in place of its own, as far as a quick look shows: false only if it isn't.
+/// Requires that there is such a node, and that the event is one of the machine.
+fn may_happen(machine: &Machine, event: &Event, n: u8) -> bool
+    requires node { n < machine.now.size.nodes }
+    requires within { IsEventWithin machine.now.size.nodes machine.now.size.lines event.now }
+    ensures { result ≡ false → stepping machine.now (moved_to n event.now) ≡ None }
 {
-    for steps in least..circle.nodes {
-        let n = turn(circle.first, steps, circle.nodes);
-        if n < machine.extent().nodes && passes(machine.node(n)) {
-            return Some(steps);
-        }
-    }
-    None
-}
-
-/// How many steps behind an event's own node, and no fewer than this many, the first node stands where the event may be
-/// enabled, as far as a quick look tells: a node that is passed over doesn't enable it. None if there is none in the circle
-/// of all nodes. Each sort of event has its own walk, since most draws walk the whole circle.
-fn steps_to(machine: &Machine, event: &Event, least: u8, extent: Extent) -> Option<u8>
-    requires { node_of_event event.now < extent.nodes }
-    ensures { IfSome result (λ steps. steps < extent.nodes) }
-{
-    let circle = Circle {
-        first: node_of(event),
-        nodes: extent.nodes,
-    };
+    let node = machine.node(n);
     match *event {
-        Event::Issue { op, .. } => {
-            steps_to_one(machine, circle, least, |node| node.may_issue(&op))
-        }
-        Event::Perform { line, .. } => {
-            steps_to_one(machine, circle, least, |node| node.may_perform(line))
-        }
-        Event::Ask { line, kind, .. } => steps_to_one(machine, circle, least, |node| {
-            line < node.extent().lines && may_ask(node.held(line), kind)
-        }),
+        Event::Issue { op, .. } => node.may_issue(&op),
+        Event::Perform { line, .. } => node.may_perform(line),
+        Event::Ask { line, kind, .. } => may_ask(node.held(line), kind),
         Event::Serve { from, .. } | Event::Refuse { from, .. } => {
-            steps_to_one(machine, circle, least, |node| {
-                node.waiting().is_none()
-                    && is_under_way(machine, LaneKind::Requests, from, node.me())
-            })
+            node.waiting().is_none() && machine.count(LaneKind::Requests, from, n) > 0
         }
-        Event::Reply { .. } => {
-            steps_to_one(machine, circle, least, |node| node.waiting().is_some())
-        }
-        Event::Accept { from, .. } => steps_to_one(machine, circle, least, |node| {
-            is_under_way(machine, LaneKind::Answers, from, node.me())
-        }),
+        Event::Reply { .. } => node.waiting().is_some(),
+        Event::Accept { from, .. } => machine.count(LaneKind::Answers, from, n) > 0,
     }
 }
 
 /// Goes round the circle of nodes, from an event's own on, up to one at which the event is enabled, and applies it there.
-/// None if it is enabled at no node. Refused if memory is.
-fn enabled_somewhere(
-    machine: &mut Machine,
-    first: Event,
-    extent: Extent,
-) -> Result<Option<Event>, AllocError>
-    requires { IsEventWithin extent.nodes extent.lines first }
-    ensures { IfOk result (λ found. IfSome found (IsEventWithin extent.nodes extent.lines)) }
+/// None, unchanged, if it is enabled at no node. Refused if memory is.
+fn enabled_somewhere(machine: &mut Machine, first: Event) -> Result<Option<Event>, AllocError>
+    requires { IsEventWithin machine.old.size.nodes machine.old.size.lines first }
+    ensures found { IfOk result (IsFound machine.old first) }
+    ensures within { IfOk result (λ found. IfSome found
+        (IsEventWithin machine.old.size.nodes machine.old.size.lines)) }
+    ensures step { IfOk result (λ found. IfSome found
+        (λ event. machine.new ≡ step machine.old event)) }
+    ensures same { IfOk result (λ found. found ≡ None → machine.new ≡ machine.old) }
 {
+    let nodes = machine.extent().nodes;
     let own = node_of(&first);
-    let mut from = 0;
-    for _place in 0..extent.nodes {
-        let Some(steps) = steps_to(machine, &first, from, extent) else {
-            return Ok(None);
-        };
-        let event = moved(first, turn(own, steps, extent.nodes));
-        if applied(machine, &event)? {
-            return Ok(Some(event));
+    for steps in 0..nodes {
+        let n = turn(own, steps, nodes);
+        if may_happen(machine, &first, n) {
+            let event = moved(first, n);
+            if applied(machine, &event)? {
+                return Ok(Some(event));
+            }
         }
-        from = steps + 1;
     }
     Ok(None)
 }
 
 /// The next event of a walk, which is applied. In `share` of a hundred it is any event. Else events are drawn until one is
 /// enabled at some node; if none of ten thousand is, any event comes. Refused if memory is.
-fn next_event(
-    random: &mut Random,
-    machine: &mut Machine,
-    extent: Extent,
-    share: u8,
-) -> Result<Event, AllocError>
-    ensures { IfOk result (IsEventWithin extent.nodes extent.lines) }
+fn next_event(random: &mut Random, machine: &mut Machine, share: u8) -> Result<Event, AllocError>
+    ensures next { IfOk result
+        (λ event. IsNext share machine.old random.old event random.new) }
+    ensures within { IfOk result (IsEventWithin machine.old.size.nodes machine.old.size.lines) }
+    ensures step { IfOk result (λ event. machine.new ≡ step machine.old event) }
+    ensures size { IfOk result (λ _. machine.new.size ≡ machine.old.size) }
 {
+    let extent = machine.extent();
     if !random.in_hundred(share) {
         for _draw in 0..DRAWS {
             let first = any_event(random, extent);
-            if let Some(event) = enabled_somewhere(machine, first, extent)? {
+            if let Some(event) = enabled_somewhere(machine, first)? {
                 return Ok(event);
             }
         }
@@ -214,8 +168,7 @@ pub fn schedule_of(
     seed: u64,
 ) -> Result<Schedule, TextFault>
     requires { count ≤ MAX_EVENTS }
-    ensures walked { IfOk result
-        (IsWalked extent.nodes extent.lines extent.slots count) }
+    ensures walked { IfOk result (IsWalked (size_of extent MAX_OPERATIONS) seed share count) }
     ensures line { IfErr result (λ fault. fault.line ≡ 0) }
     ensures kind { IfErr result (λ fault. fault.kind ≡ Memory) }
 {
@@ -223,7 +176,7 @@ pub fn schedule_of(
     let mut machine = Machine::new(alloc, extent, MAX_OPERATIONS)?;
     let mut schedule = Schedule::new(alloc, extent);
     for _event in 0..count {
-        let event = next_event(&mut random, &mut machine, extent, share)?;
+        let event = next_event(&mut random, &mut machine, share)?;
         if let Err(fault) = schedule.push(event) {
             return Err(TextFault {
                 line: 0,
