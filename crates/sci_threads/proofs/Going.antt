@@ -1,16 +1,21 @@
 -- Shares that go on.
-use Rattle.std.proofs.Common.{◌≡◌, ◌<◌, ℕ, List, All, length, refl, sym, ap, subst, ◌∙◌, inl, inr, Bool, true, IfOk, Result, arith}
-use Rattle.std.proofs.lemmas.{Bool.{cases_eq}, List.{get_or-set_same, get_or-set_other}}
+use Rattle.std.proofs.Common.{◌≡◌, ◌<◌, ◌≤◌, ◌+◌, ℕ, List, [], ◌∷◌, ◌++◌, append_assoc, All, length, refl, sym, ap, subst, ◌∙◌, inl, inr, arith}
+use Rattle.std.proofs.Common.{Bool, true, IfOk, Result, Ok, Err}
+use Rattle.std.proofs.lemmas.{Bool.{cases_eq}, List.{append-nil, get_or-set_same, get_or-set_other, Sums.{sum_by-append}}}
 use Rattle.std.proofs.lemmas.{Option.{get_or_from_slice_get, slice_get-get_or}, Result.{IfOk-weaker}}
-use Rattle.std.specs.Prelude.{slice_index_or, slice_set}
+use Rattle.std.specs.{Prelude.{◌⊎◌, IsOk, OnOk, slice_index_or, slice_set}}
+use Rattle.std.specs.declared.alloc.AllocError.{AllocError}
 use Rattle.sci_words.specs.declared.operation.Op.{Op}
 use Rattle.sci_history.specs.Sequential.{IsInProgramOrder}
+use Rattle.sci_core.specs.Node.{NodeOf}
 use Rattle.sci_lanes.specs.{Ends.{EndOf}, Shown.{me_of}}
-use Rattle.sci_drive.specs.{declared.driver.Issuing.{Issuing, TheVariants.{InOrder}}, Driving.{DriverOf}}
-use Rattle.sci_drive.specs.Script.{IsFrontOf, IsLogOf, IsWholeLogOf}
-use Rattle.sci_drive.proofs.Drives.{log_of, whole_of}
+use Rattle.sci_drive.specs.{declared.driver.Issuing.{Issuing, TheVariants.{InOrder}}, Calls.{AllDone, Call, EndWithAllDone, IsHeard}}
+use Rattle.sci_drive.specs.{Driving.{DriverOf, IsInOrder}, Rounds.{GoRounds}, Script.{IsFrontOf, IsLogOf, IsWholeLogOf}}
+use Rattle.sci_drive.proofs.{Drives.{log_of, whole_of}, GateCalls.{calls_on, no_calls}}
+use Rattle.sci_station.specs.{Ends.{IsSameEnd}, Station.{StationOf}}
 use Rattle.sci_station.proofs.StillEnds.{same_itself, same_then}
-use Rattle.sci_threads.specs.Shares.{GoesOn, HaveGoneOn, IsOpened, IsWell}
+use Rattle.sci_threads.specs.{declared.share.Share.{Share}, Slices.{GoSlices}}
+use Rattle.sci_threads.specs.Shares.{AllGoOn, AreWell, GoesOn, HasEnded, HasAtMost, HaveFewer, IsOpened, IsWell, TakesTurns}
 
 -- The log of the end's node is of the operations that stand under its number, and whole if it has finished. If they were
 -- issued in order, it stands in their order and has the first ones of them.
@@ -20,66 +25,244 @@ pub record HasRun {E : Type 0} (issuing : Issuing) (operations : ℕ → List Op
   pub ordered : issuing ≡ InOrder → IsInProgramOrder end.part.node.log
   pub front : issuing ≡ InOrder → IsFrontOf (operations (me_of end.part)) end.part.node.log
 
-pub stays : (driver : DriverOf) (end : EndOf) → GoesOn driver end driver end
-stays driver end = record { same = same_itself end; script = refl; order = λ h. h }
+-- ---- results
 
-pub then_on : (d0 d1 d2 : DriverOf) (e0 e1 e2 : EndOf) → GoesOn d0 e0 d1 e1 → GoesOn d1 e1 d2 e2 → GoesOn d0 e0 d2 e2
-then_on d0 d1 d2 e0 e1 e2 a b = record { same = same_then e0 e1 e2 a.same b.same; script = b.script ∙ a.script; order = λ h. b.order (a.order h) }
+-- what is so if there is a value, is so beside it
+stay_ok : {E : Type 0} (r : Result Bool E) (P : Type 0) → P → OnOk r (IsOk r × P)
+stay_ok (Ok all) P p = (refl, p)
+stay_ok (Err e) P p = tt
 
-module _ {A : Type 0} (driver : A → DriverOf) (end : A → EndOf) where
-  pub all_stay : (old : List A) (k : ℕ) (d : A) → k < length old → HaveGoneOn driver end old old k d
-  all_stay old k d lt = stays (driver (slice_index_or old k d)) (end (slice_index_or old k d))
+-- and is so
+pub of_ok : {E : Type 0} (r : Result Bool E) (P : Type 0) → IsOk r → OnOk r P → P
+of_ok (Ok all) P is p = p
+of_ok (Err e) P is p = absurd cc
+
+pub is_value : {A E : Type 0} (r : Result A E) (x : A) → r ≡ Ok x → IsOk r
+is_value (Ok y) x is = refl
+is_value (Err e) x is = absurd cc
+
+-- a share that has not ended was not refused
+unended : {E : Type 0} (r : Result Bool E) (left : ℕ) → (IfOk r (λ all. (all ≡ true) ⊎ (left ≡ 0)) → ⊥) → IsOk r
+unended (Ok all) left more = refl
+unended (Err e) left more = absurd (more tt)
+
+-- ---- slices
+
+module _ {G : Type 0} (hears : G → List Call → G → Type 0) where
+  -- slices, and then further ones
+  pub slices_on : (first second : List ℕ) (g h k : G) (a b c : DriverOf) (x y z : NodeOf) → GoSlices hears first g h a b x y → GoSlices hears second h k b c y z
+      → GoSlices hears (second ++ first) g k a c x z
+  slices_on first [] g h k a b c x y z was is =
+      subst (λ (m : G). GoSlices hears first g m a c x z) is.0
+      (subst (λ (d : DriverOf). GoSlices hears first g h a d x z) is.1 (subst (λ (n : NodeOf). GoSlices hears first g h a b x n) is.2 was))
+  slices_on first (turns ∷ second) g h k a b c x y z was is =
+      (is.0, is.1, is.2, is.3, slices_on first second g h is.0 a b is.1 x y is.2 was is.4, is.5)
+
+  -- one slice
+  pub one_slice : (turns restless : ℕ) (g h : G) (a b : DriverOf) (x y : NodeOf) → GoRounds hears turns restless g h a b x y
+      → GoSlices hears (turns ∷ []) g h a b x y
+  one_slice turns restless g h a b x y is = (g, a, x, restless, (refl, refl, refl), is)
+
+-- ---- shares
+
+module _ {G : Type 0} where
+  -- a share with no turn left has ended
+  pub none_left : (share : Share G) → HasAtMost 0 share → HasEnded share
+  none_left share (inl ended) = ended
+  none_left share (inr none) = without share.finished share.left (omega arith)
+    where
+      without : {E : Type 0} (r : Result Bool E) (left : ℕ) → left ≡ 0 → IfOk r (λ all. (all ≡ true) ⊎ (left ≡ 0))
+      without (Ok all) left is = inr is
+      without (Err e) left is = tt
+
+  pub all_ended : (none : ℕ) (shares : List (Share G)) → none ≡ 0 → All (HasAtMost none) shares → All HasEnded shares
+  all_ended none shares is few k d lt =
+      none_left (slice_index_or shares k d) (subst (λ (n : ℕ). HasAtMost n (slice_index_or shares k d)) is (few k d lt))
+
+  -- what stands at a place, whatever would stand there if nothing did
+  pub any_other : (shares : List (Share G)) (n : ℕ) (x y : Share G) → n < length shares → slice_index_or shares n x ≡ slice_index_or shares n y
+  any_other shares n x y lt = sym (get_or_from_slice_get shares n (slice_index_or shares n x) y (slice_get-get_or shares n x lt))
+
+  -- what is so of the shares below a place, and of the one that is put there, is so of one more
+  pub one_more_is : (Good : Share G → Share G → Type 0) (old shares : List (Share G)) (n : ℕ) (new : Share G) → n < length shares
+      → ((d : Share G) → Good (slice_index_or old n d) new)
+      → ((k : ℕ) (d : Share G) → k < n → Good (slice_index_or old k d) (slice_index_or shares k d)) → (k : ℕ) (d : Share G) → k < n + 1
+      → Good (slice_index_or old k d) (slice_index_or (slice_set shares n new) k d)
+  one_more_is Good old shares n new lt here below k d more = elim (cases_eq k n) [
+    | inl same ↦
+        let there : slice_index_or (slice_set shares n new) k d ≡ new =
+        ap (λ (j : ℕ). slice_index_or (slice_set shares n new) j d) same ∙ get_or-set_same shares n new d lt in
+        subst (λ (s : Share G). Good (slice_index_or old k d) s) (sym there) (subst (λ (j : ℕ). Good (slice_index_or old j d) new) (sym same) (here d))
+    | inr other ↦ subst (λ (s : Share G). Good (slice_index_or old k d) s) (sym (get_or-set_other shares n k new d other)) (below k d (omega (arith, other)))
+  ]
+
+-- calls that end so, still do behind others
+ends_behind : (first second : List Call) → EndWithAllDone second → EndWithAllDone (first ++ second)
+ends_behind first second ends = (first ++ ends.0, ap (λ (calls : List Call). first ++ calls) ends.1 ∙ sym (append_assoc first ends.0 (AllDone true ∷ [])))
+
+module _ {G : Type 0} (hears : G → List Call → G → Type 0) (hears_nothing : (g : G) → hears g [] g) (hears_on : (g h k : G) (calls more : List Call)
+    → hears g calls h → hears h more k → hears g (calls ++ more) k) where
+  pub stays : (share : Share G) → GoesOn hears share share
+  stays share = record {
+    same = same_itself share.station.end;
+    script = refl;
+    order = λ h. h;
+    heard = record {
+      calls = [];
+      heard = hears_nothing share.gate;
+      are = no_calls share.driver share.driver share.station.end.part.node share.station.end.part.node refl refl refl;
+    };
+    all_done = λ done. inl (done, refl);
+    rounds = stay_ok share.finished (TakesTurns hears share share) (record { slices = []; fewer = omega arith; gone = (refl, refl, refl) });
+    left = omega arith;
+    ended = λ h. h;
+  }
+
+  pub then_on : (x y z : Share G) → GoesOn hears x y → GoesOn hears y z → GoesOn hears x z
+  then_on x y z a b = record {
+    same = same_then x.station.end y.station.end z.station.end a.same b.same;
+    script = b.script ∙ a.script;
+    order = λ h. b.order (a.order h);
+    heard = record {
+      calls = a.heard.calls ++ b.heard.calls;
+      heard = hears_on x.gate y.gate z.gate a.heard.calls b.heard.calls a.heard.heard b.heard.heard;
+      are = calls_on x.driver y.driver z.driver x.station.end.part.node y.station.end.part.node z.station.end.part.node a.heard.calls b.heard.calls a.heard.are
+          b.heard.are;
+    };
+    all_done = λ done. elim (b.all_done done) [
+      | inl was ↦
+          let none : a.heard.calls ++ b.heard.calls ≡ a.heard.calls = ap (λ (calls : List Call). a.heard.calls ++ calls) was.1 ∙ append-nil a.heard.calls in
+          (elim (a.all_done was.0) [
+            | inl before ↦ inl (before.0, none ∙ before.1)
+            | inr ends ↦ inr (subst EndWithAllDone (sym none) ends)
+          ])
+      | inr ends ↦ inr (ends_behind a.heard.calls b.heard.calls ends)
+    ];
+    rounds = IfOk-weaker z.finished _ _ (λ _ more.
+        let before = of_ok y.finished _ more.0 a.rounds in
+        let first = before.1 in
+        let second = more.1 in
+        let both = sum_by-append (λ (n : ℕ). n) second.slices first.slices in (
+          before.0,
+          record {
+            slices = second.slices ++ first.slices;
+            fewer = let one = first.fewer in let other = second.fewer in omega (arith, both);
+            gone = slices_on hears first.slices second.slices x.gate y.gate z.gate x.driver y.driver z.driver x.station.end.part.node
+                y.station.end.part.node z.station.end.part.node first.gone second.gone;
+          },
+        )) b.rounds;
+    left = let first = a.left in let second = b.left in omega (arith, first, second);
+    ended = λ h. b.ended (a.ended h);
+  }
+
+  pub all_stay : (old : List (Share G)) → AllGoOn hears old old
+  all_stay old k d lt = stays (slice_index_or old k d)
 
   -- one of them goes on
-  pub one_on : (old shares : List A) (n : ℕ) (now new : A) → n < length shares
-      → GoesOn (driver (slice_index_or shares n now)) (end (slice_index_or shares n now)) (driver new) (end new)
-      → ((k : ℕ) (d : A) → k < length old → HaveGoneOn driver end old shares k d) → (k : ℕ) (d : A) → k < length old
-      → HaveGoneOn driver end old (slice_set shares n new) k d
+  pub one_on : (old shares : List (Share G)) (n : ℕ) (now new : Share G) → n < length shares → GoesOn hears (slice_index_or shares n now) new
+      → AllGoOn hears old shares → AllGoOn hears old (slice_set shares n new)
   one_on old shares n now new lt goes all k d inside = elim (cases_eq k n) [
     | inl same ↦
         let here : slice_index_or (slice_set shares n new) k d ≡ new =
         ap (λ (j : ℕ). slice_index_or (slice_set shares n new) j d) same ∙ get_or-set_same shares n new d lt in
-        let was : A = slice_index_or old k d in
-        let mid : A = slice_index_or shares k d in
+        let was : Share G = slice_index_or old k d in
+        let mid : Share G = slice_index_or shares k d in
         let it : slice_index_or shares k d ≡ slice_index_or shares n now =
-        ap (λ (j : ℕ). slice_index_or shares j d) same
-        ∙ get_or_from_slice_get shares n (slice_index_or shares n now) d (slice_get-get_or shares n now lt) in
-        let on : GoesOn (driver mid) (end mid) (driver new) (end new) = subst (λ (s : A). GoesOn (driver s) (end s) (driver new) (end new)) (sym it) goes in
-        subst (λ (s : A). GoesOn (driver was) (end was) (driver s) (end s)) (sym here)
-        (then_on (driver was) (driver mid) (driver new) (end was) (end mid) (end new) (all k d inside) on)
+        ap (λ (j : ℕ). slice_index_or shares j d) same ∙ any_other shares n d now lt in
+        let on : GoesOn hears mid new = subst (λ (s : Share G). GoesOn hears s new) (sym it) goes in
+        subst (λ (s : Share G). GoesOn hears was s) (sym here) (then_on was mid new (all k d inside) on)
     | inr other ↦
-        let was : A = slice_index_or old k d in
-        subst (λ (s : A). GoesOn (driver was) (end was) (driver s) (end s)) (sym (get_or-set_other shares n k new d other)) (all k d inside)
+        let was : Share G = slice_index_or old k d in
+        subst (λ (s : Share G). GoesOn hears was s) (sym (get_or-set_other shares n k new d other)) (all k d inside)
   ]
 
   -- all go on, and then again
-  pub all_on : (old mid new : List A) → length mid ≡ length old → ((k : ℕ) (d : A) → k < length old → HaveGoneOn driver end old mid k d)
-      → ((k : ℕ) (d : A) → k < length mid → HaveGoneOn driver end mid new k d) → (k : ℕ) (d : A) → k < length old → HaveGoneOn driver end old new k d
+  pub all_on : (old mid new : List (Share G)) → length mid ≡ length old → AllGoOn hears old mid → AllGoOn hears mid new → AllGoOn hears old new
   all_on old mid new long first second k d lt =
-      then_on (driver (slice_index_or old k d)) (driver (slice_index_or mid k d)) (driver (slice_index_or new k d)) (end (slice_index_or old k d))
-      (end (slice_index_or mid k d)) (end (slice_index_or new k d)) (first k d lt) (second k d (omega (arith, long)))
+      then_on (slice_index_or old k d) (slice_index_or mid k d) (slice_index_or new k d) (first k d lt) (second k d (omega (arith, long)))
+
+module _ {G : Type 0} (hears : G → List Call → G → Type 0) where
+  -- a share whose driver went on
+  pub went_on : (old : Share G) (station : StationOf) (driver : DriverOf) (gate : G) (turns restless left : ℕ) (finished : Bool)
+      → IsSameEnd old.station.end station.end → driver.script ≡ old.driver.script
+      → (IsInOrder old.driver old.station.end.part.node → IsInOrder driver station.end.part.node)
+      → (heard : IsHeard hears old.gate gate old.driver driver old.station.end.part.node station.end.part.node)
+      → (finished ≡ true → EndWithAllDone heard.calls)
+      → GoRounds hears turns restless old.gate gate old.driver driver old.station.end.part.node station.end.part.node
+      → turns + left ≡ old.left → (HasEnded old → ⊥)
+      → GoesOn hears old (record { station = station; driver = driver; gate = gate; left = left; finished = Ok finished })
+  went_on old station driver gate turns restless left finished same script order heard all_done rounds fewer more = record {
+    same = same;
+    script = script;
+    order = order;
+    heard = heard;
+    all_done = λ done. inr (all_done cc);
+    rounds = (
+      unended old.finished old.left more,
+      record {
+        slices = turns ∷ [];
+        fewer = omega (arith, fewer);
+        gone = one_slice hears turns restless old.gate gate old.driver driver old.station.end.part.node station.end.part.node rounds;
+      },
+    );
+    left = omega (arith, fewer);
+    ended = λ ended. absurd (more ended);
+  }
+
+  -- a share whose driver was refused memory
+  pub was_refused : (old : Share G) (station : StationOf) (driver : DriverOf) (gate : G) (refused : AllocError)
+      → IsSameEnd old.station.end station.end → driver.script ≡ old.driver.script
+      → (IsInOrder old.driver old.station.end.part.node → IsInOrder driver station.end.part.node)
+      → IsHeard hears old.gate gate old.driver driver old.station.end.part.node station.end.part.node
+      → GoesOn hears old (record { station = station; driver = driver; gate = gate; left = old.left; finished = Err refused })
+  was_refused old station driver gate refused same script order heard = record {
+    same = same;
+    script = script;
+    order = order;
+    heard = heard;
+    all_done = λ done. absurd cc;
+    rounds = tt;
+    left = omega arith;
+    ended = λ ended. tt;
+  }
+
+  -- a share that goes on and has fewer turns left
+  pub now_fewer : (most less : ℕ) (old new : Share G) → most ≤ less + 1 → GoesOn hears old new → HasEnded new ⊎ (new.left < old.left) → HasAtMost most old
+      → HasAtMost less new
+  now_fewer most less old new more gone (inl ended) few = inl ended
+  now_fewer most less old new more gone (inr fewer) (inl ended) = inl (gone.ended ended)
+  now_fewer most less old new more gone (inr fewer) (inr few) = inr (omega arith)
+
+  pub all_fewer : (most less : ℕ) (old new : List (Share G)) → most ≤ less + 1 → length new ≡ length old → AllGoOn hears old new
+      → HaveFewer old new → All (HasAtMost most) old → All (HasAtMost less) new
+  all_fewer most less old new more long gone fewer few k d lt =
+      let within : k < length old = omega (arith, long) in
+      now_fewer most less (slice_index_or old k d) (slice_index_or new k d) more (gone k d within) (fewer k d within) (few k d within)
+
+  -- one of the shares takes a turn, and has ended or has fewer turns left than at first
+  pub one_fewer : (old now new : Share G) → GoesOn hears old now → HasEnded new ⊎ (new.left + 1 ≤ now.left) → HasEnded new ⊎ (new.left < old.left)
+  one_fewer old now new gone (inl ended) = inl ended
+  one_fewer old now new gone (inr fewer) = inr (let left = gone.left in omega arith)
 
   -- what a share has done that was opened, went on and is well
-  pub has_run : {E : Type 0} (issuing : Issuing) (operations : ℕ → List Op) (old new : A) (finished : Result Bool E)
-      → IsOpened issuing operations (driver old) (end old) → GoesOn (driver old) (end old) (driver new) (end new) → IsWell (driver new) (end new) finished
-      → HasRun issuing operations (end new) finished
-  has_run issuing operations old new finished opened gone well =
-      let node = (end new).part.node in
-      let mine : me_of (end new).part ≡ me_of (end old).part = gone.same.node.me in
-      let script : (driver new).script ≡ operations (me_of (end new).part) = gone.script ∙ (opened.script ∙ ap operations (sym mine)) in record {
-        named = subst (λ (ops : List Op). IsLogOf ops node.log) script (log_of (driver new) node well.driven);
-        whole = IfOk-weaker finished _ _ (λ all said is.
+  pub has_run : (issuing : Issuing) (operations : ℕ → List Op) (turns : ℕ) (old new : Share G) → IsOpened issuing operations turns old → GoesOn hears old new
+      → IsWell new.driver new.station.end new.finished → HasRun issuing operations new.station.end new.finished
+  has_run issuing operations turns old new opened gone well =
+      let node = new.station.end.part.node in
+      let mine : me_of new.station.end.part ≡ me_of old.station.end.part = gone.same.node.me in
+      let script : new.driver.script ≡ operations (me_of new.station.end.part) =
+      gone.script ∙ (ap (λ (d : DriverOf). d.script) opened.driver ∙ ap operations (sym mine)) in record {
+        named = subst (λ (ops : List Op). IsLogOf ops node.log) script (log_of new.driver node well.driven);
+        whole = IfOk-weaker new.finished _ _ (λ all said is.
             let ended = said is in
-            subst (λ (ops : List Op). IsWholeLogOf ops node.log) script (whole_of (driver new) node ended.0 ended.1 well.driven)) well.answered;
+            subst (λ (ops : List Op). IsWholeLogOf ops node.log) script (whole_of new.driver node ended.0 ended.1 well.driven)) well.answered;
         ordered = λ is. (gone.order (opened.ordered is)).ordered;
         front = λ is. subst (λ (ops : List Op). IsFrontOf ops node.log) script (gone.order (opened.ordered is)).front;
       }
 
-  pub all_run : {E : Type 0} (finished : A → Result Bool E) (issuing : Issuing) (operations : ℕ → List Op) (old new : List A) → length new ≡ length old
-      → All (λ s. IsOpened issuing operations (driver s) (end s)) old
-      → ((k : ℕ) (d : A) → k < length old → HaveGoneOn driver end old new k d) → All (λ s. IsWell (driver s) (end s) (finished s)) new
-      → All (λ s. HasRun issuing operations (end s) (finished s)) new
-  all_run finished issuing operations old new long opened gone well k d lt =
+  pub all_run : (issuing : Issuing) (operations : ℕ → List Op) (turns : ℕ) (old new : List (Share G)) → length new ≡ length old
+      → All (IsOpened issuing operations turns) old → AllGoOn hears old new → AreWell new
+      → All (λ (s : Share G). HasRun issuing operations s.station.end s.finished) new
+  all_run issuing operations turns old new long opened gone well k d lt =
       let within : k < length old = omega (arith, long) in
-      has_run issuing operations (slice_index_or old k d) (slice_index_or new k d) (finished (slice_index_or new k d)) (opened k d within) (gone k d within)
-      (well k d lt)
+      has_run issuing operations turns (slice_index_or old k d) (slice_index_or new k d) (opened k d within) (gone k d within) (well k d lt)

@@ -1,2 +1,3 @@
 pub mod RunStations
 pub mod Going
+pub mod DrivenNodes

@@ -44,6 +44,11 @@ led_for extent script core nodes lines slots = subst (λ (z : Size). IsLedTo z c
 pub all_there : {A : Type 0} (P : A → Type 0) (xs : List A) (k : ℕ) (x : A) → All P xs → slice_get xs k ≡ Some x → P x
 all_there P xs k x all at = subst P (get_or_from_slice_get xs k x x at) (all k x (slice_get_within xs k x at))
 
+-- all stand in front of an empty rest
+pub all_in_front : {A : Type 0} (front rest all : List A) → length rest ≡ 0 → front ++ rest ≡ all → front ≡ all
+all_in_front front [] all none is = sym (append-nil front) ∙ is
+all_in_front front (x ∷ xs) all none is = absurd (omega (arith, none))
+
 -- ---- the operations of each node
 
 pub few_own : (s : ScriptValue) (node : ℕ) → IsScript s → node < s.nodes → length (operations_of node s.operations) ≤ MAX_OPERATIONS
@@ -217,8 +222,8 @@ module _ {A : Type 0} (station : A → StationOf) where
       )
 
 -- the logs and last contents of a state are led to as it is
-pub led_by : (size : Size) (core : Core) (logs : List (List Entry)) (last : List Stamped) → IsLedTo size core → logs ≡ logs_of core → last ≡ last_of core
-    → AreLedTo size logs last
+unfoldable pub led_by : (size : Size) (core : Core) (logs : List (List Entry)) (last : List Stamped) → IsLedTo size core → logs ≡ logs_of core
+    → last ≡ last_of core → AreLedTo size logs last
 led_by size core logs last led logs_are last_are = record {
   core = core;
   led = led;

@@ -1,14 +1,16 @@
 -- What each node of a machine does of a script.
-use Rattle.std.specs.Prelude.{◌≡◌, ◌<◌, ◌==◌, ℕ, All, Bool, true, List, [], filter, length, map, Result, IfOk, slice_index_or, Vec}
+use Rattle.std.specs.Prelude.{◌≡◌, ◌<◌, ◌≤◌, ◌==◌, ◌+◌, ◌⊎◌, ℕ, All, Bool, true, false, List, [], filter, length, map, Result, Ok, IfOk, IsOk, OnOk}
+use Rattle.std.specs.{Prelude.{slice_index_or, Vec}, List.{sum}}
 use Rattle.sci_words.specs.declared.{limits.TheConstants.{MAX_OPERATIONS}, operation.Op.{Op}, stamped.Stamped.{Stamped}}
 use Rattle.sci_history.specs.{declared.entry.Entry.{Entry}, Placed.{log_of}}
 use Rattle.sci_text.specs.Script.{ScriptValue}
 use Rattle.sci_core.specs.{Size.{Size}, Core.{Core}, Outcome.{logs_of}, Sharing.{last_of}}
 use Rattle.sci_lanes.specs.{Shown.{me_of}, Ends.{EndOf}, Gathering.{AreMadeBy, IsLedTo}}
 use Rattle.sci_drive.specs.declared.driver.Issuing.{Issuing, TheVariants.{InOrder}}
-use Rattle.sci_drive.specs.{Driving.{DriverOf, IsDriven, IsInOrder}, Script.{IsFrontOf, IsLogOf, IsWholeLogOf}}
+use Rattle.sci_drive.specs.{Calls.{Call, EndWithAllDone, IsHeard}, Driving.{DriverOf, IsDriven, IsInOrder, opening_driver}}
+use Rattle.sci_drive.specs.Script.{IsFrontOf, IsLogOf, IsWholeLogOf}
 use Rattle.sci_station.specs.Ends.{IsSameEnd}
-use Rattle.sci_threads.specs.declared.share.Share.{Share}
+use Rattle.sci_threads.specs.{declared.share.Share.{Share}, Slices.{GoSlices}}
 
 -- the operations of a node, in their order
 abbrev pub operations_of : ℕ → List (ℕ × Op) → List Op
@@ -52,31 +54,52 @@ pub record AreLedTo (size : Size) (logs : List (List Entry)) (last : List Stampe
 abbrev pub own_of : {Z : Type 0} → List (Vec Op Z) → ℕ → List Op
 own_of all node = slice_index_or (map (λ own. own.items) all) node []
 
--- a share before its run: its driver has the operations that stand under its node's number
-pub record IsOpened (issuing : Issuing) (operations : ℕ → List Op) (driver : DriverOf) (end : EndOf) : Type 0 where
-  pub script : driver.script ≡ operations (me_of end.part)
-  pub ordered : issuing ≡ InOrder → IsInOrder driver end.part.node
+-- a share before its run: a new driver has the operations that stand under its node's number, and all turns are left
+pub record IsOpened {G : Type 0} (issuing : Issuing) (operations : ℕ → List Op) (turns : ℕ) (share : Share G) : Type 0 where
+  pub driver : share.driver ≡ opening_driver (operations (me_of share.station.end.part)) issuing
+  pub ordered : issuing ≡ InOrder → IsInOrder share.driver share.station.end.part.node
+  pub left : share.left ≡ turns
+  pub unfinished : share.finished ≡ Ok false
 
 -- The driver of a share has driven the station of this end, and has come to the end of its script if it has finished.
 pub record IsWell {E : Type 0} (driver : DriverOf) (end : EndOf) (finished : Result Bool E) : Type 0 where
   pub driven : IsDriven driver end.part.node
-  pub answered : IfOk finished (λ all. all ≡ true → (driver.next ≡ length driver.script) × (driver.pending ≡ []))
+  pub answered : IfOk finished (λ all. all ≡ true → (driver.next ≡ length driver.script) × (driver.pending ≡ []) × (driver.was_done ≡ true))
 
--- the same end and the same script, later
-pub record GoesOn (driver : DriverOf) (end : EndOf) (later : DriverOf) (last : EndOf) : Type 0 where
-  pub same : IsSameEnd end last
-  pub script : later.script ≡ driver.script
-  pub order : IsInOrder driver end.part.node → IsInOrder later last.part.node
+-- a share that has finished, was refused, or has no turn left
+abbrev pub HasEnded : {G : Type 0} → Share G → Type 0
+HasEnded share = IfOk share.finished (λ finished. (finished ≡ true) ⊎ (share.left ≡ 0))
 
--- the same of the shares that stand at a place
-abbrev pub HaveGoneOn : {A : Type 0} → (A → DriverOf) → (A → EndOf) → List A → List A → ℕ → A → Type 0
-HaveGoneOn driver end old new k d =
-    GoesOn (driver (slice_index_or old k d)) (end (slice_index_or old k d)) (driver (slice_index_or new k d)) (end (slice_index_or new k d))
+-- a share that has ended, or has at most this many turns left
+abbrev pub HasAtMost : {G : Type 0} → ℕ → Share G → Type 0
+HasAtMost turns share = HasEnded share ⊎ (share.left ≤ turns)
+
+-- the driver of a share went on in slices, of as many turns in all as the share has fewer left
+pub record TakesTurns {G : Type 0} (hears : G → List Call → G → Type 0) (old new : Share G) : Type 0 where
+  pub slices : List ℕ
+  pub fewer : sum slices + new.left ≡ old.left
+  pub gone : GoSlices hears slices old.gate new.gate old.driver new.driver old.station.end.part.node new.station.end.part.node
+
+-- The same share, later. Its gate has had some calls. If it has finished since, the last of them was answered that all are done. Unless it
+-- was refused, its driver went on.
+pub record GoesOn {G : Type 0} (hears : G → List Call → G → Type 0) (old new : Share G) : Type 0 where
+  pub same : IsSameEnd old.station.end new.station.end
+  pub script : new.driver.script ≡ old.driver.script
+  pub order : IsInOrder old.driver old.station.end.part.node → IsInOrder new.driver new.station.end.part.node
+  pub heard : IsHeard hears old.gate new.gate old.driver new.driver old.station.end.part.node new.station.end.part.node
+  pub all_done : new.finished ≡ Ok true → ((old.finished ≡ Ok true) × (heard.calls ≡ [])) ⊎ EndWithAllDone heard.calls
+  pub rounds : OnOk new.finished (IsOk old.finished × TakesTurns hears old new)
+  pub left : new.left ≤ old.left
+  pub ended : HasEnded old → HasEnded new
 
 -- each share is well
 abbrev pub AreWell : {G : Type 0} → List (Share G) → Type 0
 AreWell shares = All (λ share. IsWell share.driver share.station.end share.finished) shares
 
 -- each share goes on from what it was
-abbrev pub AllGoOn : {G : Type 0} → List (Share G) → List (Share G) → Type 0
-AllGoOn old new = (k : ℕ) (d : _) → k < length old → HaveGoneOn (λ share. share.driver) (λ share. share.station.end) old new k d
+abbrev pub AllGoOn : {G : Type 0} → (G → List Call → G → Type 0) → List (Share G) → List (Share G) → Type 0
+AllGoOn hears old new = (k : ℕ) (d : _) → k < length old → GoesOn hears (slice_index_or old k d) (slice_index_or new k d)
+
+-- each share has ended, or has fewer turns left than it had
+abbrev pub HaveFewer : {G : Type 0} → List (Share G) → List (Share G) → Type 0
+HaveFewer old new = (k : ℕ) (d : _) → k < length old → HasEnded (slice_index_or new k d) ⊎ ((slice_index_or new k d).left < (slice_index_or old k d).left)

@@ -5,8 +5,10 @@ ghost use Rattle.sci_words.specs.declared.limits.TheConstants.{MAX_OPERATIONS};
 ghost use Rattle.sci_history.specs.{Lawful.{Lawful}, Sequential.{AreInProgramOrder, IsSequentiallyConsistent}};
 ghost use Rattle.sci_core.specs.{Outcome.{logs_of}, Size.{size_of}};
 ghost use Rattle.sci_lanes.specs.Gathering.{IsLedTo};
-ghost use Rattle.sci_drive.specs.{declared.driver.Issuing.TheVariants.{InOrder}, Script.{IsFrontOf, IsLogOf, IsWholeLogOf}};
-ghost use Rattle.sci_threads.specs.Shares.{AreLedTo, HaveFrontLogsOf, HaveLogsOf, HaveWholeLogsOf, IsOfEachLog, own_of, size_for};
+ghost use Rattle.sci_drive.specs.declared.driver.Issuing.TheVariants.{Ahead, InOrder};
+ghost use Rattle.sci_drive.specs.Script.{IsFrontOf, IsLogOf, IsWholeLogOf};
+ghost use Rattle.sci_threads.specs.Shares.{AreLedTo, HaveFrontLogsOf, HaveLogsOf, HaveWholeLogsOf, IsOfEachLog};
+ghost use Rattle.sci_threads.specs.{Shares.{operations_of, own_of, size_for}, Slices.{AreDrivenThrough}};
 
 use crate::shares::{Plan, gathered, operations_by_node, run_all, shares};
 use sci_core::Machine;
@@ -28,6 +30,9 @@ use std::thread::Threads;
 /// - A schedule leads the machine to its state, whatever the threads did.
 /// - In each node's log each entry has the operation of the node that its serial names, and no serial stands twice.
 /// - If all have finished, each operation has just one entry.
+/// - Each node is driven in slices, one after another: each slice is rounds of the node's driver with the node's own gate, as
+///   `Driver::go_on` promises. If a node has finished, the last call of its gate was an `all_done` that answered true. Else
+///   it has used up its turns.
 ///
 /// Ahead, a node has up to four operations pending at once, each on another line, and may perform them in another order than
 /// they stand. In order, it issues an operation only when all before it are performed. So its log has its first operations,
@@ -51,6 +56,8 @@ pub fn run_plan<R: Threads + Sync, G: Gate + Send + Drop>(
         (λ ran. plan.entry.issuing ≡ InOrder → AreInProgramOrder (logs_of ran.0)) }
     ensures front { IfOk result (λ ran. plan.entry.issuing ≡ InOrder →
         IsOfEachLog IsFrontOf extent.nodes (own_of plan.entry.operations.now) (logs_of ran.0)) }
+    ensures rounds { IfOk result (λ ran. AreDrivenThrough G.hears plan.entry.turns
+        plan.entry.issuing (own_of plan.entry.operations.now) gates.items ran.0 ran.1) }
 {
     let (fabric, stations) = Fabric::new(alloc, extent, MAX_OPERATIONS)?;
     let turns = plan.turns;
@@ -83,6 +90,8 @@ pub fn run_to_machine<R: Threads + Sync, G: Gate + Send + Drop>(
         (λ ran. issuing ≡ InOrder → AreInProgramOrder (logs_of ran.0)) }
     ensures front { IfOk result
         (λ ran. issuing ≡ InOrder → HaveFrontLogsOf script.now (logs_of ran.0)) }
+    ensures rounds { IfOk result (λ ran. AreDrivenThrough G.hears turns issuing
+        (λ node. operations_of node script.now.operations) gates.items ran.0 ran.1) }
 {
     let operations = operations_by_node(alloc, script)?;
     let plan = Plan {
@@ -108,6 +117,9 @@ pub fn run_nodes<R: Threads + Sync, G: Gate + Send + Drop>(
     ensures led { IfOk result (λ ran. AreLedTo (size_for script.now) ran.0 ran.1) }
     ensures lawful { IfOk result (λ ran. Lawful ran.0 ran.1) }
     ensures consistent { IfOk result (λ ran. IsSequentiallyConsistent ran.0 ran.1) }
+    ensures rounds { IfOk result (λ ran. (led : AreLedTo (size_for script.now) ran.0 ran.1)
+        × AreDrivenThrough G.hears turns Ahead (λ node. operations_of node script.now.operations)
+        gates.items led.core ran.2) }
 {
     let (machine, finished) = run_to_machine(rt, alloc, script, gates, Issuing::Ahead, turns)?;
     let (logs, last) = machine.finish(alloc);
@@ -132,6 +144,9 @@ pub fn run_in_order<R: Threads + Sync, G: Gate + Send + Drop>(
     ensures whole { IfOk result (λ ran. ran.2 ≡ true → HaveWholeLogsOf script.now ran.0) }
     ensures led { IfOk result (λ ran. AreLedTo (size_for script.now) ran.0 ran.1) }
     ensures lawful { IfOk result (λ ran. Lawful ran.0 ran.1) }
+    ensures rounds { IfOk result (λ ran. (led : AreLedTo (size_for script.now) ran.0 ran.1)
+        × AreDrivenThrough G.hears turns InOrder (λ node. operations_of node script.now.operations)
+        gates.items led.core ran.2) }
 {
     let (machine, finished) = run_to_machine(rt, alloc, script, gates, Issuing::InOrder, turns)?;
     let (logs, last) = machine.finish(alloc);

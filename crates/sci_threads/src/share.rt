@@ -1,7 +1,7 @@
 //! A node's share of a run.
 
-ghost use Rattle.std.specs.Prelude.{◌≡◌};
-ghost use Rattle.sci_threads.specs.Shares.{GoesOn, IsWell};
+ghost use Rattle.std.specs.Prelude.{◌≡◌, ◌+◌, ◌≤◌, ◌⊎◌, ◌↔◌, true};
+ghost use Rattle.sci_threads.specs.Shares.{GoesOn, HasEnded, IsWell};
 
 use crate::start::Start;
 use sci_drive::{Driver, Gate};
@@ -27,7 +27,9 @@ pub(crate) struct Share<'a, G> {
 
 impl<'a, G: Gate> Share<'a, G> {
     /// Whether it has finished, was refused, or has no turn left.
-    pub(crate) fn has_ended(&self) -> bool {
+    pub(crate) fn has_ended(&self) -> bool
+        ensures { (result ≡ true) ↔ HasEnded self.now }
+    {
         match self.finished {
             Ok(finished) => finished || self.left == 0,
             Err(_) => true,
@@ -38,8 +40,8 @@ impl<'a, G: Gate> Share<'a, G> {
     pub(crate) fn go_on(&mut self, turns: u32)
         requires well { IsWell self.old.driver self.old.station.end self.old.finished }
         ensures well { IsWell self.new.driver self.new.station.end self.new.finished }
-        ensures gone { GoesOn self.old.driver self.old.station.end
-            self.new.driver self.new.station.end }
+        ensures gone { GoesOn G.hears self.old self.new }
+        ensures fewer { HasEnded self.new ⊎ (self.new.left + turns ≤ self.old.left) }
     {
         if self.has_ended() {
             return;
@@ -59,8 +61,7 @@ impl<'a, G: Gate> Share<'a, G> {
     pub(crate) fn run(&mut self, start: &Start)
         requires well { IsWell self.old.driver self.old.station.end self.old.finished }
         ensures well { IsWell self.new.driver self.new.station.end self.new.finished }
-        ensures gone { GoesOn self.old.driver self.old.station.end
-            self.new.driver self.new.station.end }
+        ensures gone { GoesOn G.hears self.old self.new }
     {
         start.begin();
         for look in 0..u32::MAX {

@@ -1,11 +1,13 @@
 //! What each node does of a script.
 
-ghost use Rattle.std.specs.Prelude.{◌≡◌, ◌<◌, ◌≤◌, ℕ, List, All, IfOk, Ok, true, length, map, slice_index_or};
+ghost use Rattle.std.specs.Prelude.{◌≡◌, ◌<◌, ◌≤◌, ◌↔◌, ℕ, List, All, IfOk, IsOk, Ok, true, false};
+ghost use Rattle.std.specs.Prelude.{length, map, slice_index_or};
 ghost use Rattle.sci_words.specs.declared.limits.TheConstants.{MAX_OPERATIONS};
 ghost use Rattle.sci_drive.specs.Driving.{HasSubmittedNothing};
 ghost use Rattle.sci_station.specs.Station.{node_in};
 ghost use Rattle.sci_lanes.specs.Shown.{me_of};
-ghost use Rattle.sci_threads.specs.Shares.{AllGoOn, AreWell, GoesOn, IsOpened, IsWell, operations_of, own_of};
+ghost use Rattle.sci_threads.specs.Shares.{AllGoOn, AreWell, GoesOn, HasAtMost, HasEnded, HaveFewer, IsOpened, IsWell};
+ghost use Rattle.sci_threads.specs.Shares.{operations_of, own_of};
 
 use crate::share::Share;
 use crate::start::Start;
@@ -31,7 +33,9 @@ pub struct Plan<'a> {
 fn go_round<G: Gate>(shares: &mut [Share<'_, G>]) -> bool
     requires well { AreWell shares.old }
     ensures well { AreWell shares.new }
-    ensures gone { AllGoOn shares.old shares.new }
+    ensures gone { AllGoOn G.hears shares.old shares.new }
+    ensures fewer { HaveFewer shares.old shares.new }
+    ensures ended { result ≡ false → All HasEnded shares.new }
 {
     let mut more = false;
     for n in 0..shares.len() {
@@ -46,8 +50,10 @@ fn go_round<G: Gate>(shares: &mut [Share<'_, G>]) -> bool
 /// All shares go on in this thread, a turn each in a circle, until all have ended.
 fn go_on_in_a_circle<G: Gate>(shares: &mut [Share<'_, G>], turns: u32)
     requires well { AreWell shares.old }
+    requires few { All (HasAtMost turns) shares.old }
     ensures well { AreWell shares.new }
-    ensures gone { AllGoOn shares.old shares.new }
+    ensures gone { AllGoOn G.hears shares.old shares.new }
+    ensures ended { All HasEnded shares.new }
 {
     for _round in 0..turns {
         if !go_round(shares) {
@@ -66,14 +72,15 @@ pub(crate) fn run_all<R: Threads + Sync, G: Gate + Send>(
     turns: u32,
 )
     requires well { AreWell shares.old }
+    requires few { All (HasAtMost turns) shares.old }
     ensures well { AreWell shares.new }
-    ensures gone { AllGoOn shares.old shares.new }
+    ensures gone { AllGoOn G.hears shares.old shares.new }
+    ensures ended { All HasEnded shares.new }
 {
     let start = Start::new(shares.len());
     let run = |_place: usize, share: &mut Share<'_, G>|
         requires { IsWell share.now.driver share.now.station.end share.now.finished }
-        ensures { GoesOn share.entry.now.driver share.entry.now.station.end
-            share.exit.now.driver share.exit.now.station.end
+        ensures { GoesOn G.hears share.entry.now share.exit.now
             × IsWell share.exit.now.driver share.exit.now.station.end share.exit.now.finished }
     { share.run(&start) };
     thread::for_each_mut(rt, shares, MAX_NODES as usize, &run);
@@ -89,8 +96,10 @@ pub(crate) fn gathered<G: Drop>(
 ) -> Result<(Vec<Station>, bool), AllocError>
     ensures stations { IfOk result
         (λ all. all.0.items ≡ map (λ share. share.station) shares.entry.items) }
-    ensures finished { IfOk result
-        (λ all. all.1 ≡ true → All (λ share. share.finished ≡ Ok true) shares.entry.items) }
+    ensures finished { IfOk result (λ all.
+        (all.1 ≡ true) ↔ All (λ share. share.finished ≡ Ok true) shares.entry.items) }
+    ensures unrefused { IfOk result
+        (λ all. All (λ share. IsOk share.finished) shares.entry.items) }
 {
     let mut stations = Vec::with_capacity(alloc, shares.len())?;
     let mut all = true;
@@ -150,10 +159,12 @@ pub(crate) fn shares<'a, G: Drop>(
     requires fresh { All (λ station. HasSubmittedNothing (node_in station)) stations.items }
     ensures stations { IfOk result
         (λ shares. map (λ share. share.station) shares.items ≡ stations.items) }
+    ensures gates { IfOk result
+        (λ shares. map (λ share. share.gate) shares.items ≡ gates.items) }
     ensures well { IfOk result (λ shares. AreWell shares.items) }
     ensures opened { IfOk result (λ shares. All
-        (λ share. IsOpened plan.entry.issuing (own_of plan.entry.operations.now) share.driver
-        share.station.end) shares.items) }
+        (IsOpened plan.entry.issuing (own_of plan.entry.operations.now) plan.entry.turns)
+        shares.items) }
 {
     new_drivers_may_drive();
     let mut shares = Vec::with_capacity(alloc, stations.len())?;

@@ -1,6 +1,7 @@
 use Rattle.std.proofs.Common.{sym, subst}
+use Rattle.sci_drive.specs.declared.driver.Issuing.TheVariants.{Ahead}
 use Rattle.sci_threads.specs.Shares.{HaveLogsOf, HaveWholeLogsOf}
-use Rattle.sci_threads.proofs.RunStations.{led_by}
+use Rattle.sci_threads.proofs.{DrivenNodes.{led_and_driven}, RunStations.{led_by}}
 use Rattle.sci_threads.proofs.running.run_nodes.Goals as goal
 
 pub returns-clause-named : goal.returns-clause-named
@@ -12,3 +13,8 @@ returns-clause-whole g c = λ finished.
 
 pub returns-clause-led : goal.returns-clause-led
 returns-clause-led g c = led_by _ _ _ _ c.in_ok-machine.ensures.led c.finish-logs.ensures.logs c.finish-logs.ensures.last
+
+pub returns-clause-rounds : goal.returns-clause-rounds
+returns-clause-rounds g c =
+    led_and_driven g.G.Gate.hears c.args.turns Ahead c.args.gates.items c.in_ok-machine.machine c.in_ok-machine.finished _ _ _ _ c.in_ok-machine.ensures.led
+    c.finish-logs.ensures.logs c.finish-logs.ensures.last c.in_ok-machine.ensures.rounds

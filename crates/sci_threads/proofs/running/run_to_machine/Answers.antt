@@ -1,11 +1,11 @@
-use Rattle.std.proofs.Common.{◌≡◌, ◌<◌, ◌≤◌, ℕ, List, All, Vec, length, sym, ap, subst, ◌∙◌}
+use Rattle.std.proofs.Common.{◌≡◌, ◌<◌, ◌≤◌, ℕ, List, All, Vec, Result, Ok, Err, IfOk, length, sym, ap, subst, ◌∙◌}
 use Rattle.std.proofs.lemmas.Result.{IfOk-weaker}
 use Rattle.std.specs.Prelude.{slice_index_or}
 use Rattle.sci_words.specs.declared.{operation.Op.{Op}, limits.TheConstants.{MAX_OPERATIONS}}
 use Rattle.sci_history.specs.declared.entry.Entry.{Entry}
-use Rattle.sci_core.specs.Outcome.{logs_of}
+use Rattle.sci_core.specs.{Outcome.{logs_of}, Size.{Size}}
 use Rattle.sci_drive.specs.Script.{IsFrontOf, IsLogOf, IsWholeLogOf}
-use Rattle.sci_threads.proofs.RunStations.{led_for, of_script}
+use Rattle.sci_threads.proofs.{DrivenNodes.{by_script}, RunStations.{led_for, of_script}}
 use Rattle.sci_threads.proofs.running.run_to_machine.Goals.{After-run_plan}
 use Rattle.sci_threads.specs.Shares.{IsOfEachLog, IsOfEachLogOf, operations_of, own_of}
 use Rattle.sci_threads.proofs.running.run_to_machine.Goals as goal
@@ -21,17 +21,20 @@ pub run_plan-requires-clause-few : goal.run_plan-requires-clause-few
 run_plan-requires-clause-few g c = λ lts met.
     subst (All (λ (own : Vec Op _). length own.items ≤ MAX_OPERATIONS)) (sym c.deref.ensures.value) c.in_ok-operations.ensures.few
 
+many : (g : _) (c : After-run_plan g) → length c.deref.result.now ≡ c.args.script.now.nodes
+many g c = ap length c.deref.ensures.value ∙ c.in_ok-operations.ensures.nodes
+
+own : (g : _) (c : After-run_plan g) (n : ℕ) (d : Vec Op _) → n < c.args.script.now.nodes
+    → (slice_index_or c.deref.result.now n d).items ≡ operations_of n c.args.script.now.operations
+own g c =
+    subst (λ (all : List (Vec Op _)). (n : ℕ) (d : Vec Op _) → n < c.args.script.now.nodes
+    → (slice_index_or all n d).items ≡ operations_of n c.args.script.now.operations) (sym c.deref.ensures.value) c.in_ok-operations.ensures.each
+
 -- what is so of the lists of operations, is so of the script
-by_script : (g : _) (c : After-run_plan g) (Good : List Op → List Entry → Type 0) (logs : List (List Entry))
+by_lists : (g : _) (c : After-run_plan g) (Good : List Op → List Entry → Type 0) (logs : List (List Entry))
     → IsOfEachLog Good c.extent.result.nodes (own_of c.deref.result.now) logs → IsOfEachLogOf Good c.args.script.now logs
-by_script g c Good logs =
-    let operations = c.deref.result.now in
-    let script = c.args.script.now in
-    let many : length operations ≡ script.nodes = ap length c.deref.ensures.value ∙ c.in_ok-operations.ensures.nodes in
-    let own : (n : ℕ) (d : Vec Op _) → n < script.nodes → (slice_index_or operations n d).items ≡ operations_of n script.operations =
-    subst (λ (all : List (Vec Op _)). (n : ℕ) (d : Vec Op _) → n < script.nodes → (slice_index_or all n d).items ≡ operations_of n script.operations)
-    (sym c.deref.ensures.value) c.in_ok-operations.ensures.each in
-    of_script Good script operations logs many own c.extent.result.nodes c.extent.ensures.nodes
+by_lists g c Good logs =
+    of_script Good c.args.script.now c.deref.result.now logs (many g c) (own g c) c.extent.result.nodes c.extent.ensures.nodes
 
 pub returns-clause-led : goal.returns-clause-led
 returns-clause-led g c =
@@ -42,14 +45,24 @@ returns-clause-led g c =
 pub returns-clause-named : goal.returns-clause-named
 returns-clause-named g c =
     let d = (goal.at.returns-clause-named g c).After-run_plan in
-    IfOk-weaker c.run_plan.result _ _ (λ ran. by_script g d IsLogOf (logs_of ran.0)) c.run_plan.ensures.named
+    IfOk-weaker c.run_plan.result _ _ (λ ran. by_lists g d IsLogOf (logs_of ran.0)) c.run_plan.ensures.named
 
 pub returns-clause-whole : goal.returns-clause-whole
 returns-clause-whole g c =
     let d = (goal.at.returns-clause-whole g c).After-run_plan in
-    IfOk-weaker c.run_plan.result _ _ (λ ran whole finished. by_script g d IsWholeLogOf (logs_of ran.0) (whole finished)) c.run_plan.ensures.whole
+    IfOk-weaker c.run_plan.result _ _ (λ ran whole finished. by_lists g d IsWholeLogOf (logs_of ran.0) (whole finished)) c.run_plan.ensures.whole
 
 pub returns-clause-front : goal.returns-clause-front
 returns-clause-front g c =
     let d = (goal.at.returns-clause-front g c).After-run_plan in
-    IfOk-weaker c.run_plan.result _ _ (λ ran front is. by_script g d IsFrontOf (logs_of ran.0) (front is)) c.run_plan.ensures.front
+    IfOk-weaker c.run_plan.result _ _ (λ ran front is. by_lists g d IsFrontOf (logs_of ran.0) (front is)) c.run_plan.ensures.front
+
+pub returns-clause-rounds : goal.returns-clause-rounds
+returns-clause-rounds g c =
+    let d = (goal.at.returns-clause-rounds g c).After-run_plan in
+    of_both c.run_plan.result _ _ _ (λ ran led. by_script g.G.Gate.hears c.args.turns c.args.issuing c.args.gates.items ran.0 ran.1 c.args.script.now
+    c.deref.result.now (many g d) (own g d) (ap (λ (z : Size). z.nodes) led.sized ∙ c.extent.ensures.nodes)) c.run_plan.ensures.led c.run_plan.ensures.rounds
+  where
+    of_both : {A E : Type 0} (r : Result A E) (P Q R : A → Type 0) → ((x : A) → P x → Q x → R x) → IfOk r P → IfOk r Q → IfOk r R
+    of_both (Ok x) P Q R both p q = both x p q
+    of_both (Err e) P Q R both p q = tt

@@ -1,10 +1,11 @@
-use Rattle.std.proofs.Common.{◌≡◌, ◌<◌, ◌≤◌, ◌++◌, ◌∷◌, [], List, All, Ok, inl, inr, false, length, map, sym, ap, subst, ◌∙◌, append_assoc, arith}
-use Rattle.std.proofs.lemmas.List.{append-nil, get_or-map, map-append, Elements.{All-head, All-push, All-tail}}
+use Rattle.std.proofs.Common.{◌≡◌, ◌<◌, ◌≤◌, ◌++◌, ◌∷◌, [], List, All, Ok, inl, inr, false, length, map, refl, sym, ap, subst, ◌∙◌, append_assoc, arith}
+use Rattle.std.proofs.lemmas.List.{get_or-map, map-append, Elements.{All-head, All-push, All-tail}}
 use Rattle.sci_words.specs.declared.{limits.TheConstants.{MAX_OPERATIONS}, operation.Op.{Op}}
 use Rattle.sci_drive.specs.Driving.{DriverOf, HasSubmittedNothing, IsDriven, IsInOrder, opening_driver}
 use Rattle.sci_lanes.specs.Shown.{me_of}
 use Rattle.sci_station.specs.Station.{StationOf, node_in}
 use Rattle.sci_threads.specs.{Shares.{IsOpened, IsWell, own_of}, declared.share.Share.{Share}}
+use Rattle.sci_threads.proofs.RunStations.{all_in_front}
 use Rattle.sci_threads.proofs.shares.shares.Goals as goal
 
 pub bounds-plan-me : goal.bounds-plan-me
@@ -30,6 +31,7 @@ loop-station-preserved g c =
     let steps = c.in-Some.ensures.steps in
     let one = c.in-Some.station in
     let rest = c.next.new.self.a.rest.items in
+    let gates = c.next.new.self.b.rest.items in
     let operations = c.args.plan.operations.now in
     let issuing = c.args.plan.issuing in
     let Known : StationOf → Type 0 = λ s. me_of s.end.part < length operations in
@@ -50,8 +52,10 @@ loop-station-preserved g c =
           (c.new_drivers_may_drive.ensures.driven script issuing node (All-head Fresh one rest fresh));
       answered = λ is. absurd cc;
     } in
-    let opened : IsOpened issuing (own_of operations) driver one.end = record {
-      script = ap (λ (d : DriverOf). d.script) c.new.ensures ∙ mine;
+    let opened : IsOpened issuing (own_of operations) c.args.plan.turns share = record {
+      driver = c.new.ensures ∙ ap (λ (ops : List Op). opening_driver ops issuing) mine;
+      left = refl;
+      unfinished = refl;
       ordered = λ is. subst (λ (d : DriverOf). IsInOrder d node) (sym (c.new.ensures ∙ ap (opening_driver script) is))
           (c.new_drivers_may_drive.ensures.order script node (All-head Fresh one rest fresh));
     } in
@@ -66,25 +70,32 @@ loop-station-preserved g c =
       All-tail Fresh one rest fresh,
       subst (All (λ (s : Share g.row.G.Denot). IsWell s.driver s.station.end s.finished)) (sym pushed)
           (All-push (λ (s : Share g.row.G.Denot). IsWell s.driver s.station.end s.finished) before share inv.4 well),
-      subst (All (λ (s : Share g.row.G.Denot). IsOpened issuing (own_of operations) s.driver s.station.end)) (sym pushed)
-          (All-push (λ (s : Share g.row.G.Denot). IsOpened issuing (own_of operations) s.driver s.station.end) before share inv.5 opened),
+      subst (All (λ (s : Share g.row.G.Denot). IsOpened issuing (own_of operations) c.args.plan.turns s)) (sym pushed)
+          (All-push (λ (s : Share g.row.G.Denot). IsOpened issuing (own_of operations) c.args.plan.turns s) before share inv.5 opened),
+      ap (λ (xs : List (Share g.row.G.Denot)). map (λ s. s.gate) xs ++ gates) pushed
+          ∙ (ap (λ (xs : List g.row.G.Denot). xs ++ gates) (map-append (λ s. s.gate) before (share ∷ []))
+          ∙ (append_assoc (map (λ s. s.gate) before) (c.in-Some.gate ∷ []) gates
+          ∙ (ap (λ (xs : List g.row.G.Denot). map (λ s. s.gate) before ++ xs) (sym steps.1.0) ∙ inv.6))),
     )
 
--- all stand in front of an empty rest
-all_in_front : {A : Type 0} (front rest all : List A) → length rest ≡ 0 → front ++ rest ≡ all → front ≡ all
-all_in_front front [] all none is = sym (append-nil front) ∙ is
-all_in_front front (x ∷ xs) all none is = absurd (omega (arith, none))
+-- no station is left
+none_left : (g : _) (c : goal.After-drop-station-iterator-3 g) → length c.loop-station.station-iterator.a.rest.items ≡ 0
+none_left g c =
+    let both = c.loop-station.invariant.1 in
+    let a = c.loop-station.station-iterator.a.rest.ok.0 in
+    let b = c.loop-station.station-iterator.b.rest.ok.0 in (elim c.in-None.ensures.steps [
+      | inl ended ↦ let at = ended.1.0 in omega (arith, a, at)
+      | inr ended ↦ let at = ended.1.0 in omega (arith, b, at, both)
+    ])
 
 pub returns-clause-stations : goal.returns-clause-stations
 returns-clause-stations g c =
-    let inv = c.loop-station.invariant in
-    let stations = c.loop-station.station-iterator.a.rest in
-    let gates = c.loop-station.station-iterator.b.rest in
-    let a = stations.ok.0 in
-    let b = gates.ok.0 in
-    let both = inv.1 in
-    let none : length stations.items ≡ 0 = elim c.in-None.ensures.steps [
-      | inl ended ↦ let at = ended.1.0 in omega (arith, a, at)
-      | inr ended ↦ let at = ended.1.0 in omega (arith, b, at, both)
-    ] in
-    all_in_front (map (λ (s : Share g.row.G.Denot). s.station) c.loop-station.shares.items) stations.items c.args.stations.items none inv.0
+    all_in_front (map (λ (s : Share g.row.G.Denot). s.station) c.loop-station.shares.items) c.loop-station.station-iterator.a.rest.items c.args.stations.items
+    (none_left g c) c.loop-station.invariant.0
+
+pub returns-clause-gates : goal.returns-clause-gates
+returns-clause-gates g c =
+    let none = none_left g c in
+    let both = c.loop-station.invariant.1 in
+    all_in_front (map (λ (s : Share g.row.G.Denot). s.gate) c.loop-station.shares.items) c.loop-station.station-iterator.b.rest.items c.args.gates.items
+    (omega (arith, none, both)) c.loop-station.invariant.6

@@ -12,4 +12,5 @@ invariant-loop-station g l =
     × All (λ station. me_of station.end.part < length l.plan.operations.now) l.station-iterator.a.rest.items
     × All (λ station. HasSubmittedNothing (node_in station)) l.station-iterator.a.rest.items
     × All (λ share. IsWell share.driver share.station.end share.finished) l.shares.items
-    × All (λ share. IsOpened l.plan.issuing (own_of l.plan.operations.now) share.driver share.station.end) l.shares.items
+    × All (IsOpened l.plan.issuing (own_of l.plan.operations.now) l.plan.turns) l.shares.items
+    × (map (λ share. share.gate) l.shares.items ++ l.station-iterator.b.rest.items ≡ l.fn.gates.items)
