@@ -4,6 +4,7 @@ pub mod ExplainAnswer
 pub mod OrderAnswer
 pub mod TextReadings
 pub mod Subject
+pub mod Placed
 pub mod Faulty
 pub mod Window
 pub mod NoteText

@@ -1,13 +1,8 @@
 -- What the note of a faulty line of memory is made from.
-use Rattle.std.specs.{Prelude.{◌≡◌, ◌<◌, ℕ, List, All, IfSome, Option}, List.Sorted.{IsPermutation}}
-use Rattle.sci_history.specs.{declared.faults.LineFault.{LineFault}, Placed.{by_version}}
+use Rattle.std.specs.Prelude.{◌≡◌, ℕ, List, IfSome, Option}
+use Rattle.sci_history.specs.declared.faults.LineFault.{LineFault}
 use Rattle.sci_reports.specs.declared.{faulty.FaultyEntry.{FaultyEntry}, note.Subject.{Subject}, numbered.Numbered.{Numbered}}
-use Rattle.sci_reports.specs.{EntryLines.{entries_in}, Faulty.{IsAtFault, IsCaused}, NoteText.{note_text}}
-
--- the entries of a line, each with its line of the text, in the order in which the audit places them
-pub record ArePlaced (entries placed : List Numbered) : Type 0 where
-  pub kept : IsPermutation entries placed
-  pub order : (bound : ℕ) → All (λ entry. entry.version < bound) (entries_in entries) → entries_in placed ≡ by_version bound (entries_in entries)
+use Rattle.sci_reports.specs.{EntryLines.{entries_in}, Faulty.{IsAtFault, IsCaused}, NoteText.{note_text}, Placed.{ArePlaced}}
 
 -- the note says which of the subject's entries is at fault by this kind, or what its last contents should be; and it shows the entries
 pub record IsNoteOf (fault : LineFault) (subject : Subject) (note : List ℕ) : Type 0 where

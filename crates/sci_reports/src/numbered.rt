@@ -6,6 +6,7 @@ ghost use Rattle.sci_words.specs.declared.limits.TheConstants.{MAX_LINES, MAX_NO
 ghost use Rattle.sci_history.specs.{declared.entry.Entry.{Entry}, Placed.{by_version, log_of}};
 ghost use Rattle.sci_text.specs.LogValue.{entry_count};
 ghost use Rattle.sci_reports.specs.EntryLines.{IsBeforeEntries, IsLineOf, IsOpening, entries_in, numbered_on, numberings, on_line_from};
+ghost use Rattle.sci_reports.specs.Placed.{KeepsTies};
 
 use sci_history::{Entry, Last, Logs};
 use std::alloc::{AllocError, Global};
@@ -127,12 +128,13 @@ pub fn entries_on<'a>(
 }
 
 /// The entries on one line of memory in the order of their versions: at each version its maker first, and of the others
-/// those of lower nodes and serials first.
+/// those of lower nodes and serials first. Entries that tie in all of this stay in the order of the text.
 pub fn placed<'a>(alloc: Global, entries: &[Numbered<'a>]) -> Result<Vec<Numbered<'a>>, AllocError>
     ensures kept { IfOk result (λ placed. IsPermutation entries.now placed.items) }
     ensures order { (bound : ℕ) → All (λ entry. entry.node < MAX_NODES) (entries_in entries.now)
         → All (λ entry. entry.version < bound) (entries_in entries.now)
         → IfOk result (λ placed. entries_in placed.items ≡ by_version bound (entries_in entries.now)) }
+    ensures ties { IfOk result (λ placed. KeepsTies entries.now placed.items) }
 {
     let mut placed = Vec::from_slice(alloc, entries)?;
     placed.sort_by_key(|it| it.entry.serial)?;

@@ -13,13 +13,14 @@ returns c = λ known.
     let placed = c.in_ok-placed.placed.items in
     let kept = rw c.deref.ensures.value at c.in_ok-placed.ensures.kept in
     let order = rw c.deref.ensures.value at c.in_ok-placed.ensures.order in
+    let ties = rw c.deref.ensures.value at c.in_ok-placed.ensures.ties in
     let words = All-permutation (λ (e : Entry). e.op.word < WORDS_PER_LINE) (entries_in entries) (entries_in placed)
     (IsPermutation-map (λ ref. ref.now) (entry_refs entries) (entry_refs placed) (IsPermutation-map (λ it. it.entry) entries placed kept)) known.words in
     let at_fault = (rw (c.deref-2.ensures.value, c.deref-3.ensures.value) at c.in_ok-found.ensures.entry) known.nodes words in
     let cause = (rw (c.deref-2.ensures.value, c.deref-3.ensures.value) at c.in_ok-found.ensures.cause) known.nodes words in
     record {
       placed = placed;
-      are = record { kept = kept; order = λ bound below. order bound known.nodes below };
+      are = record { kept = kept; order = λ bound below. order bound known.nodes below; ties = ties };
       found = c.in_ok-found.found;
       at_fault = at_fault;
       cause = cause;
