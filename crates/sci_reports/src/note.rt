@@ -317,17 +317,16 @@ fn push_fault(out: &mut Vec<u8>, found: FaultyEntry) -> Result<(), AllocError>
 #[tactic(auto, unfolding(crate::specs::NoteText::note_text))]
 fn push_lines(
     out: &mut Vec<u8>,
+    subject: &Subject,
     found: Option<FaultyEntry>,
     placed: &[Numbered],
-    last: Stamped,
-    last_line: usize,
 ) -> Result<(), AllocError>
     ensures { All (λ entry. entry.op.word < WORDS_PER_LINE) (entries_in placed.now)
-        → OnOk result (out.new.items
-        ≡ out.old.items ++ note_text found.entry placed.now last last_line) }
+        → OnOk result (out.new.items ≡ out.old.items
+        ++ note_text found.entry placed.now subject.now.last subject.now.last_line) }
 {
     let Some(found) = found else {
-        push_last(out, last_line, last, placed)?;
+        push_last(out, subject.last_line, subject.last, placed)?;
         return push_around(out, placed, 0);
     };
     push_fault(out, found)?;
@@ -343,6 +342,6 @@ pub fn note_of(alloc: Global, fault: LineFault, subject: &Subject) -> Result<Vec
     let placed = placed(alloc, &subject.entries)?;
     let found = faulty_entry(alloc, fault.kind, &subject.entries, &placed)?;
     let mut note = Vec::new(alloc);
-    push_lines(&mut note, found, &placed, subject.last, subject.last_line)?;
+    push_lines(&mut note, subject, found, &placed)?;
     Ok(note)
 }
