@@ -12,7 +12,7 @@ const SPINS: u32 = 4;
 
 /// Lets a node submit each operation as soon as it can, counts the nodes that are done, and yields the thread where
 /// nothing moves. After an answer it spins a few times first: a yield is a call of the kernel, and the answer to a request
-/// is often there before it returns.
+/// is often there before it returns. Contracts see that it allows each operation.
 #[derive(Drop)]
 pub struct YieldingGate<'a> {
     done: &'a AtomicU64,
@@ -47,7 +47,10 @@ impl<'a> YieldingGate<'a> {
 }
 
 impl<'a> Gate for YieldingGate<'a> {
-    ghost hears = { λ old calls new. Unit {0} };
+    ghost use Rattle.std.proofs.lemmas.List.Elements.{All-append, All-nil};
+    ghost use Rattle.sci_drive.specs.Calls.{Allows, AllowAll};
+
+    ghost hears = { λ old calls new. AllowAll calls };
 
     fn may_issue(&mut self, _index: u32) -> bool {
         true
@@ -76,7 +79,7 @@ impl<'a> Gate for YieldingGate<'a> {
         }
     }
 
-    ghost hears_nothing = { λ x. tt };
+    ghost hears_nothing = { λ x. All-nil Allows };
 
-    ghost hears_on = { λ x y z calls more first second. tt };
+    ghost hears_on = { λ x y z calls more first second. All-append Allows calls more first second };
 }
