@@ -98,6 +98,10 @@ refuses_not core from n f some waits =
     never_taken core (event.Refuse from n) Requests from (node_refusing (node_at core n)) some f refl
     (λ letter. if_waits (is_some (node_at core n).waiting) _ waits)
 
+-- the event is this one
+pub moved_not : (core : Core) (n : ℕ) (e x : Event) → e ≡ x → stepping core (moved_to n x) ≡ None → stepping core (moved_to n e) ≡ None
+moved_not core n e x is none = ap (λ (y : Event). stepping core (moved_to n y)) is ∙ none
+
 -- whether there is one is the same of what is made of each
 pub seen_same : {X Y : Type 0} (of : Option X → Option Y) → of None ≡ None → ((x : X) → is_some (of (Some x)) ≡ true) → (o : Option X)
     → is_some (of o) ≡ is_some o
