@@ -1,17 +1,17 @@
 -- What a driver does in a round, step by step.
-use Rattle.std.proofs.Common.{◌≡◌, ◌+◌, ℕ, Bool, true, false, List, [], ◌∷◌, ◌++◌, Some, if◌then◌else◌, add-one, refl, sym, ap, subst, inl, inr}
+use Rattle.std.proofs.Common.{◌≡◌, ◌+◌, ℕ, Bool, true, false, List, [], ◌∷◌, ◌++◌, map, Some, if◌then◌else◌, add-one, refl, sym, ap, subst, inl, inr}
 use Rattle.std.proofs.lemmas.List.Elements.{Contains-append_left}
-use Rattle.std.specs.{Prelude.{◌⊎◌, Result, Ok, IfOk}, List.{Contains}, declared.alloc.AllocError.{AllocError}}
+use Rattle.std.specs.{Prelude.{◌↔◌, Result, Ok, IfOk}, List.{Contains}, declared.alloc.AllocError.{AllocError}}
 use Rattle.sci_words.specs.declared.operation.Op.{Op}
 use Rattle.sci_history.specs.declared.entry.Entry.{Entry}
 use Rattle.sci_core.specs.{Node.{NodeOf}, Work.{IsIssued, IsLogged}}
-use Rattle.sci_policy.specs.Worker.{HasSameWork, IsNodeTurn}
-use Rattle.sci_drive.specs.{declared.driver.Round.{Round}, Calls.{AllDone, Call, Done, IsHeard, MayIssue, Rest}}
-use Rattle.sci_drive.specs.Driving.{DriverOf}
-use Rattle.sci_drive.specs.Resting.{AllAreDone, AreBehind, NotAsked, NotYet, in_a_row, is_rest_due, rests_if, row_after}
+use Rattle.sci_policy.specs.{Deeds.{Deed, Issues}, Worker.{HasSameWork, IsNodeTurn}}
+use Rattle.sci_drive.specs.{declared.driver.Round.{Round}, Calls.{AllDone, Call, IsHeard, MayIssue, Rest}}
+use Rattle.sci_drive.specs.Driving.{DriverOf, IsAnswered}
+use Rattle.sci_drive.specs.Resting.{AllAreDone, AreBehind, IsAsked, NotAsked, NotYet, in_a_row, is_rest_due, rests_if, row_after}
 use Rattle.sci_drive.specs.Rounds.{AllSubmitted, ArePerformed, GoRounds, GoesRound, IsHeldBack, IsTried, LineIsTaken, NoRoom, NoneNow, NotAllowed, OneMore}
-use Rattle.sci_drive.specs.Rounds.{Refused, Submits, next_op, with_submitted}
-use Rattle.sci_drive.proofs.GateCalls.{calls_on, done_call, no_calls, one_call, submit_call}
+use Rattle.sci_drive.specs.Rounds.{Refused, Submits, next_op, performed, turn_of, with_submitted}
+use Rattle.sci_drive.proofs.GateCalls.{calls_on, no_calls, one_call, submit_call}
 
 -- ---- submitted
 
@@ -22,10 +22,10 @@ held_on driver node calls more (LineIsTaken op next taken) = LineIsTaken op next
 held_on driver node calls more (NotAllowed asked) = NotAllowed (Contains-append_left calls more (MayIssue driver.next false) asked)
 held_on driver node calls more (Refused op next refused) = Refused op next refused
 
-submits_on : (old new : DriverOf) (before after : NodeOf) (calls more : List Call) → Submits old new before after calls
-    → Submits old new before after (calls ++ more)
-submits_on old new before after calls more (OneMore op next is issued) = OneMore op next is issued
-submits_on old new before after calls more (NoneNow held is same) = NoneNow (held_on old before calls more held) is same
+submits_on : (old new : DriverOf) (before after : NodeOf) (calls more : List Call) (deeds : List Deed) → Submits old new before after calls deeds
+    → Submits old new before after (calls ++ more) deeds
+submits_on old new before after calls more deeds (OneMore op next is issued done) = OneMore op next is issued done
+submits_on old new before after calls more deeds (NoneNow held is same done) = NoneNow (held_on old before calls more held) is same done
 
 -- ---- performed
 
@@ -49,87 +49,69 @@ tried_on line before node after entry was logged = record {
 
 module _ {G : Type 0} (hears : G → List Call → G → Type 0) (hears_nothing : (g : G) → hears g [] g) where
   -- nothing is submitted, and the gate isn't asked
-  pub holds_back : (g : G) (a : DriverOf) (x : NodeOf) → IsHeldBack a x [] → (heard : IsHeard hears g g a a x x) × Submits a a x x heard.calls
-  holds_back g a x held = (record { calls = []; heard = hears_nothing g; are = no_calls a a x x refl refl refl }, NoneNow held refl refl)
+  pub holds_back : (g : G) (a : DriverOf) (x : NodeOf) → IsHeldBack a x [] → (heard : IsHeard hears g g a a x x) × Submits a a x x heard.calls []
+  holds_back g a x held = (record { calls = []; heard = hears_nothing g; are = no_calls a a x x refl refl refl }, NoneNow held refl refl refl)
 
   -- nothing is submitted, and the gate is asked
   pub asks : (g h : G) (may : Bool) (a : DriverOf) (x y : NodeOf) → hears g (MayIssue a.next may ∷ []) h → y ≡ x → IsHeldBack a x (MayIssue a.next may ∷ [])
-      → (heard : IsHeard hears g h a a x y) × Submits a a x y heard.calls
+      → (heard : IsHeard hears g h a a x y) × Submits a a x y heard.calls []
   asks g h may a x y is same held = (
     record { calls = MayIssue a.next may ∷ []; heard = is; are = one_call a a x y (MayIssue a.next may) refl refl refl refl (ap (λ (n : NodeOf). n.log) same) },
-    NoneNow held refl same,
+    NoneNow held refl same refl,
   )
 
   -- the next operation is submitted, as it was allowed
   pub submits_one : (g h : G) (a : DriverOf) (x y : NodeOf) (op : Op) → hears g (MayIssue a.next true ∷ []) h → next_op a ≡ Some op → IsIssued x y op
-      → (heard : IsHeard hears g h a (with_submitted a op) x y) × Submits a (with_submitted a op) x y heard.calls
+      → (heard : IsHeard hears g h a (with_submitted a op) x y) × Submits a (with_submitted a op) x y heard.calls (Issues op ∷ [])
   submits_one g h a x y op is next issued = (
     record { calls = MayIssue a.next true ∷ []; heard = is; are = submit_call a (with_submitted a op) x y refl refl issued.log },
-    OneMore op next refl issued,
+    OneMore op next refl issued refl,
   )
 
 -- ---- a round
 
 module _ {G E : Type 0} (hears : G → List Call → G → Type 0) (hears_nothing : (g : G) → hears g [] g) (hears_on : (g h k : G) (calls more : List Call)
     → hears g calls h → hears h more k → hears g (calls ++ more) k) where
-  -- it submits, performs, and takes a turn
-  pub goes : (g h k : G) (a b c : DriverOf) (x y z w : NodeOf) (result : Result Round E)
-      → ((heard : IsHeard hears g h a b x y) × Submits a b x y heard.calls)
-      → IsHeard hears h k b c y z
-      → ((entries : List Entry) × ArePerformed y entries z)
-      → ((line : ℕ) → Contains c.pending line → IsTried line y z)
+  -- it submits, performs, takes a turn, and tells the gate of the end, if it does
+  pub goes : (g h k l : G) (a b c d : DriverOf) (x y z w : NodeOf) (result : Result Round E) (first : List Deed) (entries : List Entry)
+      → (submitted : IsHeard hears g h a b x y) → Submits a b x y submitted.calls first
+      → IsHeard hears h k b c y z → ArePerformed y entries z
+      → ((line : ℕ) → Contains d.pending line → IsTried line y z)
       → HasSameWork z w → IfOk result (λ round. IsNodeTurn z w round.progress)
-      → GoesRound hears g k a c x w result
-  goes g h k a b c x y z w result submitted performing performed tried work turn = record {
+      → IsHeard hears k l c d z w → IfOk result (λ round. (d.was_done ≡ true) ↔ IsAnswered d)
+      → GoesRound hears ((first ++ map performed entries) ++ turn_of result) g l a d x w result
+  goes g h k l a b c d x y z w result first entries submitted submits performing performs tried work turn telling done = record {
     heard = record {
-      calls = (submitted.0.calls ++ performing.calls) ++ [];
-      heard = hears_on g k k (submitted.0.calls ++ performing.calls) [] (hears_on g h k submitted.0.calls performing.calls submitted.0.heard performing.heard)
-          (hears_nothing k);
-      are = calls_on a c c x z w (submitted.0.calls ++ performing.calls) []
-          (calls_on a b c x y z submitted.0.calls performing.calls submitted.0.are performing.are) (no_calls c c z w refl refl work.log);
+      calls = (submitted.calls ++ performing.calls) ++ telling.calls;
+      heard = hears_on g k l (submitted.calls ++ performing.calls) telling.calls
+          (hears_on g h k submitted.calls performing.calls submitted.heard performing.heard) telling.heard;
+      are = calls_on a c d x z w (submitted.calls ++ performing.calls) telling.calls
+          (calls_on a b c x y z submitted.calls performing.calls submitted.are performing.are) telling.are;
     };
     node = z;
+    works = first ++ map performed entries;
     worked = record {
       driver = b;
       node = y;
-      submits = submits_on a b x y (submitted.0.calls ++ performing.calls) [] (submits_on a b x y submitted.0.calls performing.calls submitted.1);
-      entries = performed.0;
-      performs = performed.1;
+      first = first;
+      submits = submits_on a b x y (submitted.calls ++ performing.calls) telling.calls first
+          (submits_on a b x y submitted.calls performing.calls first submits);
+      entries = entries;
+      performs = performs;
+      deeds_are = refl;
       tried = tried;
     };
+    deeds_are = refl;
     same = work;
     turn = turn;
-  }
-
-  -- and the gate is told that the whole script is answered
-  pub goes_done : (g h k : G) (a b : DriverOf) (x y : NodeOf) (result : Result Round E)
-      → GoesRound hears g h a b x y result → hears h (Done ∷ []) k → b.was_done ≡ false
-      → GoesRound hears g k a (record b { was_done = true }) x y result
-  goes_done g h k a b x y result was is not_yet = record {
-    heard = record {
-      calls = was.heard.calls ++ Done ∷ [];
-      heard = hears_on g h k was.heard.calls (Done ∷ []) was.heard.heard is;
-      are = calls_on a b (record b { was_done = true }) x y y was.heard.calls (Done ∷ []) was.heard.are
-          (done_call b (record b { was_done = true }) y y refl not_yet refl refl);
-    };
-    node = was.node;
-    worked = record {
-      driver = was.worked.driver;
-      node = was.worked.node;
-      submits = submits_on a was.worked.driver x was.worked.node was.heard.calls (Done ∷ []) was.worked.submits;
-      entries = was.worked.entries;
-      performs = was.worked.performs;
-      tried = was.worked.tried;
-    };
-    same = was.same;
-    turn = was.turn;
+    done = done;
   }
 
 -- ---- many rounds
 
 -- the gate has had the calls behind a round
-abbrev pub IsBehind : {G : Type 0} → (G → List Call → G → Type 0) → G → G → Round → ℕ → ℕ → Type 0
-IsBehind hears gate later round row next = (calls : List Call) × hears gate calls later × AreBehind round row next calls
+abbrev pub IsBehind : {G : Type 0} → (G → List Call → G → Type 0) → DriverOf → G → G → Round → ℕ → ℕ → Bool → Type 0
+IsBehind hears driver gate later round row next finished = (calls : List Call) × hears gate calls later × AreBehind driver round row next calls finished
 
 module _ {G : Type 0} (hears : G → List Call → G → Type 0) (hears_nothing : (g : G) → hears g [] g) (hears_on : (g h k : G) (calls more : List Call)
     → hears g calls h → hears h more k → hears g (calls ++ more) k) where
@@ -147,24 +129,29 @@ module _ {G : Type 0} (hears : G → List Call → G → Type 0) (hears_nothing 
   )
 
   -- the gate is asked whether all are done, or not asked, and they aren't
-  pub behind_round : (g h k : G) (all : Bool) (round : Round) (row next : ℕ) → all ≡ false → (hears g [] h × (all ≡ false)) ⊎ hears g (AllDone all ∷ []) h
+  pub behind_round : (driver : DriverOf) (g h k : G) (all : Bool) (round : Round) (row next : ℕ) → all ≡ false → IsAsked hears driver g h all
       → (is_rest_due round row ≡ true → hears h (Rest ∷ []) k × (next ≡ 0)) → (is_rest_due round row ≡ false → hears h [] k × (next ≡ in_a_row round row))
-      → IsBehind hears g k round row next
-  behind_round g h k true round row next isnt asked rests on = absurd (cc)
-  behind_round g h k false round row next isnt (inl not) rests on =
+      → IsBehind hears driver g k round row next false
+  behind_round driver g h k true round row next isnt asked rests on = absurd (cc)
+  behind_round driver g h k false round row next isnt (inl not) rests on =
       let last = behind h k (is_rest_due round row) round row next refl rests on in
-      (rests_if (is_rest_due round row), hears_on g h k [] (rests_if (is_rest_due round row)) not.0 last.0, NotAsked refl last.1)
-  behind_round g h k false round row next isnt (inr is) rests on =
-      let last = behind h k (is_rest_due round row) round row next refl rests on in
-      (AllDone false ∷ rests_if (is_rest_due round row), hears_on g h k (AllDone false ∷ []) (rests_if (is_rest_due round row)) is last.0, NotYet refl last.1)
+      (rests_if (is_rest_due round row), hears_on g h k [] (rests_if (is_rest_due round row)) not.1 last.0, NotAsked not.0 refl last.1 refl)
+  behind_round driver g h k false round row next isnt (inr is) rests on =
+      let last = behind h k (is_rest_due round row) round row next refl rests on in (
+        AllDone false ∷ rests_if (is_rest_due round row),
+        hears_on g h k (AllDone false ∷ []) (rests_if (is_rest_due round row)) is.1 last.0,
+        NotYet is.0 refl last.1 refl,
+      )
 
   -- all are done
-  pub behind_last : (g h : G) (all : Bool) (round : Round) (row : ℕ) → all ≡ true → (hears g [] h × (all ≡ false)) ⊎ hears g (AllDone all ∷ []) h
-      → IsBehind hears g h round row (in_a_row round row)
-  behind_last g h false round row done asked = absurd (cc)
-  behind_last g h true round row done (inl not) = absurd (let never : true ≡ false = not.1 in cc)
-  behind_last g h true round row done (inr is) = (AllDone true ∷ [], is, AllAreDone refl refl)
+  pub behind_last : (driver : DriverOf) (g h : G) (all : Bool) (round : Round) (row : ℕ) → all ≡ true → IsAsked hears driver g h all
+      → IsBehind hears driver g h round row (in_a_row round row) true
+  behind_last driver g h false round row done asked = absurd (cc)
+  behind_last driver g h true round row done (inl not) = absurd (let never : true ≡ false = not.2 in cc)
+  behind_last driver g h true round row done (inr is) = (AllDone true ∷ [], is.1, AllAreDone is.0 refl refl refl)
 
-  pub one_round_more : (g h k l : G) (a b c : DriverOf) (x y z : NodeOf) (turns row next : ℕ) (round : Round) → GoRounds hears turns row g h a b x y
-      → GoesRound {E = AllocError} hears h k b c y z (Ok round) → IsBehind hears k l round row next → GoRounds hears (turns + 1) next g l a c x z
-  one_round_more g h k l a b c x y z turns row next round was goes last = rw add-one (h, k, b, y, round, row, last.0, was, goes, last.1, last.2)
+  pub one_round_more : (g h k l : G) (a b c : DriverOf) (x y z : NodeOf) (turns row next : ℕ) (round : Round) (finished : Bool) (deeds more : List Deed)
+      → GoRounds hears turns false row deeds g h a b x y → GoesRound {E = AllocError} hears more h k b c y z (Ok round)
+      → IsBehind hears c k l round row next finished → GoRounds hears (turns + 1) finished next (deeds ++ more) g l a c x z
+  one_round_more g h k l a b c x y z turns row next round finished deeds more was goes last =
+      rw add-one (h, k, b, y, round, row, last.0, deeds, more, refl, was, goes, last.1, last.2)

@@ -1,12 +1,11 @@
 -- How often a gate rests in this many turns.
 use Rattle.std.proofs.Common.{◌≡◌, ◌≤◌, ◌<◌, ◌+◌, ◌*◌, ℕ, arith, true, false, Bool, List, [], ◌∷◌, ◌++◌, length, cond, if◌then◌else◌, length-append, refl}
 use Rattle.std.proofs.{Common.{ap, ◌∙◌, inl, inr}, lemmas.List.{Elements.{filter_map-append}, Sums.{sum_by-append}}}
-use Rattle.std.specs.Prelude.{◌⊎◌}
 use Rattle.sci_history.specs.declared.entry.Entry.{Entry}
 use Rattle.sci_core.specs.Node.{NodeOf}
 use Rattle.sci_drive.specs.declared.driver.Round.{Round}
 use Rattle.sci_drive.specs.Calls.{AllDone, AreCalls, Call, EndWithAllDone, IsHeard, Rest, entry_told, is_rest, times_rested, told}
-use Rattle.sci_drive.specs.{Driving.{DriverOf}, Resting.{RestsInTime, in_a_row}}
+use Rattle.sci_drive.specs.{Driving.{DriverOf}, Resting.{IsAsked, RestsInTime, in_a_row}}
 use Rattle.sci_drive.proofs.GateCalls.{calls_on, no_calls, one_call}
 
 rests_append : (first second : List Call) → times_rested (first ++ second) ≡ times_rested first + times_rested second
@@ -66,10 +65,10 @@ module _ {G : Type 0} (hears : G → List Call → G → Type 0) (hears_nothing 
 
   -- the gate is asked whether all are done, or not asked
   pub after_asked : (g h k : G) (a b : DriverOf) (x y : NodeOf) (turns restless : ℕ) (all : Bool) → HasGone hears g h a b x y turns restless
-      → (hears h [] k × (all ≡ false)) ⊎ hears h (AllDone all ∷ []) k → HasGone hears g k a b x y turns restless
-  after_asked g h k a b x y turns restless all was (inl not) = gone_on g h k a b b x y y turns restless [] was not.0 (no_calls b b y y refl refl refl)
+      → IsAsked hears b h k all → HasGone hears g k a b x y turns restless
+  after_asked g h k a b x y turns restless all was (inl not) = gone_on g h k a b b x y y turns restless [] was not.1 (no_calls b b y y refl refl refl)
   after_asked g h k a b x y turns restless all was (inr is) =
-      gone_on g h k a b b x y y turns restless (AllDone all ∷ []) was is (one_call b b y y (AllDone all) refl refl refl refl refl)
+      gone_on g h k a b b x y y turns restless (AllDone all ∷ []) was is.1 (one_call b b y y (AllDone all) refl refl refl refl refl)
 
   -- it rests, which ends the row, or not
   pub after_rest : (g h k : G) (a b : DriverOf) (x y : NodeOf) (turns restless next : ℕ) (due : Bool) → restless ≤ 16 → HasGone hears g h a b x y turns restless
@@ -90,16 +89,16 @@ module _ {G : Type 0} (hears : G → List Call → G → Type 0) (hears_nothing 
 
   -- the last call asked whether all are done, and they are
   pub ended : (g h k : G) (a b : DriverOf) (x y : NodeOf) (turns restless : ℕ) (all : Bool) → restless ≤ 16 → HasGone hears g h a b x y turns restless
-      → (hears h [] k × (all ≡ false)) ⊎ hears h (AllDone all ∷ []) k → all ≡ true
+      → IsAsked hears b h k all → all ≡ true
       → (calls : List Call) × hears g calls k × AreCalls a b x y calls × EndWithAllDone calls × RestsInTime turns calls
-  ended g h k a b x y turns restless true few was (inl not) done = absurd (let no : true ≡ false = not.1 in cc)
+  ended g h k a b x y turns restless true few was (inl not) done = absurd (let no : true ≡ false = not.2 in cc)
   ended g h k a b x y turns restless false few was asked done = absurd (cc)
   ended g h k a b x y turns restless true few was (inr is) done =
       let rests = was.rests in
       let intime : RestsInTime turns (was.calls ++ AllDone true ∷ []) =
       omega (arith, rests_append was.calls (AllDone true ∷ []), told_both was.calls (AllDone true ∷ [])) in (
         was.calls ++ AllDone true ∷ [],
-        hears_on g h k was.calls (AllDone true ∷ []) was.heard is,
+        hears_on g h k was.calls (AllDone true ∷ []) was.heard is.1,
         calls_on a b b x y y was.calls (AllDone true ∷ []) was.are (one_call b b y y (AllDone true) refl refl refl refl refl),
         (was.calls, refl),
         intime,

@@ -19,6 +19,10 @@ pub record DriverOf : Type 0 where
 abbrev pub opening_driver : List Op → Issuing → DriverOf
 opening_driver script issuing = record { script = script; issuing = issuing; next = 0; pending = []; was_done = false }
 
+-- each operation of the script was submitted, and none is pending
+abbrev pub IsAnswered : DriverOf → Type 0
+IsAnswered driver = (driver.next ≡ length driver.script) × (driver.pending ≡ [])
+
 -- nothing was submitted, and nothing is logged
 pub record HasSubmittedNothing (node : NodeOf) : Type 0 where
   pub issued : node.issued ≡ 0

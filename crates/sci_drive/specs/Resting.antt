@@ -1,7 +1,7 @@
 -- When a gate rests.
-use Rattle.std.specs.Prelude.{◌≡◌, ℕ, ◌+◌, ◌*◌, ◌≤◌, nat_le, Bool, true, false, ◌&&◌, ◌||◌, not, if◌then◌else◌, List, [], ◌∷◌, length}
+use Rattle.std.specs.Prelude.{◌≡◌, ◌⊎◌, ℕ, ◌+◌, ◌*◌, ◌≤◌, nat_le, Bool, true, false, ◌&&◌, ◌||◌, not, if◌then◌else◌, List, [], ◌∷◌, length}
 use Rattle.sci_policy.specs.Turn.{is_idle}
-use Rattle.sci_drive.specs.{Calls.{AllDone, Call, Rest, times_rested, told}, declared.driver.Round.{Round}}
+use Rattle.sci_drive.specs.{Calls.{AllDone, Call, Rest, times_rested, told}, Driving.{DriverOf}, declared.driver.Round.{Round}}
 use Rattle.sci_drive.specs.declared.running.TheConstants.{RESTLESS_TURNS}
 
 -- how many turns there are in a row without an entry or a rest, after this round
@@ -19,12 +19,21 @@ row_after round restless = if is_rest_due round restless then 0 else in_a_row ro
 abbrev pub rests_if : Bool → List Call
 rests_if due = if due then Rest ∷ [] else []
 
--- The calls of the gate behind a round: it may be asked whether all are done; and unless they are, it rests exactly if a rest is
--- due.
-pub data AreBehind (round : Round) (restless next : ℕ) (calls : List Call) : Type 0 where
-  NotAsked : calls ≡ rests_if (is_rest_due round restless) → next ≡ row_after round restless → AreBehind round restless next calls
-  NotYet : calls ≡ AllDone false ∷ rests_if (is_rest_due round restless) → next ≡ row_after round restless → AreBehind round restless next calls
-  AllAreDone : calls ≡ AllDone true ∷ [] → next ≡ in_a_row round restless → AreBehind round restless next calls
+-- A driver asks its gate whether all are done, and this is the answer. It asks exactly if the gate has heard that the whole
+-- script is answered; and else all aren't done.
+abbrev pub IsAsked : {G : Type 0} → (G → List Call → G → Type 0) → DriverOf → G → G → Bool → Type 0
+IsAsked hears driver gate later all =
+    ((driver.was_done ≡ false) × hears gate [] later × (all ≡ false)) ⊎ ((driver.was_done ≡ true) × hears gate (AllDone all ∷ []) later)
+
+-- The calls of the gate behind a round of a driver, and whether it has finished with it: it asks whether all are done exactly if
+-- the gate has heard that the whole script is answered; and unless they are, the gate rests exactly if a rest is due.
+pub data AreBehind (driver : DriverOf) (round : Round) (restless next : ℕ) (calls : List Call) (finished : Bool) : Type 0 where
+  NotAsked : driver.was_done ≡ false → calls ≡ rests_if (is_rest_due round restless) → next ≡ row_after round restless → finished ≡ false
+      → AreBehind driver round restless next calls finished
+  NotYet : driver.was_done ≡ true → calls ≡ AllDone false ∷ rests_if (is_rest_due round restless) → next ≡ row_after round restless → finished ≡ false
+      → AreBehind driver round restless next calls finished
+  AllAreDone : driver.was_done ≡ true → calls ≡ AllDone true ∷ [] → next ≡ in_a_row round restless → finished ≡ true
+      → AreBehind driver round restless next calls finished
 
 -- This many turns with these calls of the gate are at most 16 for each entry and each rest, and 16 more.
 abbrev pub RestsInTime : ℕ → List Call → Type 0

@@ -1,12 +1,13 @@
 -- What a driver does in a round: it submits and performs, and its worker takes a turn.
-use Rattle.std.specs.Prelude.{◌≡◌, ◌≤◌, ◌+◌, ℕ, zero, suc, false, List, [], ◌∷◌, ◌++◌, length, Option, Some, None, IsSome, Result, Ok, IfOk, slice_get}
+use Rattle.std.specs.Prelude.{◌≡◌, ◌≤◌, ◌↔◌, ◌+◌, ℕ, zero, suc, Bool, true, false, List, [], ◌∷◌, ◌++◌, length, map, slice_get}
+use Rattle.std.specs.Prelude.{Option, Some, None, IsSome, Result, Ok, Err, IfOk}
 use Rattle.std.specs.{List.{Contains}, declared.alloc.AllocError.{AllocError}}
 use Rattle.sci_words.specs.declared.operation.Op.{Op}
 use Rattle.sci_history.specs.declared.entry.Entry.{Entry}
 use Rattle.sci_core.specs.{Node.{NodeOf, node_performing}, Work.{IsIssued, IsLogged}}
-use Rattle.sci_policy.specs.{Turn.{submit_fault}, Worker.{HasSameWork, IsNodeTurn}}
+use Rattle.sci_policy.specs.{Deeds.{Deed, Issues, Performs, Turns}, Turn.{submit_fault}, Worker.{HasSameWork, IsNodeTurn}}
 use Rattle.sci_drive.specs.declared.driver.{Issuing.{Issuing, TheVariants.{Ahead, InOrder}}, Round.{Round}}
-use Rattle.sci_drive.specs.{Calls.{Call, IsHeard, MayIssue}, Driving.{DriverOf}, Resting.{AreBehind}}
+use Rattle.sci_drive.specs.{Calls.{Call, IsHeard, MayIssue}, Driving.{DriverOf, IsAnswered}, Resting.{AreBehind}}
 
 -- ---- submitted
 
@@ -32,10 +33,11 @@ pub data IsHeldBack (driver : DriverOf) (node : NodeOf) (calls : List Call) : Ty
   NotAllowed : Contains calls (MayIssue driver.next false) → IsHeldBack driver node calls
   Refused : (op : Op) → next_op driver ≡ Some op → IsSome (submit_fault node op) → IsHeldBack driver node calls
 
--- the next operation is submitted, or nothing can be
-pub data Submits (old new : DriverOf) (before after : NodeOf) (calls : List Call) : Type 0 where
-  OneMore : (op : Op) → next_op old ≡ Some op → new ≡ with_submitted old op → IsIssued before after op → Submits old new before after calls
-  NoneNow : IsHeldBack old before calls → new ≡ old → after ≡ before → Submits old new before after calls
+-- the next operation is submitted, or nothing can be; and these deeds of the worker have done it
+pub data Submits (old new : DriverOf) (before after : NodeOf) (calls : List Call) (deeds : List Deed) : Type 0 where
+  OneMore : (op : Op) → next_op old ≡ Some op → new ≡ with_submitted old op → IsIssued before after op → deeds ≡ Issues op ∷ []
+      → Submits old new before after calls deeds
+  NoneNow : IsHeldBack old before calls → new ≡ old → after ≡ before → deeds ≡ [] → Submits old new before after calls deeds
 
 -- ---- performed
 
@@ -43,6 +45,10 @@ pub data Submits (old new : DriverOf) (before after : NodeOf) (calls : List Call
 abbrev pub ArePerformed : NodeOf → List Entry → NodeOf → Type 0
 ArePerformed before [] after = before ≡ after
 ArePerformed before (entry ∷ entries) after = (next : NodeOf) × IsLogged before next entry.op.line entry × ArePerformed next entries after
+
+-- the deed that has performed an operation with this entry
+abbrev pub performed : Entry → Deed
+performed entry = Performs entry.op.line entry
 
 -- at some moment while they were, nothing could be performed on this line
 pub record IsTried (line : ℕ) (before after : NodeOf) : Type 0 where
@@ -56,32 +62,44 @@ pub record IsTried (line : ℕ) (before after : NodeOf) : Type 0 where
 -- ---- a round
 
 -- What comes before the turn: the next operation is submitted if it can be, and then each that is pending is tried, and
--- performed if it can be.
-pub record HasWorked (old new : DriverOf) (before after : NodeOf) (calls : List Call) : Type 0 where
+-- performed if it can be. These deeds have done it.
+pub record HasWorked (old new : DriverOf) (before after : NodeOf) (calls : List Call) (deeds : List Deed) : Type 0 where
   pub driver : DriverOf
   pub node : NodeOf
-  pub submits : Submits old driver before node calls
+  pub first : List Deed
+  pub submits : Submits old driver before node calls first
   pub entries : List Entry
   pub performs : ArePerformed node entries after
+  pub deeds_are : deeds ≡ first ++ map performed entries
   pub tried : (line : ℕ) → Contains new.pending line → IsTried line node after
 
--- A round: what comes before the turn, and a turn from there. The gate has had its calls.
-pub record GoesRound {G E : Type 0} (hears : G → List Call → G → Type 0) (gate later : G) (old new : DriverOf) (before after : NodeOf)
+-- the turn of a round, unless it was refused
+abbrev pub turn_of : {E : Type 0} → Result Round E → List Deed
+turn_of (Ok round) = Turns round.progress ∷ []
+turn_of (Err refused) = []
+
+-- A round by these deeds: what comes before the turn, and a turn from there. The gate has had its calls, and has heard that the
+-- whole script is answered exactly if it is.
+pub record GoesRound {G E : Type 0} (hears : G → List Call → G → Type 0) (deeds : List Deed) (gate later : G) (old new : DriverOf) (before after : NodeOf)
     (result : Result Round E) : Type 0 where
   pub heard : IsHeard hears gate later old new before after
   pub node : NodeOf
-  pub worked : HasWorked old new before node heard.calls
+  pub works : List Deed
+  pub worked : HasWorked old new before node heard.calls works
+  pub deeds_are : deeds ≡ works ++ turn_of result
   pub same : HasSameWork node after
   pub turn : IfOk result (λ round. IsNodeTurn node after round.progress)
+  pub done : IfOk result (λ round. (new.was_done ≡ true) ↔ IsAnswered new)
 
 -- ---- many rounds
 
--- This many rounds, one after another, with the gate's calls behind each, and this many turns in a row at their end without an entry
--- or a rest.
-abbrev pub GoRounds : {G : Type 0} → (G → List Call → G → Type 0) → ℕ → ℕ → G → G → DriverOf → DriverOf → NodeOf → NodeOf → Type 0
-GoRounds hears zero restless gate later old new before after = (restless ≡ 0) × (gate ≡ later) × (old ≡ new) × (before ≡ after)
-GoRounds hears (suc turns) restless gate later old new before after =
-    (mid heard : _) × (driver : DriverOf) × (node : NodeOf) × (round : Round) × (row : ℕ) × (calls : List Call)
-    × GoRounds hears turns row gate mid old driver before node
-    × GoesRound {E = AllocError} hears mid heard driver new node after (Ok round)
-    × hears heard calls later × AreBehind round row restless calls
+-- This many rounds by these deeds, one after another, with the gate's calls behind each, whether the driver has finished with
+-- the last one, and this many turns in a row at their end without an entry or a rest. It hasn't finished with any before the last.
+abbrev pub GoRounds : {G : Type 0} → (G → List Call → G → Type 0) → ℕ → Bool → ℕ → List Deed → G → G → DriverOf → DriverOf → NodeOf → NodeOf → Type 0
+GoRounds hears zero finished restless deeds gate later old new before after =
+    (finished ≡ false) × (restless ≡ 0) × (deeds ≡ []) × (gate ≡ later) × (old ≡ new) × (before ≡ after)
+GoRounds hears (suc turns) finished restless deeds gate later old new before after =
+    (mid heard : _) × (driver : DriverOf) × (node : NodeOf) × (round : Round) × (row : ℕ) × (calls : List Call) × (first last : List Deed)
+    × (deeds ≡ first ++ last) × GoRounds hears turns false row first gate mid old driver before node
+    × GoesRound {E = AllocError} hears last mid heard driver new node after (Ok round)
+    × hears heard calls later × AreBehind new round row restless calls finished

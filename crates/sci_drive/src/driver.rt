@@ -28,7 +28,7 @@ pub struct Driver<'a> {
     next: usize,
     // the lines on which an operation is pending, by serial
     pending: ArrayVec<u8, WINDOW>,
-    was_done: bool,
+    pub(crate) was_done: bool,
 }
 
 impl<'a> Model for Driver<'a> {
@@ -61,12 +61,12 @@ pub struct Round {
 }
 
 impl<'a> Driver<'a> {
-    ghost use Rattle.std.specs.{Prelude.{◌≡◌, ◌<◌, ◌≤◌, ◌↔◌, ℕ, List, true, false, [], IfOk, length}, List.{Contains}};
+    ghost use Rattle.std.specs.{Prelude.{◌≡◌, ◌<◌, ◌≤◌, ◌↔◌, ℕ, List, true, false, [], IfOk, length, map}, List.{Contains}};
     ghost use Rattle.sci_history.specs.declared.entry.Entry.{Entry};
-    ghost use Rattle.sci_policy.specs.{Rest.{MayIdle}, Turn.{is_idle}};
+    ghost use Rattle.sci_policy.specs.{Deeds.{Deed}, Rest.{MayIdle}, Turn.{is_idle}};
     ghost use Rattle.sci_words.specs.declared.limits.TheConstants.{MAX_OPERATIONS};
-    ghost use Rattle.sci_drive.specs.{Calls.{IsHeard}, Driving.{IsDriven, IsInOrder, opening_driver}};
-    ghost use Rattle.sci_drive.specs.Rounds.{ArePerformed, GoesRound, IsTried, Submits, most_pending};
+    ghost use Rattle.sci_drive.specs.{Calls.{IsHeard}, Driving.{IsAnswered, IsDriven, IsInOrder, opening_driver}};
+    ghost use Rattle.sci_drive.specs.Rounds.{ArePerformed, GoesRound, IsTried, Submits, most_pending, performed};
 
     /// A driver that has submitted nothing yet. Requires that the script has at most 65,536 operations.
     pub fn new(script: &'a [Op], issuing: Issuing) -> Driver<'a>
@@ -84,8 +84,7 @@ impl<'a> Driver<'a> {
 
     /// Whether each operation of the script has its entry.
     pub fn is_answered(&self) -> bool
-        ensures { (result ≡ true) ↔
-            ((self.now.next ≡ length self.now.script) × (self.now.pending ≡ [])) }
+        ensures { (result ≡ true) ↔ IsAnswered self.now }
     {
         self.next == self.script.len() && self.pending.is_empty()
     }
@@ -113,15 +112,13 @@ impl<'a> Driver<'a> {
             length (W.node worker.old).log < length (W.node worker.new).log) }
         ensures none { IfOk result (λ round. round.answered ≡ false →
             (W.node worker.new).log ≡ (W.node worker.old).log) }
-        ensures goes { GoesRound G.hears gate.old gate.new
-            self.old self.new (W.node worker.old) (W.node worker.new) result }
+        ensures goes { (deeds : List Deed) × GoesRound G.hears deeds gate.old gate.new
+            self.old self.new (W.node worker.old) (W.node worker.new) result
+            × IfOk result (λ round. W.does worker.old deeds worker.new) }
         ensures rest { IfOk result (λ round.
             is_idle round.progress ≡ true → MayIdle (W.node worker.new)) }
         ensures script { self.new.script ≡ self.old.script }
         ensures issuing { self.new.issuing ≡ self.old.issuing }
-        ensures turned { IfOk result (λ round. W.turned worker.old 1 worker.new) }
-        ensures told { IfOk result (λ round. self.new.next ≡ length self.new.script →
-            self.new.pending ≡ [] → self.new.was_done ≡ true) }
         ensures stays { W.stays worker.old worker.new }
     {
         self.submit(worker, gate);
@@ -153,11 +150,11 @@ impl<'a> Driver<'a> {
             IsInOrder self.new (W.node worker.new) }
         ensures log { (W.node worker.new).log ≡ (W.node worker.old).log }
         ensures submits { (heard : IsHeard G.hears gate.old gate.new
-            self.old self.new (W.node worker.old) (W.node worker.new))
-            × Submits self.old self.new (W.node worker.old) (W.node worker.new) heard.calls }
+            self.old self.new (W.node worker.old) (W.node worker.new)) × (deeds : List Deed)
+            × Submits self.old self.new (W.node worker.old) (W.node worker.new) heard.calls deeds
+            × W.does worker.old deeds worker.new }
         ensures script { self.new.script ≡ self.old.script }
         ensures issuing { self.new.issuing ≡ self.old.issuing }
-        ensures turned { W.turned worker.old 0 worker.new }
         ensures stays { W.stays worker.old worker.new }
     {
         if !self.has_room() {
@@ -190,12 +187,12 @@ impl<'a> Driver<'a> {
         ensures calls { IsHeard G.hears gate.old gate.new
             self.old self.new (W.node worker.old) (W.node worker.new) }
         ensures performed { (entries : List Entry)
-            × ArePerformed (W.node worker.old) entries (W.node worker.new) }
+            × ArePerformed (W.node worker.old) entries (W.node worker.new)
+            × W.does worker.old (map performed entries) worker.new }
         ensures tried { (line : ℕ) → Contains self.new.pending line →
             IsTried line (W.node worker.old) (W.node worker.new) }
         ensures script { self.new.script ≡ self.old.script }
         ensures issuing { self.new.issuing ≡ self.old.issuing }
-        ensures turned { W.turned worker.old 0 worker.new }
         ensures stays { W.stays worker.old worker.new }
     {
         let mut answered = false;

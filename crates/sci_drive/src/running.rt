@@ -3,11 +3,12 @@
 ghost use Rattle.std.specs.Prelude.{◌≡◌, ◌≤◌, ◌<◌, ℕ, [], ◌∷◌, List, true, false, length, IfOk};
 ghost use Rattle.sci_words.specs.declared.limits.TheConstants.{MAX_OPERATIONS};
 ghost use Rattle.sci_history.specs.Sequential.{IsInProgramOrder};
+ghost use Rattle.sci_policy.specs.Deeds.{Deed};
 ghost use Rattle.sci_drive.specs.Calls.{AreCallsOf, Call, EndWithAllDone, Rest, times_done};
 ghost use Rattle.sci_drive.specs.declared.driver.Issuing.TheVariants.{Ahead, InOrder};
 ghost use Rattle.sci_drive.specs.declared.running.TheConstants.{RESTLESS_TURNS};
 ghost use Rattle.sci_drive.specs.Driving.{DriverOf, HasSubmittedNothing, opening_driver};
-ghost use Rattle.sci_drive.specs.{Resting.{RestsInTime, in_a_row, is_rest_due}, Rounds.{GoRounds}};
+ghost use Rattle.sci_drive.specs.{Resting.{IsAsked, RestsInTime, in_a_row, is_rest_due}, Rounds.{GoRounds}};
 ghost use Rattle.sci_drive.specs.Script.{IsFrontOf, IsLogOf, IsWholeLogOf};
 
 use crate::driver::{Driver, Issuing, Round};
@@ -68,10 +69,10 @@ pub fn drive<W: Worker, G: Gate>(
         × IfOk result (λ ran. (ran.finished ≡ true →
         (times_done calls ≡ 1) × EndWithAllDone calls)
         × RestsInTime ran.turns calls) }
-    ensures rounds { IfOk result (λ ran. (restless : ℕ) × (driver : DriverOf)
-        × GoRounds G.hears ran.turns restless gate.old gate.new
+    ensures rounds { IfOk result (λ ran. (restless : ℕ) × (deeds : List Deed) × (driver : DriverOf)
+        × W.does worker.old deeds worker.new
+        × GoRounds G.hears ran.turns ran.finished restless deeds gate.old gate.new
         (opening_driver script.now Ahead) driver (W.node worker.old) (W.node worker.new)) }
-    ensures turned { IfOk result (λ ran. W.turned worker.old ran.turns worker.new) }
     ensures stays { W.stays worker.old worker.new }
 {
     drive_issuing(worker, script, Issuing::Ahead, gate, turns)
@@ -100,10 +101,10 @@ pub fn drive_issuing<W: Worker, G: Gate>(
         × IfOk result (λ ran. (ran.finished ≡ true →
         (times_done calls ≡ 1) × EndWithAllDone calls)
         × RestsInTime ran.turns calls) }
-    ensures rounds { IfOk result (λ ran. (restless : ℕ) × (driver : DriverOf)
-        × GoRounds G.hears ran.turns restless gate.old gate.new
+    ensures rounds { IfOk result (λ ran. (restless : ℕ) × (deeds : List Deed) × (driver : DriverOf)
+        × W.does worker.old deeds worker.new
+        × GoRounds G.hears ran.turns ran.finished restless deeds gate.old gate.new
         (opening_driver script.now issuing) driver (W.node worker.old) (W.node worker.new)) }
-    ensures turned { IfOk result (λ ran. W.turned worker.old ran.turns worker.new) }
     ensures stays { W.stays worker.old worker.new }
 {
     new_drivers_may_drive();
@@ -130,20 +131,15 @@ fn rest_if_due<G: Gate>(gate: &mut G, round: &Round, restless: u32) -> u32
 }
 
 impl<'a> Driver<'a> {
-    ghost use Rattle.std.specs.Prelude.{◌≡◌, ◌≤◌, ◌⊎◌, ℕ, [], ◌∷◌, List, true, false, length, IfOk};
-    ghost use Rattle.sci_drive.specs.{Calls.{AllDone, AreCalls, Call, EndWithAllDone}, Driving.{IsDriven, IsInOrder}};
+    ghost use Rattle.std.specs.Prelude.{◌≡◌, ◌≤◌, ℕ, List, true, false, IfOk};
+    ghost use Rattle.sci_policy.specs.Deeds.{Deed};
+    ghost use Rattle.sci_drive.specs.{Calls.{AreCalls, Call, EndWithAllDone}, Driving.{IsAnswered, IsDriven, IsInOrder}};
 
-    /// Whether the whole script is answered and the gate says that all are done. It isn't asked before.
+    /// Whether the gate has heard that the whole script is answered, and says that all are done. It isn't asked before.
     fn is_over<G: Gate>(&self, gate: &mut G) -> bool
-        ensures answered { result ≡ true →
-            (self.now.next ≡ length self.now.script) × (self.now.pending ≡ []) }
-        ensures asked { (G.hears gate.old [] gate.new × (result ≡ false))
-            ⊎ G.hears gate.old (AllDone result ∷ []) gate.new }
+        ensures asked { IsAsked G.hears self.now gate.old gate.new result }
     {
-        if !self.is_answered() {
-            return false;
-        }
-        gate.all_done()
+        self.was_done && gate.all_done()
     }
 
     /// Goes on with the script, a round at a time, for at most this many turns. It ends finished as soon as the whole script
@@ -160,20 +156,19 @@ impl<'a> Driver<'a> {
         ensures driven { IsDriven self.new (W.node worker.new) }
         ensures order { IsInOrder self.old (W.node worker.old) →
             IsInOrder self.new (W.node worker.new) }
-        ensures answered { IfOk result (λ ran. ran.finished ≡ true →
-            (self.new.next ≡ length self.new.script) × (self.new.pending ≡ [])) }
+        ensures answered { IfOk result (λ ran. ran.finished ≡ true → IsAnswered self.new) }
         ensures turns { IfOk result (λ ran. ran.turns ≤ turns) }
         ensures all { IfOk result (λ ran. ran.finished ≡ false → ran.turns ≡ turns) }
         ensures calls { (calls : List Call) × G.hears gate.old calls gate.new
             × AreCalls self.old self.new (W.node worker.old) (W.node worker.new) calls
             × IfOk result (λ ran. (ran.finished ≡ true → EndWithAllDone calls)
             × RestsInTime ran.turns calls) }
-        ensures rounds { IfOk result (λ ran. (restless : ℕ)
-            × GoRounds G.hears ran.turns restless gate.old gate.new
+        ensures rounds { IfOk result (λ ran. (restless : ℕ) × (deeds : List Deed)
+            × W.does worker.old deeds worker.new
+            × GoRounds G.hears ran.turns ran.finished restless deeds gate.old gate.new
             self.old self.new (W.node worker.old) (W.node worker.new)) }
         ensures script { self.new.script ≡ self.old.script }
         ensures issuing { self.new.issuing ≡ self.old.issuing }
-        ensures turned { IfOk result (λ ran. W.turned worker.old ran.turns worker.new) }
         ensures told { IfOk result (λ ran. ran.finished ≡ true → self.new.was_done ≡ true) }
         ensures stays { W.stays worker.old worker.new }
     {

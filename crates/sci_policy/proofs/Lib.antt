@@ -13,3 +13,4 @@ pub mod Telling
 pub mod Alone
 pub mod Circles
 pub mod PolicyLaws
+pub mod Deeds

@@ -4,3 +4,4 @@ pub mod Policy
 pub mod Rest
 pub mod Turn
 pub mod Worker
+pub mod Deeds

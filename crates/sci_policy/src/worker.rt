@@ -9,17 +9,17 @@ use std::alloc::AllocError;
 /// A worker does a processor's operations. It keeps its own pending operations and its log, and numbers what it submits
 /// from 0. No call waits for another thread.
 pub trait Worker {
-    ghost use Rattle.std.specs.Prelude.{◌≡◌, ◌+◌, ℕ, true, Some, None, IfOk, IfErr, IfSome, IsErr};
+    ghost use Rattle.std.specs.Prelude.{◌≡◌, ◌++◌, true, List, [], ◌∷◌, Some, None, IfOk, IfErr, IfSome, IsErr};
     ghost use Rattle.sci_core.specs.{Node.{NodeOf, node_performing}, Work.{IsIssued, IsLogged}};
-    ghost use Rattle.sci_policy.specs.{Rest.{MayIdle}, Turn.{is_idle, submit_fault}, Worker.{HasSameWork, IsNodeTurn}};
+    ghost use Rattle.sci_policy.specs.{Deeds.{Deed, Issues, Performs, Turns}, Rest.{MayIdle}, Turn.{is_idle, submit_fault}, Worker.{HasSameWork, IsNodeTurn}};
 
     ghost node: { Self → NodeOf };
 
     // What no call changes of a worker: the machine that it is part of, and its place there.
     ghost stays: { Self → Self → Type 0 };
 
-    // Whether this many turns lead the worker from one state to another, with what it submits and performs between them.
-    ghost turned: { Self → ℕ → Self → Type 0 };
+    // Whether these deeds, one after another, lead the worker from one state to another.
+    ghost does: { Self → List Deed → Self → Type 0 };
 
     /// Submits an operation, and gives its serial. Refused, unchanged, with the first of `SubmitFault`'s causes that
     /// holds.
@@ -28,7 +28,8 @@ pub trait Worker {
         ensures serial { IfOk result (λ serial. serial ≡ (node self.old).issued) }
         ensures fault { IfErr result (λ fault. submit_fault (node self.old) op ≡ Some fault) }
         ensures same { IsErr result → node self.new ≡ node self.old }
-        ensures turned { turned self.old 0 self.new }
+        ensures does { IfOk result (λ serial. does self.old (Issues op ∷ []) self.new) }
+        ensures idle { IsErr result → does self.old [] self.new }
         ensures stays { stays self.old self.new };
 
     /// Performs the operation that is pending on a line, and gives its entry, which now ends the log. None only if none
@@ -38,7 +39,8 @@ pub trait Worker {
             (λ entry. IsLogged (node self.old) (node self.new) line entry) }
         ensures none { result ≡ None → node_performing (node self.old) line ≡ None }
         ensures same { result ≡ None → node self.new ≡ node self.old }
-        ensures turned { turned self.old 0 self.new }
+        ensures does { IfSome result (λ entry. does self.old (Performs line entry ∷ []) self.new) }
+        ensures idle { result ≡ None → does self.old [] self.new }
         ensures stays { stays self.old self.new };
 
     /// Takes a turn: takes what others sent, and sends what comes next. No operation is submitted or performed by it.
@@ -49,15 +51,15 @@ pub trait Worker {
         ensures turn { IfOk result (IsNodeTurn (node self.old) (node self.new)) }
         ensures rest { IfOk result (λ progress. is_idle progress ≡ true → MayIdle (node self.new)) }
         ensures work { HasSameWork (node self.old) (node self.new) }
-        ensures turned { IfOk result (λ progress. turned self.old 1 self.new) }
+        ensures does { IfOk result (λ progress. does self.old (Turns progress ∷ []) self.new) }
         ensures stays { stays self.old self.new };
 
     ghost stays_itself: { (x : Self) → stays x x };
 
     ghost stays_through: { (x y z : Self) → stays x y → stays y z → stays x z };
 
-    ghost turned_not: { (x : Self) → turned x 0 x };
+    ghost does_nothing: { (x : Self) → does x [] x };
 
-    ghost turned_on: { (x y z : Self) (some more : ℕ) → turned x some y → turned y more z →
-        turned x (some + more) z };
+    ghost does_on: { (x y z : Self) (deeds more : List Deed) → does x deeds y → does y more z →
+        does x (deeds ++ more) z };
 }

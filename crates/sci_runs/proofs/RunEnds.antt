@@ -10,12 +10,12 @@ use Rattle.sci_core.specs.{Core.{Core, node_at, run}, Node.{NodeOf}, Outcome.{lo
 use Rattle.sci_core.specs.{Sharing.{last_of}, Size.{Size}}
 use Rattle.sci_core.proofs.ReachedLaws.{log_at}
 use Rattle.sci_lanes.specs.Shown.{AreEnabled}
-use Rattle.sci_drive.specs.{declared.driver.Issuing.{Issuing}, Driving.{DriverOf, IsDriven}}
+use Rattle.sci_drive.specs.{declared.driver.Issuing.{Issuing}, Driving.{DriverOf, IsAnswered, IsDriven}}
 use Rattle.sci_drive.specs.Script.{IsFrontOf, IsLogOf, IsWholeLogOf}
 use Rattle.sci_drive.proofs.Drives.{log_of as log_driven, whole_of}
 use Rattle.sci_threads.specs.Shares.{operations_of, size_for}
 use Rattle.sci_threads.proofs.RunStations.{in_order}
-use Rattle.sci_runs.specs.Players.{AreAtWork, IsAnswered, IsAtWork, TableOf}
+use Rattle.sci_runs.specs.Players.{AreAtWork, IsAtWork, TableOf}
 use Rattle.sci_runs.specs.Recorded.{HasIssued, HasLed, IsKnown, IsOfSize, issues_at, raised}
 use Rattle.sci_runs.specs.Runs.{IsRunOf, last_behind, logs_behind}
 use Rattle.sci_runs.proofs.Limits.{last_raised, logs_raised}

@@ -7,13 +7,13 @@ use Rattle.sci_words.specs.declared.{event.Event.{Event}, extent.Extent.{Extent}
 use Rattle.sci_text.specs.Script.{ScriptValue}
 use Rattle.sci_core.specs.{Core.{Core, node_at, opening}, Node.{NodeOf, opening_node}, Size.{Size, size_of}}
 use Rattle.sci_lanes.proofs.Opening.{node_opened}
-use Rattle.sci_policy.specs.Policy.{PolicyOf, opening_policy}
+use Rattle.sci_policy.specs.{Deeds.{Deed}, Policy.{PolicyOf, opening_policy}}
 use Rattle.sci_drive.specs.declared.driver.{Round.{Round}, Issuing.{Issuing}}
 use Rattle.sci_drive.specs.Driving.{DriverOf, HasSubmittedNothing, IsDriven, IsInOrder, opening_driver}
 use Rattle.sci_drive.proofs.{Drives.{opens}, InOrder.{opens_in_order}}
 use Rattle.sci_threads.specs.Shares.{operations_of}
 use Rattle.sci_threads.proofs.RunStations.{opened_fresh, sized_for}
-use Rattle.sci_runs.specs.{Deeds.{Takes}, Played.{Begins, GoesOpenly, IsRound, StaysBut}}
+use Rattle.sci_runs.specs.{Deeds.{Does}, Played.{Begins, GoesOpenly, IsRound, StaysBut}}
 use Rattle.sci_runs.specs.Players.{AreAtWork, IsAtWork, TableOf, moment_of}
 use Rattle.sci_runs.specs.Recorded.{RecorderOf, SparesOthers, course_of, with_limit}
 
@@ -170,10 +170,10 @@ module _ {A : Type 0} (f : A → DriverOf) (g : A → PolicyOf) (script : Script
 
   -- and it is a round of the run
   pub round_is : view ≡ table → AreAtWork view → n < table.script.nodes → k ≡ n → player ≡ slice_index_or players k player → (new : A) (later : RecorderOf)
-      (round : Round) → GoesOpenly (f player) (f new) (node_at recorder.core n) (node_at later.core n) (Ok round)
-      → Takes n 1 (g player) (course_of recorder) (g new) (course_of later)
+      (round : Round) (deeds : List Deed) → GoesOpenly deeds (f player) (f new) (node_at recorder.core n) (node_at later.core n) (Ok round)
+      → Does n deeds (g player) (course_of recorder) (g new) (course_of later)
       → IsRound n (moment_of table) (moment_of (after new later))
-  round_is is work lt same value new later round goes takes =
+  round_is is work lt same value new later round deeds goes does =
       let some = some_node is lt in
       let within : n < length players = let many = work.many in let long = length-map players f in omega (arith, some, many, long) in
       let here : player ≡ slice_index_or players n player = value ∙ ap (λ (i : ℕ). slice_index_or players i player) same in
@@ -181,14 +181,15 @@ module _ {A : Type 0} (f : A → DriverOf) (g : A → PolicyOf) (script : Script
       let now : slice_index_or (map g (set players k new)) n opening_policy ≡ g new = placed_here g players k n new opening_policy same within in
       subst (λ (t : TableOf). IsRound n (moment_of t) (moment_of (after new later))) is (record {
         round = round;
+        deeds = deeds;
         goes = λ d.
-            subst (λ (driver : DriverOf). GoesOpenly driver (slice_index_or (map f (set players k new)) n d) (node_at recorder.core n) (node_at later.core n)
-            (Ok round)) (sym (stands work some same value d))
-            (subst (λ (driver : DriverOf). GoesOpenly (f player) driver (node_at recorder.core n) (node_at later.core n) (Ok round))
+            subst (λ (driver : DriverOf). GoesOpenly deeds driver (slice_index_or (map f (set players k new)) n d) (node_at recorder.core n)
+            (node_at later.core n) (Ok round)) (sym (stands work some same value d))
+            (subst (λ (driver : DriverOf). GoesOpenly deeds (f player) driver (node_at recorder.core n) (node_at later.core n) (Ok round))
             (sym (placed_here f players k n new d same within)) goes);
-        takes = subst (λ (policy : PolicyOf).
-            Takes n 1 policy (course_of recorder) (slice_index_or (map g (set players k new)) n opening_policy) (course_of later)) (sym was)
-            (subst (λ (policy : PolicyOf). Takes n 1 (g player) (course_of recorder) policy (course_of later)) (sym now) takes);
+        does = subst (λ (policy : PolicyOf).
+            Does n deeds policy (course_of recorder) (slice_index_or (map g (set players k new)) n opening_policy) (course_of later)) (sym was)
+            (subst (λ (policy : PolicyOf). Does n deeds (g player) (course_of recorder) policy (course_of later)) (sym now) does);
         drivers = placed_other f players k n new same;
         policies = placed_other g players k n new same;
       })

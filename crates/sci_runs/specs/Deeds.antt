@@ -1,35 +1,12 @@
 -- What a node does of its own: it issues and performs operations, and takes turns.
-use Rattle.std.specs.Prelude.{◌≡◌, ◌≤◌, ◌⊎◌, ℕ, Bool, true, false, List, [], ◌∷◌, ◌++◌, length, Some, count_by}
+use Rattle.std.specs.Prelude.{◌≡◌, ◌≤◌, ◌⊎◌, ℕ, List, [], ◌∷◌, ◌++◌, length, Some}
 use Rattle.std.specs.List.{AllByRecursion}
 use Rattle.sci_words.specs.declared.{event.Event.{Event}, limits.TheConstants.{MAX_EVENTS}}
-use Rattle.sci_core.specs.Core.{Core, node_of, stepping}
-use Rattle.sci_policy.specs.{declared.progress.Progress.{Progress}, Policy.{PolicyOf}}
+use Rattle.sci_core.specs.Core.{node_of, stepping}
+use Rattle.sci_policy.specs.{declared.progress.Progress.{Progress}, Deeds.{Deed, DoesBy, Issues, Performs, Turns}, Policy.{PolicyOf}}
 use Rattle.sci_turn.specs.{Moves.{IsTurn}, Posts.{PostOf}, Whole.{IsWholeTurn}}
-use Rattle.sci_runs.specs.Recorded.{Course, gone_on}
+use Rattle.sci_runs.specs.Recorded.{Course}
 use Rattle.sci_words.specs.declared.event.Event.TheVariants as event
-
--- a node issues an operation or performs one, or it takes a turn and reports what it did
-pub data Deed : Type 0 where
-  Works : (event : Event) → Deed
-  Turns : (progress : Progress) → Deed
-
-abbrev pub is_turn : Deed → Bool
-is_turn (Works event) = false
-is_turn (Turns progress) = true
-
--- how many turns there are among deeds
-abbrev pub turns_among : List Deed → ℕ
-turns_among deeds = count_by is_turn deeds
-
--- the event is an Issue or a Perform of this node
-abbrev pub IsWorkOf : ℕ → Event → Type 0
-IsWorkOf n (event.Issue m op) = m ≡ n
-IsWorkOf n (event.Perform m line) = m ≡ n
-IsWorkOf n (event.Ask m line kind) = ⊥
-IsWorkOf n (event.Serve from m) = ⊥
-IsWorkOf n (event.Refuse from m) = ⊥
-IsWorkOf n (event.Reply m) = ⊥
-IsWorkOf n (event.Accept from m) = ⊥
 
 -- the post of a node of a machine whose events are known
 abbrev pub post_on : ℕ → Course → PostOf
@@ -49,20 +26,30 @@ pub record IsTurnDone (n : ℕ) (before : PolicyOf) (old : Course) (after : Poli
   pub so_far : IsTurnSoFar n before old after new progress
   pub whole : IsWholeTurn before (post_on n old) after (post_on n new) progress
 
+-- what a node's policy remembers, and the machine's state with the events so far
+pub record Standing : Type 0 where
+  pub policy : PolicyOf
+  pub course : Course
+
+abbrev pub standing : PolicyOf → Course → Standing
+standing policy course = record { policy = policy; course = course }
+
+-- the machine makes an event, which is enabled, and nothing else changes
+pub record Works (e : Event) (old new : Standing) : Type 0 where
+  pub stepped : stepping old.course.core e ≡ Some new.course.core
+  pub more : new.course.events ≡ old.course.events ++ e ∷ []
+  pub policy : new.policy ≡ old.policy
+
+-- a deed of node n: it issues an operation, performs one, or takes a whole turn by its policy
+abbrev pub IsDeed : ℕ → Deed → Standing → Standing → Type 0
+IsDeed n (Issues op) old new = Works (event.Issue n op) old new
+IsDeed n (Performs line entry) old new = Works (event.Perform n line) old new
+IsDeed n (Turns progress) old new = IsTurnDone n old.policy old.course new.policy new.course progress
+
 -- These deeds of node n, one after another, lead from one state and what its policy remembers to others. The events are
 -- those of the deeds, in their order.
 abbrev pub Does : ℕ → List Deed → PolicyOf → Course → PolicyOf → Course → Type 0
-Does n [] before old after new = (before ≡ after) × (old ≡ new)
-Does n (Works e ∷ deeds) before old after new =
-    (next : Core) × IsWorkOf n e × (stepping old.core e ≡ Some next) × Does n deeds before (gone_on old e next) after new
-Does n (Turns progress ∷ deeds) before old after new =
-    (policy : PolicyOf) × (next : Course) × IsTurnDone n before old policy next progress × Does n deeds policy next after new
-
--- this many turns of node n, with what it issues and performs between them
-pub record Takes (n turns : ℕ) (before : PolicyOf) (old : Course) (after : PolicyOf) (new : Course) : Type 0 where
-  pub deeds : List Deed
-  pub many : turns_among deeds ≡ turns
-  pub does : Does n deeds before old after new
+Does n deeds before old after new = DoesBy (IsDeed n) deeds (standing before old) (standing after new)
 
 -- deeds of node n, and perhaps a turn so far behind them, make as many events as a schedule can have
 pub record Fills (n : ℕ) (before : PolicyOf) (old : Course) : Type 0 where

@@ -4,11 +4,11 @@ use Rattle.std.specs.declared.alloc.AllocError.{AllocError}
 use Rattle.sci_words.specs.declared.{event.Event.{Event}, limits.TheConstants.{MAX_OPERATIONS}}
 use Rattle.sci_text.specs.{Script.{ScriptValue}, Schedule.{ScheduleValue}}
 use Rattle.sci_core.specs.{Core.{Core, node_at, opening, run}, Node.{NodeOf}}
-use Rattle.sci_policy.specs.Policy.{PolicyOf, opening_policy}
+use Rattle.sci_policy.specs.{Deeds.{Deed}, Policy.{PolicyOf, opening_policy}}
 use Rattle.sci_drive.specs.{declared.driver.{Issuing.{Issuing}, Round.{Round}}, Calls.{AllowAll}}
 use Rattle.sci_drive.specs.{Driving.{DriverOf, opening_driver}, Rounds.{GoesRound}}
 use Rattle.sci_threads.specs.Shares.{operations_of, size_for}
-use Rattle.sci_runs.specs.{declared.order.Order.{Order}, Deeds.{Fills, Takes}, Recorded.{Course, raised, with_limit}}
+use Rattle.sci_runs.specs.{declared.order.Order.{Order}, Deeds.{Does, Fills}, Recorded.{Course, raised, with_limit}}
 use Rattle.sci_runs.specs.Turns.{first_order, next_node, next_order}
 
 -- ---- a run
@@ -34,15 +34,16 @@ abbrev pub StaysBut : {A : Type 0} → ℕ → List A → List A → Type 0
 StaysBut n old new = (m : ℕ) (d : _) → m ≢ n → slice_index_or new m d ≡ slice_index_or old m d
 
 -- a round of a driver whose gate allows all that it is asked about
-abbrev pub GoesOpenly : DriverOf → DriverOf → NodeOf → NodeOf → Result Round AllocError → Type 0
-GoesOpenly old new before after result = GoesRound (λ (first : Unit {0}) calls last. AllowAll calls) tt tt old new before after result
+abbrev pub GoesOpenly : List Deed → DriverOf → DriverOf → NodeOf → NodeOf → Result Round AllocError → Type 0
+GoesOpenly deeds old new before after result = GoesRound (λ (first : Unit {0}) calls last. AllowAll calls) deeds tt tt old new before after result
 
--- A round of node n: it submits the next operation if it can, performs what it can, and takes one turn. It is never told to
--- wait.
+-- A round of node n by these deeds: it submits the next operation if it can, performs what it can, and takes one turn. It is
+-- never told to wait.
 pub record IsRound (n : ℕ) (old new : Moment) : Type 0 where
   pub round : Round
-  pub goes : (d : DriverOf) → GoesOpenly (driver_at old n d) (driver_at new n d) (node_at old.core n) (node_at new.core n) (Ok round)
-  pub takes : Takes n 1 (policy_at old n) (course_at old) (policy_at new n) (course_at new)
+  pub deeds : List Deed
+  pub goes : (d : DriverOf) → GoesOpenly deeds (driver_at old n d) (driver_at new n d) (node_at old.core n) (node_at new.core n) (Ok round)
+  pub does : Does n deeds (policy_at old n) (course_at old) (policy_at new n) (course_at new)
   pub drivers : StaysBut n old.drivers new.drivers
   pub policies : StaysBut n old.policies new.policies
 

@@ -1,5 +1,5 @@
 -- The nodes of a run at work.
-use Rattle.std.specs.Prelude.{◌≡◌, ◌<◌, ℕ, List, [], length, slice_index_or}
+use Rattle.std.specs.Prelude.{◌≡◌, ◌<◌, ℕ, List, length, slice_index_or}
 use Rattle.sci_words.specs.declared.limits.TheConstants.{MAX_OPERATIONS}
 use Rattle.sci_text.specs.Script.{ScriptValue}
 use Rattle.sci_core.specs.{Core.{node_at}, Node.{NodeOf}}
@@ -8,10 +8,6 @@ use Rattle.sci_drive.specs.declared.driver.Issuing.{Issuing, TheVariants.{InOrde
 use Rattle.sci_drive.specs.Driving.{DriverOf, IsDriven, IsInOrder}
 use Rattle.sci_threads.specs.Shares.{operations_of, size_for}
 use Rattle.sci_runs.specs.{Played.{Moment}, Recorded.{RecorderOf, with_limit}}
-
--- each operation of the driver's script has its entry
-abbrev pub IsAnswered : DriverOf → Type 0
-IsAnswered driver = (driver.next ≡ length driver.script) × (driver.pending ≡ [])
 
 -- the driver of node n has driven it through the node's operations of the script, as far as it has come
 pub record IsAtWork (script : ScriptValue) (issuing : Issuing) (n : ℕ) (driver : DriverOf) (node : NodeOf) : Type 0 where

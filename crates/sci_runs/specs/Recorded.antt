@@ -1,5 +1,5 @@
 -- A machine with the schedule that has led it where it stands.
-use Rattle.std.specs.Prelude.{◌≡◌, ◌≢◌, ◌<◌, ◌≤◌, ◌==◌, ◌⊎◌, ℕ, List, [], ◌∷◌, ◌++◌, length, map, Option, Some, None, slice_get, if◌then◌else◌}
+use Rattle.std.specs.Prelude.{◌≡◌, ◌≢◌, ◌<◌, ◌≤◌, ◌==◌, ◌⊎◌, ℕ, List, [], length, map, Option, Some, None, slice_get, if◌then◌else◌}
 use Rattle.std.specs.List.{Contains, filter_map}
 use Rattle.sci_words.specs.declared.{event.Event.{Event}, operation.Op.{Op}, limits.TheConstants.{MAX_EVENTS, MAX_OPERATIONS}}
 use Rattle.sci_history.specs.declared.entry.Entry.{Entry}
@@ -81,10 +81,6 @@ pub record Course : Type 0 where
 
 abbrev pub course_of : RecorderOf → Course
 course_of recorder = record { core = recorder.core; events = recorder.schedule.events }
-
--- one event more, which leads to this state
-abbrev pub gone_on : Course → Event → Core → Course
-gone_on course e core = record { core = core; events = course.events ++ e ∷ [] }
 
 -- the schedule is of the machine's size, and unless an event was lost it has led to the state; if one was lost since there were
 -- too many, the schedule is full

@@ -3,8 +3,7 @@
 ghost use Rattle.std.specs.Prelude.{◌≡◌, ◌≤◌, All, IfOk, length, map, true};
 ghost use Rattle.sci_words.specs.declared.limits.TheConstants.{MAX_OPERATIONS};
 ghost use Rattle.sci_policy.specs.Policy.{opening_policy};
-ghost use Rattle.sci_drive.specs.Driving.{opening_driver};
-ghost use Rattle.sci_runs.specs.Players.{IsAnswered};
+ghost use Rattle.sci_drive.specs.Driving.{IsAnswered, opening_driver};
 
 use crate::recorder::Recorder;
 use crate::seat::Seat;
@@ -55,10 +54,11 @@ pub(crate) fn are_answered(players: &[Player<'_>]) -> bool
 }
 
 impl<'a> Player<'a> {
-    ghost use Rattle.std.specs.Prelude.{◌≡◌, ◌<◌, None, IfOk};
+    ghost use Rattle.std.specs.Prelude.{◌≡◌, ◌<◌, List, None, IfOk};
     ghost use Rattle.sci_core.specs.Core.{node_at};
     ghost use Rattle.sci_drive.specs.Driving.{IsDriven, IsInOrder};
-    ghost use Rattle.sci_runs.specs.{Deeds.{Takes}, Goings.{Goes}, Played.{GoesOpenly}, Recorded.{SparesOthers, course_of}};
+    ghost use Rattle.sci_policy.specs.Deeds.{Deed};
+    ghost use Rattle.sci_runs.specs.{Deeds.{Does}, Goings.{Goes}, Played.{GoesOpenly}, Recorded.{SparesOthers, course_of}};
 
     /// Does a round at a node. Requires that there is such a node, and that this player has driven it. Refused where an
     /// event is lost, and the recorder has the reason.
@@ -69,9 +69,9 @@ impl<'a> Player<'a> {
         ensures order { IsInOrder self.old.driver (node_at recorder.old.core node) →
             IsInOrder self.new.driver (node_at recorder.new.core node) }
         ensures script { self.new.driver.script ≡ self.old.driver.script }
-        ensures goes { GoesOpenly self.old.driver self.new.driver
-            (node_at recorder.old.core node) (node_at recorder.new.core node) result }
-        ensures takes { IfOk result (λ _. recorder.new.lost ≡ None → Takes node 1
+        ensures goes { (deeds : List Deed) × GoesOpenly deeds self.old.driver self.new.driver
+            (node_at recorder.old.core node) (node_at recorder.new.core node) result
+            × IfOk result (λ _. recorder.new.lost ≡ None → Does node deeds
             self.old.policy (course_of recorder.old) self.new.policy (course_of recorder.new)) }
         ensures gone { Goes node self.old.policy recorder.old self.new.policy recorder.new }
         ensures spares { SparesOthers node recorder.old.core recorder.new.core }

@@ -22,7 +22,8 @@ impl<'a> Worker for Seat<'a> {
     ghost use Rattle.std.specs.Prelude.{◌≡◌, ℕ, None};
     ghost use Rattle.sci_core.specs.Core.{node_at};
     ghost use Rattle.std.proofs.Common.{refl, subst, ◌∙◌};
-    ghost use Rattle.sci_runs.specs.{Deeds.{Takes}, Goings.{Goes, goes_itself, goes_on, takes_nothing, takes_on}, Recorded.{SparesOthers, course_of}};
+    ghost use Rattle.sci_policy.proofs.Deeds.{deeds_on};
+    ghost use Rattle.sci_runs.specs.{Deeds.{Does, IsDeed, standing}, Goings.{Goes, goes_itself, goes_on}, Recorded.{SparesOthers, course_of}};
 
     ghost node = { λ seat. node_at seat.recorder.now.core seat.node };
 
@@ -32,8 +33,8 @@ impl<'a> Worker for Seat<'a> {
         × SparesOthers old.node old.recorder.now.core new.recorder.now.core
         × Goes old.node old.policy.now old.recorder.now new.policy.now new.recorder.now };
 
-    ghost turned = { λ old turns new. (new.node ≡ old.node)
-        × (new.recorder.now.lost ≡ None → (old.recorder.now.lost ≡ None) × Takes old.node turns
+    ghost does = { λ old deeds new. (new.node ≡ old.node)
+        × (new.recorder.now.lost ≡ None → (old.recorder.now.lost ≡ None) × Does old.node deeds
         old.policy.now (course_of old.recorder.now) new.policy.now (course_of new.recorder.now)) };
 
     fn submit(&mut self, op: Op) -> Result<u32, SubmitFault> {
@@ -68,19 +69,16 @@ impl<'a> Worker for Seat<'a> {
           (subst (λ (n : ℕ). Goes n y.policy.now y.recorder.now z.policy.now z.recorder.now) one.0 two.4),
     ) };
 
-    ghost turned_not = { λ x. (
-      refl,
-      λ none. (none, takes_nothing x.node x.policy.now (course_of x.recorder.now)),
-    ) };
+    ghost does_nothing = { λ x. (refl, λ none. (none, refl)) };
 
-    ghost turned_on = { λ x y z some more first second. (
+    ghost does_on = { λ x y z deeds more first second. (
       second.0 ∙ first.0,
       λ none. (
         (first.1 (second.1 none).0).0,
-        takes_on x.node some more x.policy.now y.policy.now z.policy.now
-            (course_of x.recorder.now) (course_of y.recorder.now) (course_of z.recorder.now)
-            (first.1 (second.1 none).0).1
-            (subst (λ (n : ℕ). Takes n more y.policy.now (course_of y.recorder.now)
+        deeds_on (IsDeed x.node) deeds more (standing x.policy.now (course_of x.recorder.now))
+            (standing y.policy.now (course_of y.recorder.now))
+            (standing z.policy.now (course_of z.recorder.now)) (first.1 (second.1 none).0).1
+            (subst (λ (n : ℕ). Does n more y.policy.now (course_of y.recorder.now)
             z.policy.now (course_of z.recorder.now)) first.0 (second.1 none).1),
       ),
     ) };

@@ -75,7 +75,8 @@ impl<'a> Table<'a> {
     ghost use Rattle.sci_core.specs.Core.{run};
     ghost use Rattle.sci_runs.specs.declared.fault.RunFault.TheVariants.{Memory, TooMany};
     ghost use Rattle.sci_threads.specs.Shares.{operations_of, size_for};
-    ghost use Rattle.sci_runs.specs.{Played.{Begins, FillsAt, HasNoRoom, IsRound, Played}, Players.{IsAnswered, moment_of}};
+    ghost use Rattle.sci_runs.specs.{Played.{Begins, FillsAt, HasNoRoom, IsRound, Played}, Players.{moment_of}};
+    ghost use Rattle.sci_drive.specs.Driving.{IsAnswered};
     ghost use Rattle.sci_runs.specs.{Recorded.{raised}, Runs.{IsRunOf, last_behind, logs_behind}};
     ghost use Rattle.sci_history.specs.{Audit.{AreWithin}, Lawful.{Lawful}, Sequential.{IsSequentiallyConsistent}};
 

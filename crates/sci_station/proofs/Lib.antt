@@ -1,5 +1,6 @@
 pub mod Budgets
 pub mod StillEnds
+pub mod StationDeeds
 pub mod Cells
 pub mod Spelled
 pub mod OwnEvents

@@ -3,3 +3,4 @@ pub mod Ends
 pub mod OneLog
 pub mod Posts
 pub mod Station
+pub mod Deeds

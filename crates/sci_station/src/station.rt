@@ -107,8 +107,8 @@ impl Station {
     /// - The report counts the events. A line that it names has an operation that can be performed.
     /// - It is whole: each step goes as far as it can, in this order. From a node fewer than four answers are accepted only
     ///   if no more have come, and fewer than four requests are taken only if no more have come, the next one is kept, or an
-    ///   answer waits whose lane is full. It ends after four asks, at a line that can be performed, when the policy wants no
-    ///   more, or at a full lane.
+    ///   answer waits that found its lane full. It ends after four asks, at a line that can be performed, when the policy
+    ///   wants no more, or at a full lane.
     /// - Nothing is reported only if there was nothing to do: from no node an answer had come, and each request that had
     ///   come is kept, or an answer waits that found its lane full. Then no operation is pending, or there are other
     ///   nodes and some line awaits an answer.

@@ -7,14 +7,15 @@ use sci_words::Op;
 use std::alloc::AllocError;
 
 impl Worker for Station {
-    ghost use Rattle.sci_station.specs.{Ends.{IsSameEnd}, Station.{node_in}};
-    ghost use Rattle.std.proofs.Common.{rules};
+    ghost use Rattle.sci_station.specs.{Deeds.{Does, IsDeed}, Ends.{IsSameEnd}, Station.{node_in}};
+    ghost use Rattle.std.proofs.Common.{refl, rules};
+    ghost use Rattle.sci_policy.proofs.Deeds.{deeds_on};
 
     ghost node = { node_in };
 
     ghost stays = { λ old new. IsSameEnd old.end new.end };
 
-    ghost turned = { λ old turns new. Unit {0} };
+    ghost does = { λ old deeds new. Does deeds old new };
 
     fn submit(&mut self, op: Op) -> Result<u32, SubmitFault> {
         Station::submit(self, op)
@@ -32,7 +33,8 @@ impl Worker for Station {
 
     ghost stays_through = { Prim.search rules };
 
-    ghost turned_not = { λ x. tt };
+    ghost does_nothing = { λ x. refl };
 
-    ghost turned_on = { λ x y z some more first second. tt };
+    ghost does_on = { λ x y z deeds more first second.
+        deeds_on IsDeed deeds more x y z first second };
 }

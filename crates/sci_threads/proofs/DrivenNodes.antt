@@ -4,17 +4,26 @@ use Rattle.std.proofs.Common.{Bool, true, false, Some, Result, Ok, Err, Vec}
 use Rattle.std.proofs.lemmas.{List.{get_or-map, length-map}, Option.{slice_get-get_or, slice_get-map}, Result.{IfOk-at_ok}}
 use Rattle.std.specs.{Prelude.{◌⊎◌, ◌↔◌, IsOk, option_map, slice_get, slice_index_or}}
 use Rattle.atomic_table.specs.Seated.{TableId}
-use Rattle.sci_words.specs.declared.{operation.Op.{Op}, stamped.Stamped.{Stamped}}
+use Rattle.sci_words.specs.declared.{event.Event.{Event}, operation.Op.{Op}, stamped.Stamped.{Stamped}}
 use Rattle.sci_history.specs.declared.entry.Entry.{Entry}
 use Rattle.sci_text.specs.Script.{ScriptValue}
-use Rattle.sci_core.specs.{Core.{Core, node_at}, Node.{NodeOf, opening_node}, Outcome.{logs_of}, Sharing.{last_of}, Size.{Size}}
+use Rattle.sci_core.specs.{Core.{Core, node_at}, Outcome.{logs_of}, Sharing.{last_of}, Size.{Size}}
 use Rattle.sci_lanes.specs.{Ends.{EndOf}, Gathering.{IsLedTo, IsStateOf}, Shown.{me_of, opening_part}}
 use Rattle.sci_drive.specs.{declared.driver.Issuing.{Issuing}, Calls.{AreCalls, Call}, Driving.{DriverOf, opening_driver}}
 use Rattle.sci_drive.proofs.GateCalls.{calls_of, told_once}
 use Rattle.sci_station.specs.Station.{StationOf, end_in, opening_station}
-use Rattle.sci_threads.specs.{declared.share.Share.{Share}, Slices.{AreDrivenThrough, GoSlices, IsDrivenThrough}}
+use Rattle.sci_threads.specs.{declared.share.Share.{Share}, Slices.{AreDrivenThrough, GoSlices, IsDrivenThrough, IsStationOf}}
 use Rattle.sci_threads.specs.Shares.{AllGoOn, AreLedTo, AreWell, GoesOn, HasEnded, IsOpened, IsWell, TakesTurns, operations_of, own_of}
 use Rattle.sci_threads.proofs.RunStations.{led_by, opened, opened_at, opened_long, own_is}
+
+same_ok : {E : Type 0} (r : Result Bool E) (x y : Bool) → r ≡ Ok x → r ≡ Ok y → x ≡ y
+same_ok (Ok z) x y e f = cc
+same_ok (Err z) x y e f = absurd (cc)
+
+-- one of a list that has some
+some_of : {A : Type 0} (xs : List A) (k : ℕ) → k < length xs → A
+some_of [] k lt = absurd (omega arith)
+some_of (x ∷ xs) k lt = x
 
 -- whether a share has finished
 abbrev said : {E : Type 0} → Result Bool E → Bool
@@ -31,16 +40,18 @@ all_said [] all k lt = absurd (omega arith)
 all_said (share ∷ shares) all k lt = get_or-map (λ s. said s.finished) (share ∷ shares) k share false lt ∙ ap said (all k share lt)
 
 module _ {G : Type 0} (hears : G → List Call → G → Type 0) (issuing : Issuing) (operations : ℕ → List Op) (turns : ℕ) where
-  -- a share that was opened, went on and has ended has driven its node through
+  -- a share that was opened, went on and has ended has driven its station through
   driven_by : (old new : Share G) (finished : Bool) → IsOpened issuing operations turns old → old.station.end.part.node.log ≡ [] → GoesOn hears old new
       → IsWell new.driver new.station.end new.finished → HasEnded new → new.finished ≡ Ok finished
-      → IsDrivenThrough hears turns issuing (operations (me_of old.station.end.part)) old.gate old.station.end.part.node new.station.end.part.node finished
+      → IsDrivenThrough hears turns issuing (operations (me_of old.station.end.part)) old.gate old.station new.station finished
   driven_by old new finished opened empty gone well ended is =
       let script = operations (me_of old.station.end.part) in
       let x = old.station.end.part.node in
       let y = new.station.end.part.node in
       let calls = gone.heard.calls in
-      let took : TakesTurns hears old new = (IfOk-at_ok _ is gone.rounds).1 in
+      let rounds = IfOk-at_ok _ is gone.rounds in
+      let unfinished : rounds.0 ≡ false = same_ok old.finished rounds.0 false rounds.1 opened.unfinished in
+      let took : TakesTurns hears old new false finished = subst (λ (had : Bool). TakesTurns hears old new had finished) unfinished rounds.2 in
       let are : AreCalls (opening_driver script issuing) new.driver x y calls =
       subst (λ (d : DriverOf). AreCalls d new.driver x y calls) opened.driver gone.heard.are in
       let over : (finished ≡ true) ⊎ (new.left ≡ 0) = IfOk-at_ok (λ (all : Bool). (all ≡ true) ⊎ (new.left ≡ 0)) is ended in
@@ -49,15 +60,16 @@ module _ {G : Type 0} (hears : G → List Call → G → Type 0) (issuing : Issu
         later = new.gate;
         driver = new.driver;
         slices = took.slices;
-        gone = subst (λ (d : DriverOf). GoSlices hears took.slices old.gate new.gate d new.driver x y) opened.driver took.gone;
+        deeds = took.deeds;
+        gone = subst (λ (d : DriverOf). GoSlices hears took.slices false finished took.deeds old.gate new.gate d new.driver x y) opened.driver took.gone;
+        does = took.does;
         few = omega arith;
         calls = calls;
         heard = gone.heard.heard;
         are = calls_of script issuing new.driver x y calls empty well.driven are;
         ended = λ done.
             let at = IfOk-at_ok _ is well.answered done in record {
-              submitted = at.0;
-              performed = at.1;
+              answered = (at.0, at.1);
               once = told_once script issuing new.driver x y calls at.2 are;
               all_done = elim (gone.all_done (is ∙ ap Ok done)) [
                 | inl before ↦ absurd (let first = before.0 in let unfinished = opened.unfinished in cc)
@@ -91,8 +103,8 @@ module _ {G : Type 0} (hears : G → List Call → G → Type 0) (issuing : Issu
         let many = count in
         sym (get_or-map (λ (s : Share G). s.gate) old k d e (omega (arith, many))) ∙ ap (λ (xs : List G). slice_index_or xs k e) with_gates
 
-    -- the node of a share after it is the machine's
-    new_at : (k : ℕ) (d : Share G) → k < size.nodes → (slice_index_or new k d).station.end.part.node ≡ node_at core k
+    -- the station of a share after it is that of the machine's node
+    new_at : (k : ℕ) (d : Share G) → k < size.nodes → IsStationOf core state.led.schedule k (slice_index_or new k d).station
     new_at k d lt =
         let many = count in
         let share : Share G = slice_index_or new k d in
@@ -102,7 +114,7 @@ module _ {G : Type 0} (hears : G → List Call → G → Type 0) (issuing : Issu
         slice_get-map end_in (map (λ (s : Share G). s.station) new) k
         ∙ ap (option_map end_in) (slice_get-map (λ (s : Share G). s.station) new k ∙ ap (option_map (λ (s : Share G). s.station)) here) in
         let me : me_of end.part ≡ k = (gone k d (omega (arith, many))).same.node.me ∙ ap (λ (s : StationOf). me_of s.end.part) (old_at k d lt) in
-        sym (state.nodes k end there) ∙ ap (node_at core) me
+        record { node = sym (state.nodes k end there) ∙ ap (node_at core) me; seen = state.seen k end there }
 
     abbrev has_finished : ℕ → Bool
     has_finished node = slice_index_or (map (λ (s : Share G). said s.finished) new) node false
@@ -114,34 +126,48 @@ module _ {G : Type 0} (hears : G → List Call → G → Type 0) (issuing : Issu
         said_ok (slice_index_or new k d).finished (unrefused k d within)
         ∙ ap Ok (sym (get_or-map (λ (s : Share G). said s.finished) new k d false within))
 
-    -- what a node's share has done, it has
-    at_node : (k : ℕ) (d : Share G) (e : G) (before : NodeOf) → k < size.nodes → before ≡ opening_node k core.size
-        → IsDrivenThrough hears turns issuing (operations k) (slice_index_or gates k e) before (node_at core k) (has_finished k)
-    at_node k d e before lt is =
+    abbrev station_at : ℕ → StationOf
+    station_at node = slice_index_or (map (λ (s : Share G). s.station) new) node (opening node)
+
+    station_is : (k : ℕ) (d : Share G) → k < size.nodes → station_at k ≡ (slice_index_or new k d).station
+    station_is k d lt =
+        let many = count in
+        get_or-map (λ (s : Share G). s.station) new k d (opening k) (omega (arith, many, long))
+
+    -- what a node's share has done, its station has
+    at_node : (k : ℕ) (d : Share G) (e : G) (start : StationOf) → k < size.nodes → start ≡ opening k
+        → IsDrivenThrough hears turns issuing (operations k) (slice_index_or gates k e) start (station_at k) (has_finished k)
+    at_node k d e start lt is =
         let many = count in
         let was : Share G = slice_index_or old k d in
         let now : Share G = slice_index_or new k d in
         let finished = has_finished k in
         let within : k < length old = omega (arith, many) in
-        let started : was.station ≡ opening k = old_at k d lt in
-        let node : was.station.end.part.node ≡ before =
-        ap (λ (s : StationOf). s.end.part.node) started ∙ (ap (opening_node k) (sym sized) ∙ sym is) in
-        let mine : me_of was.station.end.part ≡ k = ap (λ (s : StationOf). me_of s.end.part) started in
-        let run = driven_by was now finished (opens k d within) (ap (λ (s : StationOf). s.end.part.node.log) started) (gone k d within)
+        let first : was.station ≡ start = old_at k d lt ∙ sym is in
+        let mine : me_of was.station.end.part ≡ k = ap (λ (s : StationOf). me_of s.end.part) (old_at k d lt) in
+        let run = driven_by was now finished (opens k d within) (ap (λ (s : StationOf). s.end.part.node.log) (old_at k d lt)) (gone k d within)
         (well k d (omega (arith, long, within))) (ended k d (omega (arith, long, within))) (finished_at k d lt) in
-        subst (λ (n : ℕ). IsDrivenThrough hears turns issuing (operations n) (slice_index_or gates k e) before (node_at core k) finished) mine
-        (subst (λ (g : G). IsDrivenThrough hears turns issuing (operations (me_of was.station.end.part)) g before (node_at core k) finished) (gate_at k d e lt)
-        (subst (λ (n : NodeOf). IsDrivenThrough hears turns issuing (operations (me_of was.station.end.part)) was.gate n (node_at core k) finished) node
-        (subst (λ (n : NodeOf). IsDrivenThrough hears turns issuing (operations (me_of was.station.end.part)) was.gate was.station.end.part.node n finished)
-        (new_at k d lt) run)))
+        subst (λ (n : ℕ). IsDrivenThrough hears turns issuing (operations n) (slice_index_or gates k e) start (station_at k) finished) mine
+        (subst (λ (g : G). IsDrivenThrough hears turns issuing (operations (me_of was.station.end.part)) g start (station_at k) finished) (gate_at k d e lt)
+        (subst (λ (s : StationOf). IsDrivenThrough hears turns issuing (operations (me_of was.station.end.part)) was.gate s (station_at k) finished) first
+        (subst (λ (s : StationOf). IsDrivenThrough hears turns issuing (operations (me_of was.station.end.part)) was.gate was.station s finished)
+        (sym (station_is k d lt)) run)))
 
     -- all nodes were driven through
-    pub all_driven : AreDrivenThrough hears turns issuing operations gates core all
+    pub all_driven : AreDrivenThrough hears turns issuing operations gates core state.led.schedule all
     all_driven = record {
+      table = table;
+      station = station_at;
       finished = has_finished;
+      are_of = λ node lt.
+          let many = count in
+          let inside : node < size.nodes = subst (λ (z : Size). node < z.nodes) sized lt in
+          let d : Share G = some_of old node (omega (arith, many)) in
+          subst (IsStationOf core state.led.schedule node) (sym (station_is node d inside)) (new_at node d inside);
       each = λ node e lt.
           let d : Share G = record { station = opening node; driver = opening_driver [] issuing; gate = e; left = 0; finished = Ok false } in
-          at_node node d e (opening_node node core.size) (subst (λ (z : Size). node < z.nodes) sized lt) refl;
+          at_node node d e (opening_station (record { table = table; part = opening_part core.size node })) (subst (λ (z : Size). node < z.nodes) sized lt)
+          (ap (λ (z : Size). opening_station (record { table = table; part = opening_part z node })) sized);
       all_are = (
         λ done node lt.
             let many = count in
@@ -155,29 +181,36 @@ module _ {G : Type 0} (hears : G → List Call → G → Type 0) (issuing : Issu
 
 -- ---- said otherwise
 
-module _ {G : Type 0} (hears : G → List Call → G → Type 0) (turns : ℕ) (issuing : Issuing) (gates : List G) (core : Core) (all : Bool) where
+module _ {G : Type 0} (hears : G → List Call → G → Type 0) (turns : ℕ) (issuing : Issuing) (gates : List G) (core : Core) (schedule : List Event)
+    (all : Bool) where
   -- so they were by lists that are the same for each node
   pub by_same_lists : (operations others : ℕ → List Op) → ((node : ℕ) → node < core.size.nodes → operations node ≡ others node)
-      → AreDrivenThrough hears turns issuing operations gates core all → AreDrivenThrough hears turns issuing others gates core all
+      → AreDrivenThrough hears turns issuing operations gates core schedule all → AreDrivenThrough hears turns issuing others gates core schedule all
   by_same_lists operations others same driven = record {
+    table = driven.table;
+    station = driven.station;
     finished = driven.finished;
+    are_of = driven.are_of;
     each = λ node d lt.
-        subst (λ (ops : List Op). IsDrivenThrough hears turns issuing ops (slice_index_or gates node d) (opening_node node core.size) (node_at core node)
-        (driven.finished node)) (same node lt) (driven.each node d lt);
+        subst (λ (ops : List Op). IsDrivenThrough hears turns issuing ops (slice_index_or gates node d)
+        (opening_station (record { table = driven.table; part = opening_part core.size node })) (driven.station node) (driven.finished node)) (same node lt)
+        (driven.each node d lt);
     all_are = driven.all_are;
   }
 
   -- what a script's lists were made of
   pub by_script : {Z : Type 0} (s : ScriptValue) (lists : List (Vec Op Z)) → length lists ≡ s.nodes
       → ((n : ℕ) (d : Vec Op Z) → n < s.nodes → (slice_index_or lists n d).items ≡ operations_of n s.operations) → core.size.nodes ≡ s.nodes
-      → AreDrivenThrough hears turns issuing (own_of lists) gates core all
-      → AreDrivenThrough hears turns issuing (λ node. operations_of node s.operations) gates core all
+      → AreDrivenThrough hears turns issuing (own_of lists) gates core schedule all
+      → AreDrivenThrough hears turns issuing (λ node. operations_of node s.operations) gates core schedule all
   by_script s lists many own nodes = by_same_lists (own_of lists) (λ node. operations_of node s.operations)
       (λ node lt. own_is s lists node many own (subst (λ (n : ℕ). node < n) nodes lt))
 
-  -- the nodes of the state that leads to logs and last contents
-  pub led_and_driven : (size : Size) (operations : ℕ → List Op) (logs : List (List Entry)) (last : List Stamped) → IsLedTo size core → logs ≡ logs_of core
-      → last ≡ last_of core → AreDrivenThrough hears turns issuing operations gates core all
-      → (led : AreLedTo size logs last) × AreDrivenThrough hears turns issuing operations gates led.core all
-  unfolding led_by
-  led_and_driven size operations logs last led logs_are last_are driven = (led_by size core logs last led logs_are last_are, driven)
+-- the nodes of the state that leads to logs and last contents
+pub led_and_driven : {G : Type 0} (hears : G → List Call → G → Type 0) (turns : ℕ) (issuing : Issuing) (gates : List G) (core : Core) (all : Bool) (size : Size)
+    (operations : ℕ → List Op) (logs : List (List Entry)) (last : List Stamped) → logs ≡ logs_of core → last ≡ last_of core
+    → (led : IsLedTo size core) × AreDrivenThrough hears turns issuing operations gates core led.schedule all
+    → (led : AreLedTo size logs last) × AreDrivenThrough hears turns issuing operations gates led.core led.led.schedule all
+unfolding led_by
+led_and_driven hears turns issuing gates core all size operations logs last logs_are last_are driven =
+    (led_by size core logs last driven.0 logs_are last_are, driven.1)

@@ -1,9 +1,9 @@
 -- Shares that go on.
 use Rattle.std.proofs.Common.{◌≡◌, ◌<◌, ◌≤◌, ◌+◌, ℕ, List, [], ◌∷◌, ◌++◌, append_assoc, All, length, refl, sym, ap, subst, ◌∙◌, inl, inr, arith}
-use Rattle.std.proofs.Common.{Bool, true, IfOk, Result, Ok, Err}
+use Rattle.std.proofs.Common.{Bool, true, false, IfOk, Result, Ok, Err}
 use Rattle.std.proofs.lemmas.{Bool.{cases_eq}, List.{append-nil, get_or-set_same, get_or-set_other, Sums.{sum_by-append}}}
-use Rattle.std.proofs.lemmas.{Option.{get_or_from_slice_get, slice_get-get_or}, Result.{IfOk-weaker}}
-use Rattle.std.specs.{Prelude.{◌⊎◌, IsOk, OnOk, slice_index_or, slice_set}}
+use Rattle.std.proofs.lemmas.{Option.{get_or_from_slice_get, slice_get-get_or}, Result.{IfOk-at_ok, IfOk-weaker}}
+use Rattle.std.specs.Prelude.{◌⊎◌, IsOk, slice_index_or, slice_set}
 use Rattle.std.specs.declared.alloc.AllocError.{AllocError}
 use Rattle.sci_words.specs.declared.operation.Op.{Op}
 use Rattle.sci_history.specs.Sequential.{IsInProgramOrder}
@@ -12,7 +12,9 @@ use Rattle.sci_lanes.specs.{Ends.{EndOf}, Shown.{me_of}}
 use Rattle.sci_drive.specs.{declared.driver.Issuing.{Issuing, TheVariants.{InOrder}}, Calls.{AllDone, Call, EndWithAllDone, IsHeard}}
 use Rattle.sci_drive.specs.{Driving.{DriverOf, IsInOrder}, Rounds.{GoRounds}, Script.{IsFrontOf, IsLogOf, IsWholeLogOf}}
 use Rattle.sci_drive.proofs.{Drives.{log_of, whole_of}, GateCalls.{calls_on, no_calls}}
-use Rattle.sci_station.specs.{Ends.{IsSameEnd}, Station.{StationOf}}
+use Rattle.sci_policy.specs.Deeds.{Deed}
+use Rattle.sci_policy.proofs.Deeds.{deeds_on}
+use Rattle.sci_station.specs.{Deeds.{Does, IsDeed}, Ends.{IsSameEnd}, Station.{StationOf}}
 use Rattle.sci_station.proofs.StillEnds.{same_itself, same_then}
 use Rattle.sci_threads.specs.{declared.share.Share.{Share}, Slices.{GoSlices}}
 use Rattle.sci_threads.specs.Shares.{AllGoOn, AreWell, GoesOn, HasEnded, HasAtMost, HaveFewer, IsOpened, IsWell, TakesTurns}
@@ -27,41 +29,51 @@ pub record HasRun {E : Type 0} (issuing : Issuing) (operations : ℕ → List Op
 
 -- ---- results
 
--- what is so if there is a value, is so beside it
-stay_ok : {E : Type 0} (r : Result Bool E) (P : Type 0) → P → OnOk r (IsOk r × P)
-stay_ok (Ok all) P p = (refl, p)
+-- what is so of each value, is so of the one that there is
+stay_ok : {E : Type 0} (r : Result Bool E) (P : Bool → Bool → Type 0) → ((b : Bool) → P b b) → IfOk r (λ has. (had : Bool) × (r ≡ Ok had) × P had has)
+stay_ok (Ok all) P p = (all, refl, p all)
 stay_ok (Err e) P p = tt
-
--- and is so
-pub of_ok : {E : Type 0} (r : Result Bool E) (P : Type 0) → IsOk r → OnOk r P → P
-of_ok (Ok all) P is p = p
-of_ok (Err e) P is p = absurd cc
 
 pub is_value : {A E : Type 0} (r : Result A E) (x : A) → r ≡ Ok x → IsOk r
 is_value (Ok y) x is = refl
 is_value (Err e) x is = absurd cc
 
--- a share that has not ended was not refused
-unended : {E : Type 0} (r : Result Bool E) (left : ℕ) → (IfOk r (λ all. (all ≡ true) ⊎ (left ≡ 0)) → ⊥) → IsOk r
-unended (Ok all) left more = refl
+-- a share that has not ended hasn't finished, and was not refused
+unended : {E : Type 0} (r : Result Bool E) (left : ℕ) → (IfOk r (λ all. (all ≡ true) ⊎ (left ≡ 0)) → ⊥) → r ≡ Ok false
+unended (Ok false) left more = refl
+unended (Ok true) left more = absurd (more (inl refl))
 unended (Err e) left more = absurd (more tt)
 
 -- ---- slices
 
 module _ {G : Type 0} (hears : G → List Call → G → Type 0) where
   -- slices, and then further ones
-  pub slices_on : (first second : List ℕ) (g h k : G) (a b c : DriverOf) (x y z : NodeOf) → GoSlices hears first g h a b x y → GoSlices hears second h k b c y z
-      → GoSlices hears (second ++ first) g k a c x z
-  slices_on first [] g h k a b c x y z was is =
-      subst (λ (m : G). GoSlices hears first g m a c x z) is.0
-      (subst (λ (d : DriverOf). GoSlices hears first g h a d x z) is.1 (subst (λ (n : NodeOf). GoSlices hears first g h a b x n) is.2 was))
-  slices_on first (turns ∷ second) g h k a b c x y z was is =
-      (is.0, is.1, is.2, is.3, slices_on first second g h is.0 a b is.1 x y is.2 was is.4, is.5)
+  pub slices_on : (first second : List ℕ) (p q r : Bool) (deeds more : List Deed) (g h k : G) (a b c : DriverOf) (x y z : NodeOf)
+      → GoSlices hears first p q deeds g h a b x y → GoSlices hears second q r more h k b c y z
+      → GoSlices hears (second ++ first) p r (deeds ++ more) g k a c x z
+  slices_on first [] p q r deeds more g h k a b c x y z was is =
+      let all : deeds ++ more ≡ deeds = ap (λ (ds : List Deed). deeds ++ ds) is.1 ∙ append-nil deeds in
+      subst (λ (ds : List Deed). GoSlices hears first p r ds g k a c x z) (sym all)
+      (subst (λ (f : Bool). GoSlices hears first p f deeds g k a c x z) is.0
+      (subst (λ (m : G). GoSlices hears first p q deeds g m a c x z) is.2
+      (subst (λ (d : DriverOf). GoSlices hears first p q deeds g h a d x z) is.3
+      (subst (λ (n : NodeOf). GoSlices hears first p q deeds g h a b x n) is.4 was))))
+  slices_on first (turns ∷ second) p q r deeds more g h k a b c x y z was is = (
+    is.0,
+    is.1,
+    is.2,
+    is.3,
+    deeds ++ is.4,
+    is.5,
+    ap (λ (ds : List Deed). deeds ++ ds) is.6 ∙ sym (append_assoc deeds is.4 is.5),
+    slices_on first second p q false deeds is.4 g h is.0 a b is.1 x y is.2 was is.7,
+    is.8,
+  )
 
   -- one slice
-  pub one_slice : (turns restless : ℕ) (g h : G) (a b : DriverOf) (x y : NodeOf) → GoRounds hears turns restless g h a b x y
-      → GoSlices hears (turns ∷ []) g h a b x y
-  one_slice turns restless g h a b x y is = (g, a, x, restless, (refl, refl, refl), is)
+  pub one_slice : (turns restless : ℕ) (has : Bool) (deeds : List Deed) (g h : G) (a b : DriverOf) (x y : NodeOf)
+      → GoRounds hears turns has restless deeds g h a b x y → GoSlices hears (turns ∷ []) false has deeds g h a b x y
+  one_slice turns restless has deeds g h a b x y is = (g, a, x, restless, [], deeds, refl, (refl, refl, refl, refl, refl), is)
 
 -- ---- shares
 
@@ -113,7 +125,8 @@ module _ {G : Type 0} (hears : G → List Call → G → Type 0) (hears_nothing 
       are = no_calls share.driver share.driver share.station.end.part.node share.station.end.part.node refl refl refl;
     };
     all_done = λ done. inl (done, refl);
-    rounds = stay_ok share.finished (TakesTurns hears share share) (record { slices = []; fewer = omega arith; gone = (refl, refl, refl) });
+    rounds = stay_ok share.finished (TakesTurns hears share share)
+        (λ has. record { slices = []; fewer = omega arith; deeds = []; does = refl; gone = (refl, refl, refl, refl, refl) });
     left = omega arith;
     ended = λ h. h;
   }
@@ -138,17 +151,20 @@ module _ {G : Type 0} (hears : G → List Call → G → Type 0) (hears_nothing 
           ])
       | inr ends ↦ inr (ends_behind a.heard.calls b.heard.calls ends)
     ];
-    rounds = IfOk-weaker z.finished _ _ (λ _ more.
-        let before = of_ok y.finished _ more.0 a.rounds in
-        let first = before.1 in
-        let second = more.1 in
+    rounds = IfOk-weaker z.finished _ _ (λ has more.
+        let before = IfOk-at_ok _ more.1 a.rounds in
+        let first = before.2 in
+        let second = more.2 in
         let both = sum_by-append (λ (n : ℕ). n) second.slices first.slices in (
           before.0,
+          before.1,
           record {
             slices = second.slices ++ first.slices;
             fewer = let one = first.fewer in let other = second.fewer in omega (arith, both);
-            gone = slices_on hears first.slices second.slices x.gate y.gate z.gate x.driver y.driver z.driver x.station.end.part.node
-                y.station.end.part.node z.station.end.part.node first.gone second.gone;
+            deeds = first.deeds ++ second.deeds;
+            does = deeds_on IsDeed first.deeds second.deeds x.station y.station z.station first.does second.does;
+            gone = slices_on hears first.slices second.slices before.0 more.0 has first.deeds second.deeds x.gate y.gate z.gate x.driver y.driver
+                z.driver x.station.end.part.node y.station.end.part.node z.station.end.part.node first.gone second.gone;
           },
         )) b.rounds;
     left = let first = a.left in let second = b.left in omega (arith, first, second);
@@ -183,26 +199,30 @@ module _ {G : Type 0} (hears : G → List Call → G → Type 0) (hears_nothing 
 
 module _ {G : Type 0} (hears : G → List Call → G → Type 0) where
   -- a share whose driver went on
-  pub went_on : (old : Share G) (station : StationOf) (driver : DriverOf) (gate : G) (turns restless left : ℕ) (finished : Bool)
+  pub went_on : (old : Share G) (station : StationOf) (driver : DriverOf) (gate : G) (turns restless left : ℕ) (finished : Bool) (deeds : List Deed)
       → IsSameEnd old.station.end station.end → driver.script ≡ old.driver.script
       → (IsInOrder old.driver old.station.end.part.node → IsInOrder driver station.end.part.node)
       → (heard : IsHeard hears old.gate gate old.driver driver old.station.end.part.node station.end.part.node)
       → (finished ≡ true → EndWithAllDone heard.calls)
-      → GoRounds hears turns restless old.gate gate old.driver driver old.station.end.part.node station.end.part.node
+      → Does deeds old.station station
+      → GoRounds hears turns finished restless deeds old.gate gate old.driver driver old.station.end.part.node station.end.part.node
       → turns + left ≡ old.left → (HasEnded old → ⊥)
       → GoesOn hears old (record { station = station; driver = driver; gate = gate; left = left; finished = Ok finished })
-  went_on old station driver gate turns restless left finished same script order heard all_done rounds fewer more = record {
+  went_on old station driver gate turns restless left finished deeds same script order heard all_done does rounds fewer more = record {
     same = same;
     script = script;
     order = order;
     heard = heard;
     all_done = λ done. inr (all_done cc);
     rounds = (
+      false,
       unended old.finished old.left more,
       record {
         slices = turns ∷ [];
         fewer = omega (arith, fewer);
-        gone = one_slice hears turns restless old.gate gate old.driver driver old.station.end.part.node station.end.part.node rounds;
+        deeds = deeds;
+        does = does;
+        gone = one_slice hears turns restless finished deeds old.gate gate old.driver driver old.station.end.part.node station.end.part.node rounds;
       },
     );
     left = omega (arith, fewer);

@@ -1,5 +1,5 @@
 -- What each node of a machine does of a script.
-use Rattle.std.specs.Prelude.{◌≡◌, ◌<◌, ◌≤◌, ◌==◌, ◌+◌, ◌⊎◌, ℕ, All, Bool, true, false, List, [], filter, length, map, Result, Ok, IfOk, IsOk, OnOk}
+use Rattle.std.specs.Prelude.{◌≡◌, ◌<◌, ◌≤◌, ◌==◌, ◌+◌, ◌⊎◌, ℕ, All, Bool, true, false, List, [], filter, length, map, Result, Ok, IfOk}
 use Rattle.std.specs.{Prelude.{slice_index_or, Vec}, List.{sum}}
 use Rattle.sci_words.specs.declared.{limits.TheConstants.{MAX_OPERATIONS}, operation.Op.{Op}, stamped.Stamped.{Stamped}}
 use Rattle.sci_history.specs.{declared.entry.Entry.{Entry}, Placed.{log_of}}
@@ -9,7 +9,8 @@ use Rattle.sci_lanes.specs.{Shown.{me_of}, Ends.{EndOf}, Gathering.{AreMadeBy, I
 use Rattle.sci_drive.specs.declared.driver.Issuing.{Issuing, TheVariants.{InOrder}}
 use Rattle.sci_drive.specs.{Calls.{Call, EndWithAllDone, IsHeard}, Driving.{DriverOf, IsDriven, IsInOrder, opening_driver}}
 use Rattle.sci_drive.specs.Script.{IsFrontOf, IsLogOf, IsWholeLogOf}
-use Rattle.sci_station.specs.Ends.{IsSameEnd}
+use Rattle.sci_policy.specs.Deeds.{Deed}
+use Rattle.sci_station.specs.{Deeds.{Does}, Ends.{IsSameEnd}}
 use Rattle.sci_threads.specs.{declared.share.Share.{Share}, Slices.{GoSlices}}
 
 -- the operations of a node, in their order
@@ -74,11 +75,13 @@ HasEnded share = IfOk share.finished (λ finished. (finished ≡ true) ⊎ (shar
 abbrev pub HasAtMost : {G : Type 0} → ℕ → Share G → Type 0
 HasAtMost turns share = HasEnded share ⊎ (share.left ≤ turns)
 
--- the driver of a share went on in slices, of as many turns in all as the share has fewer left
-pub record TakesTurns {G : Type 0} (hears : G → List Call → G → Type 0) (old new : Share G) : Type 0 where
+-- the driver of a share went on in slices, of as many turns in all as the share has fewer left, by deeds of its station
+pub record TakesTurns {G : Type 0} (hears : G → List Call → G → Type 0) (old new : Share G) (had has : Bool) : Type 0 where
   pub slices : List ℕ
   pub fewer : sum slices + new.left ≡ old.left
-  pub gone : GoSlices hears slices old.gate new.gate old.driver new.driver old.station.end.part.node new.station.end.part.node
+  pub deeds : List Deed
+  pub does : Does deeds old.station new.station
+  pub gone : GoSlices hears slices had has deeds old.gate new.gate old.driver new.driver old.station.end.part.node new.station.end.part.node
 
 -- The same share, later. Its gate has had some calls. If it has finished since, the last of them was answered that all are done. Unless it
 -- was refused, its driver went on.
@@ -88,7 +91,7 @@ pub record GoesOn {G : Type 0} (hears : G → List Call → G → Type 0) (old n
   pub order : IsInOrder old.driver old.station.end.part.node → IsInOrder new.driver new.station.end.part.node
   pub heard : IsHeard hears old.gate new.gate old.driver new.driver old.station.end.part.node new.station.end.part.node
   pub all_done : new.finished ≡ Ok true → ((old.finished ≡ Ok true) × (heard.calls ≡ [])) ⊎ EndWithAllDone heard.calls
-  pub rounds : OnOk new.finished (IsOk old.finished × TakesTurns hears old new)
+  pub rounds : IfOk new.finished (λ has. (had : Bool) × (old.finished ≡ Ok had) × TakesTurns hears old new had has)
   pub left : new.left ≤ old.left
   pub ended : HasEnded old → HasEnded new
 

@@ -31,7 +31,8 @@ use std::thread::Threads;
 /// - In each node's log each entry has the operation of the node that its serial names, and no serial stands twice.
 /// - If all have finished, each operation has just one entry.
 /// - Each node is driven in slices, one after another: each slice is rounds of the node's driver with the node's own gate, as
-///   `Driver::go_on` promises. If a node has finished, the last call of its gate was an `all_done` that answered true. Else
+///   `Driver::go_on` promises. The node's events in the schedule are those of these rounds: what it issues and performs, and
+///   whole turns by its policy. If a node has finished, the last call of its gate was an `all_done` that answered true. Else
 ///   it has used up its turns.
 ///
 /// Ahead, a node has up to four operations pending at once, each on another line, and may perform them in another order than
@@ -47,7 +48,6 @@ pub fn run_plan<R: Threads + Sync, G: Gate + Send + Drop>(
     requires gates { length gates.items ≡ extent.nodes }
     requires lists { length plan.operations.now ≡ extent.nodes }
     requires few { All (λ own. length own.items ≤ MAX_OPERATIONS) plan.operations.now }
-    ensures led { IfOk result (λ ran. IsLedTo (size_of extent MAX_OPERATIONS) ran.0) }
     ensures named { IfOk result (λ ran.
         IsOfEachLog IsLogOf extent.nodes (own_of plan.entry.operations.now) (logs_of ran.0)) }
     ensures whole { IfOk result (λ ran. ran.1 ≡ true →
@@ -56,8 +56,9 @@ pub fn run_plan<R: Threads + Sync, G: Gate + Send + Drop>(
         (λ ran. plan.entry.issuing ≡ InOrder → AreInProgramOrder (logs_of ran.0)) }
     ensures front { IfOk result (λ ran. plan.entry.issuing ≡ InOrder →
         IsOfEachLog IsFrontOf extent.nodes (own_of plan.entry.operations.now) (logs_of ran.0)) }
-    ensures rounds { IfOk result (λ ran. AreDrivenThrough G.hears plan.entry.turns
-        plan.entry.issuing (own_of plan.entry.operations.now) gates.items ran.0 ran.1) }
+    ensures rounds { IfOk result (λ ran. (led : IsLedTo (size_of extent MAX_OPERATIONS) ran.0)
+        × AreDrivenThrough G.hears plan.entry.turns plan.entry.issuing
+        (own_of plan.entry.operations.now) gates.items ran.0 led.schedule ran.1) }
 {
     let (fabric, stations) = Fabric::new(alloc, extent, MAX_OPERATIONS)?;
     let turns = plan.turns;
@@ -82,7 +83,6 @@ pub fn run_to_machine<R: Threads + Sync, G: Gate + Send + Drop>(
     turns: u32,
 ) -> Result<(Machine, bool), AllocError>
     requires gates { length gates.items ≡ script.now.nodes }
-    ensures led { IfOk result (λ ran. IsLedTo (size_for script.now) ran.0) }
     ensures named { IfOk result (λ ran. HaveLogsOf script.now (logs_of ran.0)) }
     ensures whole { IfOk result
         (λ ran. ran.1 ≡ true → HaveWholeLogsOf script.now (logs_of ran.0)) }
@@ -90,8 +90,9 @@ pub fn run_to_machine<R: Threads + Sync, G: Gate + Send + Drop>(
         (λ ran. issuing ≡ InOrder → AreInProgramOrder (logs_of ran.0)) }
     ensures front { IfOk result
         (λ ran. issuing ≡ InOrder → HaveFrontLogsOf script.now (logs_of ran.0)) }
-    ensures rounds { IfOk result (λ ran. AreDrivenThrough G.hears turns issuing
-        (λ node. operations_of node script.now.operations) gates.items ran.0 ran.1) }
+    ensures rounds { IfOk result (λ ran. (led : IsLedTo (size_for script.now) ran.0)
+        × AreDrivenThrough G.hears turns issuing
+        (λ node. operations_of node script.now.operations) gates.items ran.0 led.schedule ran.1) }
 {
     let operations = operations_by_node(alloc, script)?;
     let plan = Plan {
@@ -119,7 +120,7 @@ pub fn run_nodes<R: Threads + Sync, G: Gate + Send + Drop>(
     ensures consistent { IfOk result (λ ran. IsSequentiallyConsistent ran.0 ran.1) }
     ensures rounds { IfOk result (λ ran. (led : AreLedTo (size_for script.now) ran.0 ran.1)
         × AreDrivenThrough G.hears turns Ahead (λ node. operations_of node script.now.operations)
-        gates.items led.core ran.2) }
+        gates.items led.core led.led.schedule ran.2) }
 {
     let (machine, finished) = run_to_machine(rt, alloc, script, gates, Issuing::Ahead, turns)?;
     let (logs, last) = machine.finish(alloc);
@@ -146,7 +147,7 @@ pub fn run_in_order<R: Threads + Sync, G: Gate + Send + Drop>(
     ensures lawful { IfOk result (λ ran. Lawful ran.0 ran.1) }
     ensures rounds { IfOk result (λ ran. (led : AreLedTo (size_for script.now) ran.0 ran.1)
         × AreDrivenThrough G.hears turns InOrder (λ node. operations_of node script.now.operations)
-        gates.items led.core ran.2) }
+        gates.items led.core led.led.schedule ran.2) }
 {
     let (machine, finished) = run_to_machine(rt, alloc, script, gates, Issuing::InOrder, turns)?;
     let (logs, last) = machine.finish(alloc);

@@ -81,10 +81,6 @@ made_all count Step Ends start now many made =
 abbrev pub HasPassed : (ℕ → Stage → Stage → Type 0) → List ℕ → List ℕ → Stage → Stage → Type 0
 HasPassed Step others all start now = (end : Stage) → InTurn Step others now end → InTurn Step all start end
 
-pub passed_one : (Step : ℕ → Stage → Stage → Type 0) (from : ℕ) (others all : List ℕ) (start now next : Stage) → HasPassed Step (from ∷ others) all start now
-    → Step from now next → HasPassed Step others all start next
-passed_one Step from others all start now next passed step = λ end rest. passed end (next, step, rest)
-
 -- no answers have come from these nodes
 pub passes_empty : (now end : Stage) (from count others : ℕ)
     → ((other : ℕ) → from ≤ other → other < from + count → lane_to now.post Answers other ≡ [])

@@ -53,9 +53,6 @@ returns-clause-calls g c =
           (λ done. told_once c.args.script.now c.args.issuing c.go_on.new.self start node heard.0 done are),
     )
 
-pub returns-clause-turned : goal.returns-clause-turned
-returns-clause-turned g c = c.go_on.ensures.turned
-
 pub returns-clause-rounds : goal.returns-clause-rounds
 returns-clause-rounds g c =
     let start = g.W.Worker.node c.args.worker.now in
@@ -63,8 +60,10 @@ returns-clause-rounds g c =
     let gate = c.args.gate.now in
     IfOk-weaker c.go_on.result _ _ (λ ran rounds. (
       rounds.0,
+      rounds.1,
       c.go_on.new.self,
-      subst (λ (d : DriverOf). GoRounds g.G.Gate.hears ran.turns rounds.0 gate c.go_on.new.gate d c.go_on.new.self start node)
-          c.new-driver.ensures rounds.1,
+      rounds.2,
+      subst (λ (d : DriverOf). GoRounds g.G.Gate.hears ran.turns ran.finished rounds.0 rounds.1 gate c.go_on.new.gate d c.go_on.new.self start node)
+          c.new-driver.ensures rounds.3,
     ))
     c.go_on.ensures.rounds

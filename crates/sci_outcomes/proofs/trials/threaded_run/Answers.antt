@@ -8,7 +8,7 @@ use Rattle.sci_outcomes.proofs.trials.threaded_run.Goals as goal
 
 pub seen-requires-clause-places : goal.seen-requires-clause-places
 seen-requires-clause-places g c =
-    let lines = c.finish-logs.ensures.lines ∙ ap (λ (z : Size). z.lines) c.in_ok-machine.ensures.led.sized in
+    let lines = c.finish-logs.ensures.lines ∙ ap (λ (z : Size). z.lines) c.in_ok-machine.ensures.rounds.0.sized in
     subst (λ (n : ℕ). All (IsPlaceWithin n) c.args.litmus.places.now) (sym lines) c.requires.within
 
 pub seen-requires-clause-within : goal.seen-requires-clause-within
@@ -22,7 +22,7 @@ returns g c =
     record {
       logs = ended.result.0;
       last = ended.result.1;
-      led = led_by _ _ _ _ ran.ensures.led ended.ensures.logs ended.ensures.last;
+      led = led_by _ _ _ _ ran.ensures.rounds.0 ended.ensures.logs ended.ensures.last;
       whole = subst (HaveWholeLogsOf c.args.litmus.script.now) (sym ended.ensures.logs) (ran.ensures.whole c.if-not-finished.false);
       ordered = λ is. subst AreInProgramOrder (sym ended.ensures.logs) (ran.ensures.ordered is);
       lawful = ended.ensures.lawful;

@@ -1,6 +1,6 @@
 use Rattle.std.proofs.Common.{◌<◌, ℕ}
 use Rattle.std.specs.Prelude.{slice_index_or}
-use Rattle.sci_runs.specs.Players.{IsAnswered}
+use Rattle.sci_drive.specs.Driving.{IsAnswered}
 use Rattle.sci_runs.proofs.player.are_answered.Given as goal
 
 abbrev pub invariant-loop-player : goal.invariant-loop-player

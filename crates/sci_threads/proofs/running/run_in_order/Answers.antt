@@ -13,7 +13,7 @@ returns-clause-whole g c = λ finished.
     subst (HaveWholeLogsOf c.args.script.now) (sym c.finish-logs.ensures.logs) (c.in_ok-machine.ensures.whole finished)
 
 pub returns-clause-led : goal.returns-clause-led
-returns-clause-led g c = led_by _ _ _ _ c.in_ok-machine.ensures.led c.finish-logs.ensures.logs c.finish-logs.ensures.last
+returns-clause-led g c = led_by _ _ _ _ c.in_ok-machine.ensures.rounds.0 c.finish-logs.ensures.logs c.finish-logs.ensures.last
 
 pub returns-clause-ordered : goal.returns-clause-ordered
 returns-clause-ordered g c = subst AreInProgramOrder (sym c.finish-logs.ensures.logs) (c.in_ok-machine.ensures.ordered refl)
@@ -23,5 +23,5 @@ returns-clause-front g c = subst (HaveFrontLogsOf c.args.script.now) (sym c.fini
 
 pub returns-clause-rounds : goal.returns-clause-rounds
 returns-clause-rounds g c =
-    led_and_driven g.G.Gate.hears c.args.turns InOrder c.args.gates.items c.in_ok-machine.machine c.in_ok-machine.finished _ _ _ _ c.in_ok-machine.ensures.led
+    led_and_driven g.G.Gate.hears c.args.turns InOrder c.args.gates.items c.in_ok-machine.machine c.in_ok-machine.finished _ _ _ _
     c.finish-logs.ensures.logs c.finish-logs.ensures.last c.in_ok-machine.ensures.rounds

@@ -3,7 +3,7 @@ use Rattle.std.specs.Prelude.{◌↔◌, IsOk}
 use Rattle.sci_words.specs.declared.{operation.Op.{Op}, limits.TheConstants.{MAX_OPERATIONS}}
 use Rattle.sci_history.specs.{declared.entry.Entry.{Entry}, Sequential.{IsInProgramOrder}}
 use Rattle.sci_core.specs.{Outcome.{logs_of}, Size.{Size, size_of}}
-use Rattle.sci_lanes.specs.{Ends.{EndOf}, Shown.{me_of}, Gathering.{AreAll, AreOf, IsLedTo, IsStateOf}}
+use Rattle.sci_lanes.specs.{Ends.{EndOf}, Shown.{me_of}, Gathering.{AreAll, AreOf, IsStateOf}}
 use Rattle.sci_drive.specs.{Driving.{HasSubmittedNothing}, Script.{IsFrontOf, IsLogOf, IsWholeLogOf}}
 use Rattle.sci_station.specs.{Ends.{IsSameEnd}, Station.{StationOf, end_in, node_in}}
 use Rattle.sci_lanes.proofs.Gathered.{node_log}
@@ -125,9 +125,6 @@ returns-in-Ok-clause-front g c = λ is.
     let d = (goal.at.returns-in-Ok-clause-front g c).In-Ok in
     logs_by g d IsFrontOf (λ k x lt. (has_run g d k x lt).front is)
 
-pub returns-in-Ok-clause-led : goal.returns-in-Ok-clause-led
-returns-in-Ok-clause-led g c = subst (λ (z : Size). IsLedTo z c.in-Ok.machine) c.in_ok-fabric.ensures.size c.in-Ok.ensures.state.led
-
 pub returns-in-Ok-clause-rounds : goal.returns-in-Ok-clause-rounds
 returns-in-Ok-clause-rounds g c =
     let d = (goal.at.returns-in-Ok-clause-rounds g c).In-Ok in
@@ -140,7 +137,9 @@ returns-in-Ok-clause-rounds g c =
     c.in_ok-stations.ensures.finished in
     let unrefused = subst (All (λ (s : Share g.row.G.Denot). IsOk s.finished)) back c.in_ok-stations.ensures.unrefused in
     let state = subst (λ (z : Size). IsStateOf z (map end_in c.in_ok-stations.stations.items) core) c.in_ok-fabric.ensures.size c.in-Ok.ensures.state in
-    let made = subst (λ (xs : List StationOf). IsStateOf size (map end_in xs) core) (stations_are g d) state in
-    all_driven g.G.Gate.hears c.args.plan.issuing (own_of c.args.plan.operations.now) c.args.plan.turns table size c.args.gates.items
-    c.in_ok-shares.shares.items c.run_all.new.shares core c.in_ok-stations.finished (as_many g d) (before.stations ∙ c.in_ok-fabric.ensures.stations)
-    before.gates before.opened (gone g d) c.run_all.ensures.well c.run_all.ensures.ended unrefused finished state.led.sized made
+    let made = subst (λ (xs : List StationOf). IsStateOf size (map end_in xs) core) (stations_are g d) state in (
+      made.led,
+      all_driven g.G.Gate.hears c.args.plan.issuing (own_of c.args.plan.operations.now) c.args.plan.turns table size c.args.gates.items
+          c.in_ok-shares.shares.items c.run_all.new.shares core c.in_ok-stations.finished (as_many g d) (before.stations ∙ c.in_ok-fabric.ensures.stations)
+          before.gates before.opened (gone g d) c.run_all.ensures.well c.run_all.ensures.ended unrefused finished state.led.sized made,
+    )

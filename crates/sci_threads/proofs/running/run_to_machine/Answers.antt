@@ -1,13 +1,14 @@
-use Rattle.std.proofs.Common.{◌≡◌, ◌<◌, ◌≤◌, ℕ, List, All, Vec, Result, Ok, Err, IfOk, length, sym, ap, subst, ◌∙◌}
+use Rattle.std.proofs.Common.{◌≡◌, ◌<◌, ◌≤◌, ℕ, List, All, Vec, length, sym, ap, subst, ◌∙◌}
 use Rattle.std.proofs.lemmas.Result.{IfOk-weaker}
 use Rattle.std.specs.Prelude.{slice_index_or}
 use Rattle.sci_words.specs.declared.{operation.Op.{Op}, limits.TheConstants.{MAX_OPERATIONS}}
 use Rattle.sci_history.specs.declared.entry.Entry.{Entry}
 use Rattle.sci_core.specs.{Outcome.{logs_of}, Size.{Size}}
+use Rattle.sci_lanes.specs.Gathering.{IsLedTo}
 use Rattle.sci_drive.specs.Script.{IsFrontOf, IsLogOf, IsWholeLogOf}
-use Rattle.sci_threads.proofs.{DrivenNodes.{by_script}, RunStations.{led_for, of_script}}
+use Rattle.sci_threads.proofs.{DrivenNodes.{by_script}, RunStations.{of_script, sized_for}}
 use Rattle.sci_threads.proofs.running.run_to_machine.Goals.{After-run_plan}
-use Rattle.sci_threads.specs.Shares.{IsOfEachLog, IsOfEachLogOf, operations_of, own_of}
+use Rattle.sci_threads.specs.{Shares.{IsOfEachLog, IsOfEachLogOf, operations_of, own_of}, Slices.{AreDrivenThrough}}
 use Rattle.sci_threads.proofs.running.run_to_machine.Goals as goal
 
 pub run_plan-requires-clause-gates : goal.run_plan-requires-clause-gates
@@ -36,12 +37,6 @@ by_lists : (g : _) (c : After-run_plan g) (Good : List Op → List Entry → Typ
 by_lists g c Good logs =
     of_script Good c.args.script.now c.deref.result.now logs (many g c) (own g c) c.extent.result.nodes c.extent.ensures.nodes
 
-pub returns-clause-led : goal.returns-clause-led
-returns-clause-led g c =
-    let extent = c.extent.ensures in
-    IfOk-weaker c.run_plan.result _ _ (λ ran. led_for c.extent.result c.args.script.now ran.0 extent.nodes extent.lines extent.slots)
-    c.run_plan.ensures.led
-
 pub returns-clause-named : goal.returns-clause-named
 returns-clause-named g c =
     let d = (goal.at.returns-clause-named g c).After-run_plan in
@@ -60,9 +55,13 @@ returns-clause-front g c =
 pub returns-clause-rounds : goal.returns-clause-rounds
 returns-clause-rounds g c =
     let d = (goal.at.returns-clause-rounds g c).After-run_plan in
-    of_both c.run_plan.result _ _ _ (λ ran led. by_script g.G.Gate.hears c.args.turns c.args.issuing c.args.gates.items ran.0 ran.1 c.args.script.now
-    c.deref.result.now (many g d) (own g d) (ap (λ (z : Size). z.nodes) led.sized ∙ c.extent.ensures.nodes)) c.run_plan.ensures.led c.run_plan.ensures.rounds
-  where
-    of_both : {A E : Type 0} (r : Result A E) (P Q R : A → Type 0) → ((x : A) → P x → Q x → R x) → IfOk r P → IfOk r Q → IfOk r R
-    of_both (Ok x) P Q R both p q = both x p q
-    of_both (Err e) P Q R both p q = tt
+    let extent = c.extent.ensures in
+    let sized = sized_for c.extent.result c.args.script.now extent.nodes extent.lines extent.slots in
+    IfOk-weaker c.run_plan.result _ _ (λ ran rounds.
+    let own_lists = own_of c.deref.result.now in
+    let there = subst (λ (z : Size). (led : IsLedTo z ran.0)
+    × AreDrivenThrough g.G.Gate.hears c.args.turns c.args.issuing own_lists c.args.gates.items ran.0 led.schedule ran.1) sized rounds in (
+      there.0,
+      by_script g.G.Gate.hears c.args.turns c.args.issuing c.args.gates.items ran.0 there.0.schedule ran.1 c.args.script.now c.deref.result.now (many g d)
+          (own g d) (ap (λ (z : Size). z.nodes) there.0.sized) there.1,
+    )) c.run_plan.ensures.rounds

@@ -33,7 +33,7 @@ returns g c =
     (sym c.deref.ensures.value) c.in_ok-operations.ensures.each in
     let nodes = c.extent-extent.ensures.nodes in
     let logs = logs_of ran.machine in
-    let led = led_for c.extent-extent.result script ran.machine nodes c.extent-extent.ensures.lines c.extent-extent.ensures.slots ran.ensures.led in
+    let led = led_for c.extent-extent.result script ran.machine nodes c.extent-extent.ensures.lines c.extent-extent.ensures.slots ran.ensures.rounds.0 in
     let named : HaveLogsOf script logs = of_script IsLogOf script operations logs many own c.extent-extent.result.nodes nodes ran.ensures.named in
     let whole : ran.finished ≡ true → HaveWholeLogsOf script logs =
     λ finished. of_script IsWholeLogOf script operations logs many own c.extent-extent.result.nodes nodes (ran.ensures.whole finished) in

@@ -1,4 +1,5 @@
-use Rattle.std.proofs.Common.{◌≡◌, ◌≤◌}
+use Rattle.std.proofs.Common.{◌≡◌, ◌≤◌, List, false}
+use Rattle.sci_policy.specs.Deeds.{Deed}
 use Rattle.sci_drive.specs.{Driving.{IsDriven, IsInOrder}, Rounds.{GoRounds}}
 use Rattle.sci_drive.proofs.GateRests.{HasGone}
 use Rattle.sci_drive.proofs.driver.Driver.go_on.Given as goal
@@ -9,9 +10,10 @@ invariant-loop-turn g l = record {
   script : l.self.script ≡ l.initial.self.script;
   issuing : l.self.issuing ≡ l.initial.self.issuing;
   stays : g.W.Worker.stays l.initial.worker l.worker;
-  turned : g.W.Worker.turned l.initial.worker l.turn l.worker;
   few : l.restless ≤ 15;
   order : IsInOrder l.initial.self (g.W.Worker.node l.initial.worker) → IsInOrder l.self (g.W.Worker.node l.worker);
   gone : HasGone g.G.Gate.hears l.initial.gate l.gate l.initial.self l.self (g.W.Worker.node l.initial.worker) (g.W.Worker.node l.worker) l.turn l.restless;
-  rounds : GoRounds g.G.Gate.hears l.turn l.restless l.initial.gate l.gate l.initial.self l.self (g.W.Worker.node l.initial.worker) (g.W.Worker.node l.worker);
+  rounds : (deeds : List Deed) × g.W.Worker.does l.initial.worker deeds l.worker
+      × GoRounds g.G.Gate.hears l.turn false l.restless deeds l.initial.gate l.gate l.initial.self l.self (g.W.Worker.node l.initial.worker)
+      (g.W.Worker.node l.worker);
 }

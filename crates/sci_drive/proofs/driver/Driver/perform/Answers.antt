@@ -1,10 +1,10 @@
-use Rattle.std.proofs.Common.{arith, true, false, ◌≡◌, ◌<◌, ℕ, List, [], ◌∷◌, ◌++◌, length, None, refl, sym, ap, subst, ◌∙◌, inl, inr}
-use Rattle.std.proofs.lemmas.{Bool.{cases_lt}, List.{get_or_default, Edits.{get_or-remove_below}}}
+use Rattle.std.proofs.Common.{arith, true, false, ◌≡◌, ◌<◌, ℕ, List, [], ◌∷◌, ◌++◌, length, map, None, refl, sym, ap, subst, ◌∙◌, inl, inr}
+use Rattle.std.proofs.lemmas.{Bool.{cases_lt}, List.{append-nil, get_or_default, map-append, Edits.{get_or-remove_below}}}
 use Rattle.std.specs.{List.{remove}, Prelude.{slice_index_or}}
-use Rattle.sci_history.specs.declared.entry.Entry.{Entry}
 use Rattle.sci_core.specs.{Node.{NodeOf, node_performing}, Work.{IsLogged}}
 use Rattle.sci_drive.specs.{Calls.{Answered, IsHeard}, Driving.{DriverOf, IsDriven, IsInOrder}}
-use Rattle.sci_drive.specs.Rounds.{ArePerformed, IsTried}
+use Rattle.sci_policy.specs.Deeds.{Deed, Performs}
+use Rattle.sci_drive.specs.Rounds.{ArePerformed, IsTried, performed}
 use Rattle.sci_drive.proofs.{GateCalls.{answer_call, heard_nothing, heard_on}, Drives.{grows, left_of, performs}}
 use Rattle.sci_drive.proofs.{InOrder.{performs_in_order}, DriverRounds.{one_more_performed, tried_on}}
 use Rattle.sci_drive.proofs.driver.Driver.perform.Goals as goal
@@ -33,6 +33,9 @@ loop-place-preserved-in-Some g c =
     let awaited = at.invariant.driven.pending line (record { serial = c.in-Some.entry.serial; op = c.in-Some.entry.op }) logged.pending in
     let start = g.W.Worker.node c.args.worker.now in
     let own : IsLogged old new c.in-Some.entry.op.line c.in-Some.entry = subst (λ (l : ℕ). IsLogged old new l c.in-Some.entry) (sym awaited.on) logged in
+    let earlier = at.invariant.performed.0 in
+    let did : g.W.Worker.does at.worker (performed c.in-Some.entry ∷ []) c.perform.new.self =
+    subst (λ (l : ℕ). g.W.Worker.does at.worker (Performs l c.in-Some.entry ∷ []) c.perform.new.self) (sym awaited.on) c.in-Some.ensures.does in
     let tried_then : (k : ℕ) → k < at.place → k < length c.remove.new.self.items → IsTried (slice_index_or c.remove.new.self.items k 0) start new = λ k lt _.
     (let was : IsTried (slice_index_or driver.pending k 0) start old = at.invariant.tried k lt (omega (arith, within)) in
     let same : slice_index_or c.remove.new.self.items k 0 ≡ slice_index_or driver.pending k 0 =
@@ -47,15 +50,17 @@ loop-place-preserved-in-Some g c =
       script = at.invariant.script;
       issuing = at.invariant.issuing;
       stays = g.met.W.Worker.stays_through c.args.worker.now at.worker c.perform.new.self at.invariant.stays c.perform.ensures.stays;
-      turned = g.met.W.Worker.turned_on c.args.worker.now at.worker c.perform.new.self 0 0 at.invariant.turned c.perform.ensures.turned;
       more = λ _. grows (g.W.Worker.node c.args.worker.now).log old.log new.log c.in-Some.entry at.answered at.invariant.more at.invariant.same logged.log;
       same = λ no. absurd (apart no);
       order = λ was. subst (λ (lines : List ℕ). IsInOrder (record driver { pending = lines }) new) (sym c.remove.ensures.items)
           (performs_in_order driver old new at.place line c.in-Some.entry at.invariant.driven logged within here (at.invariant.order was));
       done = λ was. absurd (undone was);
       performed = (
-        at.invariant.performed.0 ++ c.in-Some.entry ∷ [],
-        one_more_performed start old new at.invariant.performed.0 c.in-Some.entry at.invariant.performed.1 own,
+        earlier ++ c.in-Some.entry ∷ [],
+        one_more_performed start old new earlier c.in-Some.entry at.invariant.performed.1 own,
+        subst (λ (deeds : List Deed). g.W.Worker.does c.args.worker.now deeds c.perform.new.self) (sym (map-append performed earlier (c.in-Some.entry ∷ [])))
+            (g.met.W.Worker.does_on c.args.worker.now at.worker c.perform.new.self (map performed earlier) (performed c.in-Some.entry ∷ [])
+            at.invariant.performed.2 did),
       );
       tried = tried_then;
       heard = subst (λ (lines : List ℕ).
@@ -77,12 +82,11 @@ loop-place-init g c =
       script = refl;
       issuing = refl;
       stays = g.met.W.Worker.stays_itself c.args.worker.now;
-      turned = g.met.W.Worker.turned_not c.args.worker.now;
       more = λ no. absurd (apart no);
       same = λ _. refl;
       order = λ was. was;
       done = c.self.invariant.1;
-      performed = ([], refl);
+      performed = ([], refl, g.met.W.Worker.does_nothing c.args.worker.now);
       tried = λ k lt within. absurd (omega arith);
       heard = heard_nothing g.G.Gate.hears g.met.G.Gate.hears_nothing g.met.G.Gate.hears_on c.args.gate.now first first node node refl refl refl;
     }
@@ -104,6 +108,7 @@ loop-place-preserved g c =
     let line : ℕ = slice_index_or c.deref.result.now at.place 0 in
     let cannot : node_performing old line ≡ None = c.perform.ensures.none c.in-None.is in
     let on : line ≡ slice_index_or driver.pending at.place 0 = ap (λ (l : List ℕ). slice_index_or l at.place 0) c.deref.ensures.0 in
+    let earlier = at.invariant.performed.0 in
     let tried_here : IsTried (slice_index_or driver.pending at.place 0) start new = record {
       node = old;
       earlier = at.invariant.performed.0;
@@ -117,12 +122,17 @@ loop-place-preserved g c =
       script = at.invariant.script;
       issuing = at.invariant.issuing;
       stays = g.met.W.Worker.stays_through c.args.worker.now at.worker c.perform.new.self at.invariant.stays c.perform.ensures.stays;
-      turned = g.met.W.Worker.turned_on c.args.worker.now at.worker c.perform.new.self 0 0 at.invariant.turned c.perform.ensures.turned;
       more = subst (λ (n : NodeOf). at.answered ≡ true → length start.log < length n.log) (sym same) at.invariant.more;
       same = λ no. log ∙ at.invariant.same no;
       order = λ was. subst (IsInOrder driver) (sym same) (at.invariant.order was);
       done = at.invariant.done;
-      performed = subst (λ (n : NodeOf). (entries : List Entry) × ArePerformed start entries n) (sym same) at.invariant.performed;
+      performed = (
+        earlier,
+        subst (ArePerformed start earlier) (sym same) at.invariant.performed.1,
+        subst (λ (deeds : List Deed). g.W.Worker.does c.args.worker.now deeds c.perform.new.self) (append-nil (map performed earlier))
+            (g.met.W.Worker.does_on c.args.worker.now at.worker c.perform.new.self (map performed earlier) [] at.invariant.performed.2
+            (c.perform.ensures.idle c.in-None.is)),
+      );
       tried = λ k lt within. elim (cases_lt k at.place) [
         | inl low ↦ subst (IsTried (slice_index_or driver.pending k 0) start) (sym same) (at.invariant.tried k low within)
         | inr high ↦

@@ -1,7 +1,7 @@
-use Rattle.std.proofs.Common.{◌≡◌, ◌<◌, ℕ, List, [], length, ◌-◌, true, false}
+use Rattle.std.proofs.Common.{◌≡◌, ◌<◌, ℕ, List, [], length, map, ◌-◌, true, false}
 use Rattle.std.specs.Prelude.{slice_index_or}
 use Rattle.sci_history.specs.declared.entry.Entry.{Entry}
-use Rattle.sci_drive.specs.{Calls.{IsHeard}, Driving.{DriverOf, IsDriven, IsInOrder}, Rounds.{ArePerformed, IsTried}}
+use Rattle.sci_drive.specs.{Calls.{IsHeard}, Driving.{DriverOf, IsDriven, IsInOrder}, Rounds.{ArePerformed, IsTried, performed}}
 use Rattle.sci_drive.proofs.driver.Driver.perform.Given as goal
 
 abbrev pub invariant-loop-place : goal.invariant-loop-place
@@ -15,12 +15,12 @@ invariant-loop-place g l =
       script : l.self-inside.script ≡ l.initial.self-inside.script;
       issuing : l.self-inside.issuing ≡ l.initial.self-inside.issuing;
       stays : g.W.Worker.stays l.initial.worker l.worker;
-      turned : g.W.Worker.turned l.initial.worker 0 l.worker;
       more : l.answered ≡ true → length (g.W.Worker.node l.initial.worker).log < length (g.W.Worker.node l.worker).log;
       same : l.answered ≡ false → (g.W.Worker.node l.worker).log ≡ (g.W.Worker.node l.initial.worker).log;
       order : IsInOrder first (g.W.Worker.node l.initial.worker) → IsInOrder driver (g.W.Worker.node l.worker);
       done : driver.was_done ≡ true → (driver.next ≡ length driver.script) × (driver.pending ≡ []);
-      performed : (entries : List Entry) × ArePerformed (g.W.Worker.node l.initial.worker) entries (g.W.Worker.node l.worker);
+      performed : (entries : List Entry) × ArePerformed (g.W.Worker.node l.initial.worker) entries (g.W.Worker.node l.worker)
+          × g.W.Worker.does l.initial.worker (map performed entries) l.worker;
       tried : (k : ℕ) → k < l.place → k < length driver.pending
           → IsTried (slice_index_or driver.pending k 0) (g.W.Worker.node l.initial.worker) (g.W.Worker.node l.worker);
       heard : IsHeard g.G.Gate.hears l.initial.gate l.gate first driver (g.W.Worker.node l.initial.worker) (g.W.Worker.node l.worker);

@@ -1,10 +1,11 @@
 -- A round submits, performs and takes a turn, and may tell the gate at its end.
-use Rattle.std.proofs.Common.{rules, subst, sym}
-use Rattle.std.specs.{Prelude.{IfOk, Ok, Result}, declared.alloc.AllocError.{AllocError}}
-use Rattle.sci_policy.specs.Worker.{IsNodeTurn}
-use Rattle.sci_drive.specs.{declared.driver.Round.{Round}, Driving.{DriverOf, IsDriven, IsInOrder}, Rounds.{GoesRound}}
-use Rattle.sci_drive.proofs.{Drives.{left_of, tells, turns}, InOrder.{tells_in_order, turns_in_order}}
-use Rattle.sci_drive.proofs.{DriverRounds.{goes, goes_done}, driver.Driver.round.Goals.{After-turn}}
+use Rattle.std.proofs.Common.{◌≡◌, Bool, true, false, List, [], ◌∷◌, ◌++◌, map, rules, refl, subst, sym, ap, ◌∙◌}
+use Rattle.std.specs.{Prelude.{◌↔◌, IfOk, Ok, Result}, declared.alloc.AllocError.{AllocError}}
+use Rattle.sci_policy.specs.{declared.progress.Progress.{Progress}, Deeds.{Deed, Turns}, Worker.{IsNodeTurn}}
+use Rattle.sci_drive.specs.{declared.driver.Round.{Round}, Calls.{Done, IsHeard}, Driving.{DriverOf, IsAnswered, IsDriven, IsInOrder}}
+use Rattle.sci_drive.specs.Rounds.{GoesRound, performed, turn_of}
+use Rattle.sci_drive.proofs.{Drives.{tells, turns}, GateCalls.{done_call, heard_nothing}, InOrder.{tells_in_order, turns_in_order}}
+use Rattle.sci_drive.proofs.{DriverRounds.{goes}, driver.Driver.round.Goals.{After-turn}}
 use Rattle.sci_drive.proofs.driver.Driver.round.Goals as goal
 
 -- what the turn leaves, and what the round is then
@@ -17,26 +18,47 @@ ordered : (g : _) (c : After-turn g) → IsInOrder c.args.self.now (g.W.Worker.n
 ordered g c was = turns_in_order c.perform-answered.new.self (g.W.Worker.node c.perform-answered.new.worker) (g.W.Worker.node c.turn.new.self)
     c.turn.ensures.work (c.perform-answered.ensures.order (c.submit.ensures.order was))
 
-gone : (g : _) (c : After-turn g) (result : Result Round AllocError)
-    → IfOk result (λ round. IsNodeTurn (g.W.Worker.node c.perform-answered.new.worker) (g.W.Worker.node c.turn.new.self) round.progress)
-    → GoesRound g.G.Gate.hears c.args.gate.now c.perform-answered.new.gate c.args.self.now c.perform-answered.new.self (g.W.Worker.node c.args.worker.now)
-    (g.W.Worker.node c.turn.new.self) result
-gone g c result turn =
-    goes g.G.Gate.hears g.met.G.Gate.hears_nothing g.met.G.Gate.hears_on c.args.gate.now c.submit.new.gate c.perform-answered.new.gate c.args.self.now
-    c.submit.new.self c.perform-answered.new.self (g.W.Worker.node c.args.worker.now) (g.W.Worker.node c.submit.new.worker)
-    (g.W.Worker.node c.perform-answered.new.worker) (g.W.Worker.node c.turn.new.self) result c.submit.ensures.submits c.perform-answered.ensures.calls
-    c.perform-answered.ensures.performed c.perform-answered.ensures.tried c.turn.ensures.work turn
+-- the deeds before the turn
+abbrev before : (g : _) (c : After-turn g) → List Deed
+before g c = c.submit.ensures.submits.1 ++ map performed c.perform-answered.ensures.performed.0
 
-turned : (g : _) (c : After-turn g) → g.W.Worker.turned c.perform-answered.new.worker 1 c.turn.new.self → g.W.Worker.turned c.args.worker.now 1 c.turn.new.self
-turned g c one = g.met.W.Worker.turned_on c.args.worker.now c.perform-answered.new.worker c.turn.new.self 0 1
-    (g.met.W.Worker.turned_on c.args.worker.now c.submit.new.worker c.perform-answered.new.worker 0 0 c.submit.ensures.turned
-    c.perform-answered.ensures.turned) one
+gone : (g : _) (c : After-turn g) (later : g.row.G.Denot) (done : Bool) (result : Result Round AllocError)
+    → IfOk result (λ round. IsNodeTurn (g.W.Worker.node c.perform-answered.new.worker) (g.W.Worker.node c.turn.new.self) round.progress)
+    → IsHeard g.G.Gate.hears c.perform-answered.new.gate later c.perform-answered.new.self (record c.perform-answered.new.self { was_done = done })
+    (g.W.Worker.node c.perform-answered.new.worker) (g.W.Worker.node c.turn.new.self)
+    → IfOk result (λ round. (done ≡ true) ↔ IsAnswered c.perform-answered.new.self)
+    → GoesRound g.G.Gate.hears (before g c ++ turn_of result) c.args.gate.now later c.args.self.now (record c.perform-answered.new.self { was_done = done })
+    (g.W.Worker.node c.args.worker.now) (g.W.Worker.node c.turn.new.self) result
+gone g c later done result turn telling answered =
+    goes g.G.Gate.hears g.met.G.Gate.hears_nothing g.met.G.Gate.hears_on c.args.gate.now c.submit.new.gate c.perform-answered.new.gate later c.args.self.now
+    c.submit.new.self c.perform-answered.new.self (record c.perform-answered.new.self { was_done = done }) (g.W.Worker.node c.args.worker.now)
+    (g.W.Worker.node c.submit.new.worker) (g.W.Worker.node c.perform-answered.new.worker) (g.W.Worker.node c.turn.new.self) result
+    c.submit.ensures.submits.1 c.perform-answered.ensures.performed.0 c.submit.ensures.submits.0 c.submit.ensures.submits.2
+    c.perform-answered.ensures.calls c.perform-answered.ensures.performed.1 c.perform-answered.ensures.tried c.turn.ensures.work turn telling answered
+
+-- and the worker has done them, and a turn
+did : (g : _) (c : After-turn g) (progress : Progress) → g.W.Worker.does c.perform-answered.new.worker (Turns progress ∷ []) c.turn.new.self
+    → g.W.Worker.does c.args.worker.now (before g c ++ Turns progress ∷ []) c.turn.new.self
+did g c progress turn = g.met.W.Worker.does_on c.args.worker.now c.perform-answered.new.worker c.turn.new.self (before g c) (Turns progress ∷ [])
+    (g.met.W.Worker.does_on c.args.worker.now c.submit.new.worker c.perform-answered.new.worker c.submit.ensures.submits.1
+    (map performed c.perform-answered.ensures.performed.0) c.submit.ensures.submits.3 c.perform-answered.ensures.performed.2) turn
+
+-- the gate isn't told anything behind the turn
+quiet : (g : _) (c : After-turn g) → IsHeard g.G.Gate.hears c.perform-answered.new.gate c.perform-answered.new.gate c.perform-answered.new.self
+    c.perform-answered.new.self (g.W.Worker.node c.perform-answered.new.worker) (g.W.Worker.node c.turn.new.self)
+quiet g c = heard_nothing g.G.Gate.hears g.met.G.Gate.hears_nothing g.met.G.Gate.hears_on c.perform-answered.new.gate c.perform-answered.new.self
+    c.perform-answered.new.self (g.W.Worker.node c.perform-answered.new.worker) (g.W.Worker.node c.turn.new.self) refl refl c.turn.ensures.work.log
 
 pub returns-in_err-progress-clause-driven : goal.returns-in_err-progress-clause-driven
 returns-in_err-progress-clause-driven g c = driven g (goal.at.returns-in_err-progress-clause-driven g c).After-turn
 
 pub returns-in_err-progress-clause-goes : goal.returns-in_err-progress-clause-goes
-returns-in_err-progress-clause-goes g c = gone g (goal.at.returns-in_err-progress-clause-goes g c).After-turn _ (search rules)
+returns-in_err-progress-clause-goes g c =
+    let at = (goal.at.returns-in_err-progress-clause-goes g c).After-turn in (
+      before g at ++ turn_of c.from_residual.result,
+      gone g at at.perform-answered.new.gate at.perform-answered.new.self.was_done c.from_residual.result (search rules) (quiet g at) (search rules),
+      search rules,
+    )
 
 pub returns-then-not-self-clause-driven : goal.returns-then-not-self-clause-driven
 returns-then-not-self-clause-driven g c =
@@ -51,18 +73,25 @@ returns-then-not-self-clause-order g c = λ was.
 
 pub returns-then-not-self-clause-goes : goal.returns-then-not-self-clause-goes
 returns-then-not-self-clause-goes g c =
-    let driver : DriverOf = left_of c.self.view_is in
+    let at = (goal.at.returns-then-not-self-clause-goes g c).After-turn in
     let start = g.W.Worker.node c.args.worker.now in
     let node = g.W.Worker.node c.turn.new.self in
+    let was : DriverOf = c.perform-answered.new.self in
+    let not_yet : was.was_done ≡ false = sym (ap (λ (d : DriverOf). d.was_done) c.self.view_is) ∙ c.if-not-self.true in
     let result : Result Round AllocError = Ok (record { answered = c.perform-answered.result; progress = c.in_ok-progress.progress }) in
-    let here : GoesRound g.G.Gate.hears c.args.gate.now c.perform-answered.new.gate c.args.self.now driver start node result =
-    subst (λ (d : DriverOf). GoesRound g.G.Gate.hears c.args.gate.now c.perform-answered.new.gate c.args.self.now d start node result) (sym c.self.view_is)
-    (gone g (goal.at.returns-then-not-self-clause-goes g c).After-turn result c.in_ok-progress.ensures.turn) in
-    goes_done g.G.Gate.hears g.met.G.Gate.hears_nothing g.met.G.Gate.hears_on c.args.gate.now c.perform-answered.new.gate c.done.new.self c.args.self.now driver
-    start node result here c.done.ensures c.if-not-self.true
-
-pub returns-then-not-self-clause-turned : goal.returns-then-not-self-clause-turned
-returns-then-not-self-clause-turned g c = turned g (goal.at.returns-then-not-self-clause-turned g c).After-turn c.in_ok-progress.ensures.turned
+    let deeds = before g at ++ turn_of result in
+    let telling : IsHeard g.G.Gate.hears c.perform-answered.new.gate c.done.new.self was (record was { was_done = true })
+    (g.W.Worker.node c.perform-answered.new.worker) node = record {
+      calls = Done ∷ [];
+      heard = c.done.ensures;
+      are = done_call was (record was { was_done = true }) (g.W.Worker.node c.perform-answered.new.worker) node refl not_yet refl c.turn.ensures.work.log;
+    } in (
+      deeds,
+      subst (λ (d : DriverOf). GoesRound g.G.Gate.hears deeds c.args.gate.now c.done.new.self c.args.self.now (record d { was_done = true }) start node result)
+          (sym c.self.view_is)
+          (gone g at c.done.new.self true result c.in_ok-progress.ensures.turn telling (λ _. c.is_answered.ensures.0 cc, λ _. refl)),
+      did g at c.in_ok-progress.progress c.in_ok-progress.ensures.does,
+    )
 
 pub returns-else-is_answered-clause-driven : goal.returns-else-is_answered-clause-driven
 returns-else-is_answered-clause-driven g c = driven g (goal.at.returns-else-is_answered-clause-driven g c).After-turn
@@ -71,7 +100,9 @@ pub returns-else-is_answered-clause-order : goal.returns-else-is_answered-clause
 returns-else-is_answered-clause-order g c = ordered g (goal.at.returns-else-is_answered-clause-order g c).After-turn
 
 pub returns-else-is_answered-clause-goes : goal.returns-else-is_answered-clause-goes
-returns-else-is_answered-clause-goes g c = gone g (goal.at.returns-else-is_answered-clause-goes g c).After-turn _ c.in_ok-progress.ensures.turn
-
-pub returns-else-is_answered-clause-turned : goal.returns-else-is_answered-clause-turned
-returns-else-is_answered-clause-turned g c = turned g (goal.at.returns-else-is_answered-clause-turned g c).After-turn c.in_ok-progress.ensures.turned
+returns-else-is_answered-clause-goes g c =
+    let at = (goal.at.returns-else-is_answered-clause-goes g c).After-turn in (
+      before g at ++ Turns c.in_ok-progress.progress ∷ [],
+      gone g at at.perform-answered.new.gate at.perform-answered.new.self.was_done _ c.in_ok-progress.ensures.turn (quiet g at) (search rules),
+      did g at c.in_ok-progress.progress c.in_ok-progress.ensures.does,
+    )

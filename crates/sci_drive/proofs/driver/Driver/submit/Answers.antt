@@ -5,7 +5,7 @@ use Rattle.std.specs.Prelude.{nat_eq, nat_lt, slice_get, Result, Ok, Err, IfErr,
 use Rattle.std.specs.List.{Contains, list_any}
 use Rattle.sci_words.specs.declared.operation.Op.{Op}
 use Rattle.sci_core.specs.Work.{IsIssued}
-use Rattle.sci_policy.specs.Turn.{submit_fault}
+use Rattle.sci_policy.specs.{Deeds.{Issues}, Turn.{submit_fault}}
 use Rattle.sci_drive.specs.{Calls.{MayIssue}, Driving.{DriverOf, IsDriven}}
 use Rattle.sci_drive.specs.Rounds.{AllSubmitted, LineIsTaken, NoRoom, NotAllowed, Refused, most_pending, next_op}
 use Rattle.sci_drive.proofs.{Drives.{left_of, submits}, DriverRounds.{asks, holds_back, submits_one}}
@@ -47,14 +47,16 @@ past script next not = slice_get_past script next (ltb-false next (length script
 pub returns-then-not-has_room-clause-submits : goal.returns-then-not-has_room-clause-submits
 returns-then-not-has_room-clause-submits g c =
     let self = c.args.self.now in
-    holds_back g.G.Gate.hears g.met.G.Gate.hears_nothing c.args.gate.now self (g.W.Worker.node c.args.worker.now)
-    (NoRoom (not_below (length self.pending) (most_pending self.issuing) c.has_room.result c.has_room.ensures.1 c.if-not-has_room.true))
+    let made = holds_back g.G.Gate.hears g.met.G.Gate.hears_nothing c.args.gate.now self (g.W.Worker.node c.args.worker.now)
+    (NoRoom (not_below (length self.pending) (most_pending self.issuing) c.has_room.result c.has_room.ensures.1 c.if-not-has_room.true)) in
+    (made.0, [], made.1, g.met.W.Worker.does_nothing c.args.worker.now)
 
 pub returns-in_default-clause-submits : goal.returns-in_default-clause-submits
 returns-in_default-clause-submits g c =
     let driver : DriverOf = left_of c.self.view_is in
-    rw (← c.self.view_is) (holds_back g.G.Gate.hears g.met.G.Gate.hears_nothing c.args.gate.now driver (g.W.Worker.node c.args.worker.now)
-    (AllSubmitted (past driver.script driver.next c.in_default.ensures.lookup.0)))
+    let made = holds_back g.G.Gate.hears g.met.G.Gate.hears_nothing c.args.gate.now driver (g.W.Worker.node c.args.worker.now)
+    (AllSubmitted (past driver.script driver.next c.in_default.ensures.lookup.0)) in
+    rw (← c.self.view_is) (made.0, [], made.1, g.met.W.Worker.does_nothing c.args.worker.now)
 
 pub returns-then-contains-clause-submits : goal.returns-then-contains-clause-submits
 returns-then-contains-clause-submits g c =
@@ -63,8 +65,8 @@ returns-then-contains-clause-submits g c =
     let at = next_is g (goal.at.returns-then-contains-clause-submits g c).In-Some in
     let taken : Contains c.deref.result.now op.line = is_contained op.line c.deref.result.now (sym c.contains.ensures.value ∙ c.if-contains.true) in
     let there : Contains driver.pending op.line = subst (λ (lines : List ℕ). Contains lines op.line) c.deref.ensures.0 taken in
-    rw (← c.self.view_is) (holds_back g.G.Gate.hears g.met.G.Gate.hears_nothing c.args.gate.now driver (g.W.Worker.node c.args.worker.now)
-    (LineIsTaken op at there))
+    let made = holds_back g.G.Gate.hears g.met.G.Gate.hears_nothing c.args.gate.now driver (g.W.Worker.node c.args.worker.now) (LineIsTaken op at there) in
+    rw (← c.self.view_is) (made.0, [], made.1, g.met.W.Worker.does_nothing c.args.worker.now)
 
 pub returns-then-not-may_issue-clause-submits : goal.returns-then-not-may_issue-clause-submits
 returns-then-not-may_issue-clause-submits g c =
@@ -73,8 +75,8 @@ returns-then-not-may_issue-clause-submits g c =
     let hears = g.G.Gate.hears in
     let gate = c.args.gate.now in
     let asked : hears gate (MayIssue driver.next false ∷ []) c.may_issue.new.self = rw (← c.if-not-may_issue.true) c.may_issue.ensures in
-    rw (← c.self.view_is)
-    (asks hears g.met.G.Gate.hears_nothing gate c.may_issue.new.self false driver node node asked refl (NotAllowed (0, omega arith, refl)))
+    let made = asks hears g.met.G.Gate.hears_nothing gate c.may_issue.new.self false driver node node asked refl (NotAllowed (0, omega arith, refl)) in
+    rw (← c.self.view_is) (made.0, [], made.1, g.met.W.Worker.does_nothing c.args.worker.now)
 
 pub returns-in-Ok-clause-submits : goal.returns-in-Ok-clause-submits
 returns-in-Ok-clause-submits g c =
@@ -84,7 +86,7 @@ returns-in-Ok-clause-submits g c =
     let at = next_is g (goal.at.returns-in-Ok-clause-submits g c).In-Some in
     let made = submits_one hears g.met.G.Gate.hears_nothing c.args.gate.now c.may_issue.new.self driver (g.W.Worker.node c.args.worker.now)
     (g.W.Worker.node c.submit.new.self) c.in-Some.op.now asked at c.in-Ok.ensures.issued in
-    rw (← c.self.view_is, c.push.ensures.items) made
+    rw (← c.self.view_is, c.push.ensures.items) (made.0, Issues c.in-Some.op.now ∷ [], made.1, c.in-Ok.ensures.does)
 
 not_ok : {A E : Type 0} (r : Result A E) → ((x : A) → r ≡ Ok x → ⊥) → IsErr r
 not_ok (Ok x) isnt = absurd (isnt x refl)
@@ -103,5 +105,6 @@ returns-in_default-submit-clause-submits g c =
     let at = next_is g (goal.at.returns-in_default-submit-clause-submits g c).In-Some in
     let err = not_ok c.submit.result c.in_default-submit.not-Ok in
     let fault : IsSome (submit_fault old c.in-Some.op.now) = has_fault c.submit.result (submit_fault old c.in-Some.op.now) err c.submit.ensures.fault in
-    rw (← c.self.view_is) (asks g.G.Gate.hears g.met.G.Gate.hears_nothing c.args.gate.now c.may_issue.new.self c.may_issue.result driver old
-    (g.W.Worker.node c.submit.new.self) c.may_issue.ensures (c.submit.ensures.same err) (Refused c.in-Some.op.now at fault))
+    let made = asks g.G.Gate.hears g.met.G.Gate.hears_nothing c.args.gate.now c.may_issue.new.self c.may_issue.result driver old
+    (g.W.Worker.node c.submit.new.self) c.may_issue.ensures (c.submit.ensures.same err) (Refused c.in-Some.op.now at fault) in
+    rw (← c.self.view_is) (made.0, [], made.1, c.submit.ensures.idle err)

@@ -1,26 +1,29 @@
 use Rattle.std.proofs.Common.{refl}
-use Rattle.sci_words.specs.declared.event.Event.TheVariants.{Perform}
-use Rattle.sci_runs.specs.Goings.{lost_by}
-use Rattle.sci_runs.proofs.Playing.{goes_working, takes_perform}
+use Rattle.sci_runs.proofs.Playing.{does_performing, goes_working, idles, performed}
 use Rattle.sci_runs.proofs.seat.SeatWorker.perform.Goals as goal
 
-pub returns-clause-turned : goal.returns-clause-turned
-returns-clause-turned c =
-    let told = c.perform.ensures in (
-      refl,
-      λ none. (
-        lost_by _ _ told.keeps none,
-        takes_perform c.perform.result _ _ _ _ (Perform c.args.self.now.node c.args.line) refl told.event told.recorded told.same none,
-      ),
-    )
+pub returns-clause-does : goal.returns-clause-does
+returns-clause-does c =
+    let seat = c.args.self.now in
+    let told = c.perform.ensures in
+    performed c.perform.result seat.node c.args.line seat.policy.now seat.recorder.now c.perform.new.self told.keeps told.event told.recorded
+
+pub returns-clause-idle : goal.returns-clause-idle
+returns-clause-idle c = λ none.
+    let seat = c.args.self.now in
+    idles seat.node seat.policy.now seat.recorder.now c.perform.new.self (c.perform.ensures.same none)
 
 pub returns-clause-stays : goal.returns-clause-stays
 returns-clause-stays c =
+    let seat = c.args.self.now in
+    let old = seat.recorder.now in
+    let new = c.perform.new.self in
     let told = c.perform.ensures in (
       refl,
       refl,
       refl,
       told.spares,
-      goes_working _ _ _ _ told.keeps told.stands
-          (takes_perform c.perform.result _ _ _ _ (Perform c.args.self.now.node c.args.line) refl told.event told.recorded told.same),
+      goes_working seat.node seat.policy.now old new told.keeps told.stands
+          (does_performing c.perform.result seat.node c.args.line seat.policy.now old new
+          (performed c.perform.result seat.node c.args.line seat.policy.now old new told.keeps told.event told.recorded) told.same),
     )

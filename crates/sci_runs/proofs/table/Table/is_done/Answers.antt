@@ -1,5 +1,6 @@
 use Rattle.std.proofs.{Common.{All, subst}, lemmas.List.Elements.{All-map}}
-use Rattle.sci_runs.specs.{declared.player.Player.{Player}, Players.{IsAnswered, TableOf}}
+use Rattle.sci_runs.specs.{declared.player.Player.{Player}, Players.{TableOf}}
+use Rattle.sci_drive.specs.Driving.{IsAnswered}
 use Rattle.sci_runs.proofs.table.Table.is_done.Goals as goal
 
 pub returns : goal.returns

@@ -1,6 +1,4 @@
-use Rattle.std.proofs.Common.{subst}
-use Rattle.sci_core.specs.Core.{node_at}
-use Rattle.sci_runs.specs.{declared.player.Player.{Player}, Played.{GoesOpenly}}
+use Rattle.sci_runs.specs.declared.player.Player.{Player}
 use Rattle.sci_runs.proofs.WorkingNodes.{player_at, round_is, round_on}
 use Rattle.sci_runs.proofs.table.Table.round.Goals as goal
 
@@ -43,5 +41,4 @@ returns-clause-round c =
     round_is (λ (player : Player). player.driver) (λ (player : Player). player.policy) c.self.inside.script.now c.self.inside.issuing
     c.self.inside.recorder c.self.inside.players.items c.args.self.now c.args.node c.from.result c.index_mut.result.now c.self.view_is c.self.invariant
     c.requires c.from.ensures c.index_mut.ensures.value c.round-round.new.self c.round-round.new.recorder c.in_ok-_round._round
-    (subst (GoesOpenly c.index_mut.result.now.driver c.round-round.new.self.driver (node_at c.self.inside.recorder.core c.args.node)
-    (node_at c.round-round.new.recorder.core c.args.node)) c.in_ok-_round.was c.round-round.ensures.goes) (c.in_ok-_round.ensures.takes cc)
+    c.in_ok-_round.ensures.goes.0 c.in_ok-_round.ensures.goes.1 (c.in_ok-_round.ensures.goes.2 cc)

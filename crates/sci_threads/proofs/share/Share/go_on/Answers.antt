@@ -11,8 +11,9 @@ returns-in-Ok-clause-gone g c =
     let few = c.min-turns.ensures in
     let turns = went.turns in
     went_on g.G.Gate.hears c.args.self.now c.go_on.new.worker c.go_on.new.self c.go_on.new.gate c.in-Ok.ran.turns
-    went.rounds.0 _ c.in-Ok.ran.finished went.stays went.script went.order (record { calls = went.calls.0; heard = went.calls.1; are = went.calls.2 })
-    went.calls.3.0 went.rounds.1 (omega arith) (λ ended. let is = c.if-has_ended.ensures.1 ended in absurd cc)
+    went.rounds.0 _ c.in-Ok.ran.finished went.rounds.1 went.stays went.script went.order
+    (record { calls = went.calls.0; heard = went.calls.1; are = went.calls.2 }) went.calls.3.0 went.rounds.2 went.rounds.3 (omega arith)
+    (λ ended. let is = c.if-has_ended.ensures.1 ended in absurd cc)
 
 pub returns-in-Err-clause-gone : goal.returns-in-Err-clause-gone
 returns-in-Err-clause-gone g c =
