@@ -91,6 +91,11 @@ pub record GoesRound {G E : Type 0} (hears : G → List Call → G → Type 0) (
   pub turn : IfOk result (λ round. IsNodeTurn node after round.progress)
   pub done : IfOk result (λ round. (new.was_done ≡ true) ↔ IsAnswered new)
 
+-- the worker has done these deeds of a round, and if its turn was refused, that has stopped it behind them
+abbrev pub HasDone : {W E : Type 0} → (W → List Deed → W → Type 0) → (W → W → Type 0) → List Deed → W → W → Result Round E → Type 0
+HasDone does stopped deeds old new (Ok round) = does old deeds new
+HasDone does stopped deeds old new (Err refused) = (turning : _) × does old deeds turning × stopped turning new
+
 -- ---- many rounds
 
 -- This many rounds by these deeds, one after another, with the gate's calls behind each, whether the driver has finished with

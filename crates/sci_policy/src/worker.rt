@@ -21,6 +21,9 @@ pub trait Worker {
     // Whether these deeds, one after another, lead the worker from one state to another.
     ghost does: { Self → List Deed → Self → Type 0 };
 
+    // What a turn that was refused has done to the worker.
+    ghost stopped: { Self → Self → Type 0 };
+
     /// Submits an operation, and gives its serial. Refused, unchanged, with the first of `SubmitFault`'s causes that
     /// holds.
     fn submit(&mut self, op: Op) -> Result<u32, SubmitFault>
@@ -52,6 +55,7 @@ pub trait Worker {
         ensures rest { IfOk result (λ progress. is_idle progress ≡ true → MayIdle (node self.new)) }
         ensures work { HasSameWork (node self.old) (node self.new) }
         ensures does { IfOk result (λ progress. does self.old (Turns progress ∷ []) self.new) }
+        ensures stopped { IsErr result → stopped self.old self.new }
         ensures stays { stays self.old self.new };
 
     ghost stays_itself: { (x : Self) → stays x x };

@@ -1,5 +1,5 @@
 -- What a node does, one deed after another, and rounds, one after another.
-use Rattle.std.proofs.Common.{◌≡◌, ◌⊎◌, ℕ, List, [], ◌∷◌, ◌++◌, Option, Some, None, Result, Ok, Err, IfOk, length, ◌≤◌, inl, inr, refl, sym, ap, subst}
+use Rattle.std.proofs.Common.{◌≡◌, ◌⊎◌, ℕ, List, [], ◌∷◌, ◌++◌, Option, Some, None, Result, Ok, Err, IfOk, length, ◌≤◌, inl, inr, refl, sym, subst, ◌∙◌}
 use Rattle.std.specs.{Prelude.{IfSome, IsErr}, declared.alloc.AllocError.{AllocError}}
 use Rattle.sci_words.specs.declared.{limits.TheConstants.{MAX_EVENTS}, operation.Op.{Op}}
 use Rattle.sci_history.specs.declared.entry.Entry.{Entry}
@@ -8,112 +8,121 @@ use Rattle.sci_core.specs.{Core.{stepping}, Node.{NodeOf}}
 use Rattle.sci_policy.specs.{declared.progress.Progress.{Progress}, Deeds.{Deed, Issues, Performs, Turns}, Policy.{PolicyOf}}
 use Rattle.sci_policy.proofs.Deeds.{one_deed}
 use Rattle.sci_drive.specs.{Calls.{AllowAll, Call}, declared.driver.Round.{Round}, Driving.{DriverOf}}
-use Rattle.sci_drive.specs.Rounds.{GoesRound}
+use Rattle.sci_drive.specs.Rounds.{GoesRound, HasDone}
 use Rattle.sci_runs.specs.{declared.fault.RunFault.{RunFault, TheVariants.{TooMany}}, Played.{GoesOpenly}}
-use Rattle.sci_runs.specs.{Deeds.{Does, Fills, IsDeed, IsTurnDone, IsTurnSoFar, standing}, Goings.{Goes, lost_by}}
-use Rattle.sci_runs.specs.Recorded.{Course, KeepsLoss, RecorderOf, course_of}
+use Rattle.sci_runs.specs.{Deeds.{Does, Fills, FillsTurning, IsDeed, IsTurnDone, standing}, Goings.{Goes, GoesAt, Place, Stops, StopsAt, goes_itself, place}}
+use Rattle.sci_runs.specs.Recorded.{KeepsLoss, RecorderOf, course_of}
 use Rattle.sci_words.specs.declared.event.Event.TheVariants as event
 
 -- ---- deeds
-
--- what is known of a recorder that has lost no event
-abbrev pub DoesUnlost : ℕ → List Deed → PolicyOf → RecorderOf → PolicyOf → RecorderOf → Type 0
-DoesUnlost n deeds p x q y = y.lost ≡ None → (x.lost ≡ None) × Does n deeds p (course_of x) q (course_of y)
 
 -- an event that was lost stays lost
 abbrev StaysLost : RecorderOf → RecorderOf → Type 0
 StaysLost x y = (fault : RunFault) → x.lost ≡ Some fault → y.lost ≡ Some fault
 
+-- what either does to a recorder that is issued or performed
+goes_working : (n : ℕ) (deeds : List Deed) (p : PolicyOf) (x y : RecorderOf) → StaysLost x y
+    → ((fault : RunFault) → y.lost ≡ Some fault → y.schedule ≡ x.schedule) → (y.lost ≡ None → Does n deeds p (course_of x) p (course_of y))
+    → Goes n deeds p x p y
+goes_working n deeds p x y keeps stands does = record {
+  keeps = λ fault is. (keeps fault is, stands fault (keeps fault is));
+  does = does;
+  fills = λ none many full. record {
+    first = [];
+    rest = deeds;
+    are = refl;
+    policy = p;
+    full = course_of x;
+    does = refl;
+    many = subst (λ (s : ScheduleValue). MAX_EVENTS ≤ length s.events) (stands TooMany many) full;
+  };
+}
+
 -- an operation that was issued
 pub issued : {T E : Type 0} (result : Result T E) (n : ℕ) (op : Op) (p : PolicyOf) (x y : RecorderOf) → StaysLost x y
-    → IfOk result (λ _. stepping x.core (event.Issue n op) ≡ Some y.core)
+    → ((fault : RunFault) → y.lost ≡ Some fault → y.schedule ≡ x.schedule) → IfOk result (λ _. stepping x.core (event.Issue n op) ≡ Some y.core)
     → IfOk result (λ _. y.lost ≡ None → y.schedule.events ≡ x.schedule.events ++ event.Issue n op ∷ [])
-    → IfOk result (λ _. (n ≡ n) × DoesUnlost n (Issues op ∷ []) p x p y)
-issued (Ok serial) n op p x y keeps steps more = (
+    → IfOk result (λ _. (n ≡ n) × Goes n (Issues op ∷ []) p x p y)
+issued (Ok serial) n op p x y keeps stands steps more = (
   refl,
-  λ none. (
-    lost_by x.lost y.lost keeps none,
-    one_deed (IsDeed n) (Issues op) (standing p (course_of x)) (standing p (course_of y)) (record { stepped = steps; more = more none; policy = refl }),
-  ),
+  goes_working n (Issues op ∷ []) p x y keeps stands (λ none.
+      one_deed (IsDeed n) (Issues op) (standing p (course_of x)) (standing p (course_of y)) (record { stepped = steps; more = more none; policy = refl })),
 )
-issued (Err fault) n op p x y keeps steps more = tt
+issued (Err fault) n op p x y keeps stands steps more = tt
 
 -- one that was performed
 pub performed : (result : Option Entry) (n line : ℕ) (p : PolicyOf) (x y : RecorderOf) → StaysLost x y
-    → IfSome result (λ _. stepping x.core (event.Perform n line) ≡ Some y.core)
+    → ((fault : RunFault) → y.lost ≡ Some fault → y.schedule ≡ x.schedule) → IfSome result (λ _. stepping x.core (event.Perform n line) ≡ Some y.core)
     → IfSome result (λ _. y.lost ≡ None → y.schedule.events ≡ x.schedule.events ++ event.Perform n line ∷ [])
-    → IfSome result (λ entry. (n ≡ n) × DoesUnlost n (Performs line entry ∷ []) p x p y)
-performed (Some entry) n line p x y keeps steps more = (
+    → IfSome result (λ entry. (n ≡ n) × Goes n (Performs line entry ∷ []) p x p y)
+performed (Some entry) n line p x y keeps stands steps more = (
   refl,
-  λ none. (
-    lost_by x.lost y.lost keeps none,
-    one_deed (IsDeed n) (Performs line entry) (standing p (course_of x)) (standing p (course_of y))
-        (record { stepped = steps; more = more none; policy = refl }),
-  ),
+  goes_working n (Performs line entry ∷ []) p x y keeps stands (λ none.
+      one_deed (IsDeed n) (Performs line entry) (standing p (course_of x)) (standing p (course_of y))
+      (record { stepped = steps; more = more none; policy = refl })),
 )
-performed None n line p x y keeps steps more = tt
+performed None n line p x y keeps stands steps more = tt
 
 -- and none
-pub idles : (n : ℕ) (p : PolicyOf) (x y : RecorderOf) → y ≡ x → (n ≡ n) × DoesUnlost n [] p x p y
-idles n p x y same = (
-  refl,
-  λ none. (subst (λ (r : RecorderOf). r.lost ≡ None) same none, ap (λ (r : RecorderOf). standing p (course_of r)) (sym same)),
-)
-
--- either way, some deeds
-pub does_issuing : {T E : Type 0} (result : Result T E) (n : ℕ) (deeds : List Deed) (p : PolicyOf) (x y : RecorderOf)
-    → IfOk result (λ _. (n ≡ n) × DoesUnlost n deeds p x p y) → (IsErr result → y ≡ x) → y.lost ≡ None
-    → (done : List Deed) × Does n done p (course_of x) p (course_of y)
-does_issuing (Ok serial) n deeds p x y did same none = (deeds, (did.1 none).1)
-does_issuing (Err fault) n deeds p x y did same none = ([], ((idles n p x y (same refl)).1 none).1)
-
-pub does_performing : (result : Option Entry) (n line : ℕ) (p : PolicyOf) (x y : RecorderOf)
-    → IfSome result (λ entry. (n ≡ n) × DoesUnlost n (Performs line entry ∷ []) p x p y) → (result ≡ None → y ≡ x) → y.lost ≡ None
-    → (done : List Deed) × Does n done p (course_of x) p (course_of y)
-does_performing (Some entry) n line p x y did same none = (Performs line entry ∷ [], (did.1 none).1)
-does_performing None n line p x y did same none = ([], ((idles n p x y (same refl)).1 none).1)
-
--- a node that has filled the schedule, with nothing done before the last deed
-fills_by : (n : ℕ) (p q : PolicyOf) (x y : Course) → (x ≡ y) ⊎ ((progress : Progress) × IsTurnSoFar n p x q y progress) → MAX_EVENTS ≤ length y.events
-    → Fills n p x
-fills_by n p q x y rest many =
-    record { deeds = []; policy = p; mid = x; does = refl; after = q; full = y; rest = rest; many = many }
-
--- what either does to a recorder
-pub goes_working : (n : ℕ) (p : PolicyOf) (x y : RecorderOf) → ((fault : RunFault) → x.lost ≡ Some fault → y.lost ≡ Some fault)
-    → ((fault : RunFault) → y.lost ≡ Some fault → y.schedule ≡ x.schedule)
-    → (y.lost ≡ None → (deeds : List Deed) × Does n deeds p (course_of x) p (course_of y)) → Goes n p x p y
-goes_working n p x y keeps stands does = record {
-  keeps = λ fault is. (keeps fault is, stands fault (keeps fault is));
-  does = does;
-  fills = λ none many full. fills_by n p p (course_of x) (course_of x) (inl refl)
-      (subst (λ (s : ScheduleValue). MAX_EVENTS ≤ length s.events) (stands TooMany many) full);
-}
+pub idles : (n : ℕ) (p : PolicyOf) (x y : RecorderOf) → y ≡ x → (n ≡ n) × Goes n [] p x p y
+idles n p x y same = (refl, subst (Goes n [] p x p) (sym same) (goes_itself n p x))
 
 -- a whole turn
-pub takes_turn : (n : ℕ) (p q : PolicyOf) (x y : Course) (progress : Progress) → IsTurnDone n p x q y progress → Does n (Turns progress ∷ []) p x q y
-takes_turn n p q x y progress turn = one_deed (IsDeed n) (Turns progress) (standing p x) (standing q y) turn
+pub turns : (n : ℕ) (p q : PolicyOf) (x y : RecorderOf) (progress : Progress) → KeepsLoss x y → IsTurnDone n p (course_of x) q (course_of y) progress
+    → Goes n (Turns progress ∷ []) p x q y
+turns n p q x y progress keeps turn =
+    let does = one_deed (IsDeed n) (Turns progress) (standing p (course_of x)) (standing q (course_of y)) turn in record {
+      keeps = keeps;
+      does = λ none. does;
+      fills = λ none many full.
+          record { first = Turns progress ∷ []; rest = []; are = refl; policy = q; full = course_of y; does = does; many = full };
+    }
 
-takes_whole : {E : Type 0} (result : Result Progress E) (n : ℕ) (p q : PolicyOf) (x y : RecorderOf)
-    → IfOk result (IsTurnDone n p (course_of x) q (course_of y)) → (IsErr result → y.lost ≡ None → ⊥) → y.lost ≡ None
-    → (deeds : List Deed) × Does n deeds p (course_of x) q (course_of y)
-takes_whole (Ok progress) n p q x y whole gone none = (Turns progress ∷ [], takes_turn n p q (course_of x) (course_of y) progress whole)
-takes_whole (Err fault) n p q x y whole gone none = absurd (gone refl none)
+-- what a worker with a node, a policy and a recorder of its own has done in a round of node n, from this policy and recorder on
+abbrev HasDoneBy : {W : Type 0} → (W → ℕ) → (W → PolicyOf) → (W → RecorderOf) → ℕ → List Deed → PolicyOf → RecorderOf → W → Result Round AllocError → Type 0
+HasDoneBy node policy recorder n deeds p x new (Ok round) = (node new ≡ n) × Goes n deeds p x (policy new) (recorder new)
+HasDoneBy node policy recorder n deeds p x new (Err refused) =
+    (mid : _) × ((node mid ≡ n) × Goes n deeds p x (policy mid) (recorder mid))
+    × ((node new ≡ node mid) × Stops (node mid) (policy mid) (recorder mid) (policy new) (recorder new))
 
-so_far : {E : Type 0} (result : Result Progress E) (n : ℕ) (p q : PolicyOf) (x y : Course) → IfOk result (IsTurnDone n p x q y)
-    → (IsErr result → (progress : Progress) × IsTurnSoFar n p x q y progress) → (progress : Progress) × IsTurnSoFar n p x q y progress
-so_far (Ok progress) n p q x y done part = (progress, done.so_far)
-so_far (Err fault) n p q x y done part = part refl
+pub at_node : {W : Type 0} (node : W → ℕ) (policy : W → PolicyOf) (recorder : W → RecorderOf) (n : ℕ) (deeds : List Deed) (p : PolicyOf) (x : RecorderOf)
+    (new : W) (result : Result Round AllocError) → HasDoneBy node policy recorder n deeds p x new result
+    → HasDone (GoesAt n) (StopsAt n) deeds (place p x) (place (policy new) (recorder new)) result
+at_node node policy recorder n deeds p x new (Ok round) did = did.1
+at_node node policy recorder n deeds p x new (Err refused) did =
+    let mid = did.0 in (
+      place (policy mid) (recorder mid),
+      did.1.1,
+      subst (λ (k : ℕ). Stops k (policy mid) (recorder mid) (policy new) (recorder new)) did.1.0 did.2.1,
+    )
 
--- a turn does this to a recorder
-pub goes_turning : {E : Type 0} (result : Result Progress E) (n : ℕ) (p q : PolicyOf) (x y : RecorderOf) → KeepsLoss x y
-    → IfOk result (IsTurnDone n p (course_of x) q (course_of y)) → (IsErr result → y.lost ≡ None → ⊥)
-    → (IsErr result → (progress : Progress) × IsTurnSoFar n p (course_of x) q (course_of y) progress) → Goes n p x q y
-goes_turning result n p q x y keeps whole gone part = record {
-  keeps = keeps;
-  does = takes_whole result n p q x y whole gone;
-  fills = λ none many full. fills_by n p q (course_of x) (course_of y) (inr (so_far result n p q (course_of x) (course_of y) whole part)) full;
-}
+-- ---- a schedule that is filled
+
+-- a round fills it by some of its deeds, or by all of them and the turn that is refused
+pub fills_round : (result : Result Round AllocError) (n : ℕ) (deeds : List Deed) (old new : Place) → HasDone (GoesAt n) (StopsAt n) deeds old new result
+    → old.recorder.lost ≡ None → new.recorder.lost ≡ Some TooMany → MAX_EVENTS ≤ length new.recorder.schedule.events
+    → Fills n deeds old.policy (course_of old.recorder) ⊎ (IsErr result × FillsTurning n deeds old.policy (course_of old.recorder))
+fills_round (Ok round) n deeds old new goes none many full = inl (goes.fills none many full)
+fills_round (Err refused) n deeds old new goes none many full = elim (by_then goes.0.recorder.lost refl) [
+  | inl some ↦ inl some
+  | inr all ↦ inr (refl, all)
+]
+  where
+    by_then : (lost : Option RunFault) → goes.0.recorder.lost ≡ lost
+        → Fills n deeds old.policy (course_of old.recorder) ⊎ FillsTurning n deeds old.policy (course_of old.recorder)
+    by_then None is = inr (record {
+      policy = goes.0.policy;
+      mid = course_of goes.0.recorder;
+      does = goes.1.does is;
+      after = new.policy;
+      full = course_of new.recorder;
+      progress = goes.2.turn.0;
+      turn = goes.2.turn.1;
+      many = full;
+    })
+    by_then (Some fault) is =
+        let kept = goes.2.keeps fault is in
+        inl (goes.1.fills none (is ∙ (sym kept.0 ∙ many)) (subst (λ (s : ScheduleValue). MAX_EVENTS ≤ length s.events) kept.1 full))
 
 -- ---- rounds
 

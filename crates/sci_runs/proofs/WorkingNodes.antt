@@ -2,7 +2,7 @@
 use Rattle.std.proofs.Common.{◌≡◌, ◌<◌, ◌≤◌, ℕ, arith, All, Ok, List, [], ◌∷◌, length, map, set, Vec, refl, sym, ap, subst, ◌∙◌, inl, inr}
 use Rattle.std.proofs.lemmas.Bool.{cases_eq, cases_lt}
 use Rattle.std.proofs.lemmas.List.{get_or-map, get_or-set_other, get_or-set_same, get_or_past, length-map, length-set, map-set}
-use Rattle.std.specs.Prelude.{slice_index_or}
+use Rattle.std.specs.{Prelude.{◌⊎◌, IsErr, Result, slice_index_or}, declared.alloc.AllocError.{AllocError}}
 use Rattle.sci_words.specs.declared.{event.Event.{Event}, extent.Extent.{Extent}, limits.TheConstants.{MAX_OPERATIONS}, operation.Op.{Op}}
 use Rattle.sci_text.specs.Script.{ScriptValue}
 use Rattle.sci_core.specs.{Core.{Core, node_at, opening}, Node.{NodeOf, opening_node}, Size.{Size, size_of}}
@@ -13,7 +13,7 @@ use Rattle.sci_drive.specs.Driving.{DriverOf, HasSubmittedNothing, IsDriven, IsI
 use Rattle.sci_drive.proofs.{Drives.{opens}, InOrder.{opens_in_order}}
 use Rattle.sci_threads.specs.Shares.{operations_of}
 use Rattle.sci_threads.proofs.RunStations.{opened_fresh, sized_for}
-use Rattle.sci_runs.specs.{Deeds.{Does}, Played.{Begins, GoesOpenly, IsRound, StaysBut}}
+use Rattle.sci_runs.specs.{Deeds.{Does, Fills, FillsTurning}, Played.{Begins, FillsAt, GoesOpenly, IsRound, StaysBut}}
 use Rattle.sci_runs.specs.Players.{AreAtWork, IsAtWork, TableOf, moment_of}
 use Rattle.sci_runs.specs.Recorded.{RecorderOf, SparesOthers, course_of, with_limit}
 
@@ -192,4 +192,26 @@ module _ {A : Type 0} (f : A → DriverOf) (g : A → PolicyOf) (script : Script
             (subst (λ (policy : PolicyOf). Does n deeds (g player) (course_of recorder) policy (course_of later)) (sym now) does);
         drivers = placed_other f players k n new same;
         policies = placed_other g players k n new same;
+      })
+
+  -- and one that fills the schedule
+  pub round_fills : view ≡ table → AreAtWork view → n < table.script.nodes → k ≡ n → player ≡ slice_index_or players k player → (new : A)
+      (later : RecorderOf) (result : Result Round AllocError) (deeds : List Deed)
+      → GoesOpenly deeds (f player) (f new) (node_at recorder.core n) (node_at later.core n) result
+      → Fills n deeds (g player) (course_of recorder) ⊎ (IsErr result × FillsTurning n deeds (g player) (course_of recorder)) → FillsAt n (moment_of table)
+  round_fills is work lt same value new later result deeds goes fills =
+      let some = some_node is lt in
+      let within : n < length players = let many = work.many in let long = length-map players f in omega (arith, some, many, long) in
+      let here : player ≡ slice_index_or players n player = value ∙ ap (λ (i : ℕ). slice_index_or players i player) same in
+      let was : slice_index_or (map g players) n opening_policy ≡ g player = get_or-map g players n player opening_policy within ∙ ap g (sym here) in
+      subst (λ (t : TableOf). FillsAt n (moment_of t)) is (record {
+        driver = f new;
+        node = node_at later.core n;
+        result = result;
+        deeds = deeds;
+        goes = λ d.
+            subst (λ (driver : DriverOf). GoesOpenly deeds driver (f new) (node_at recorder.core n) (node_at later.core n) result)
+            (sym (stands work some same value d)) goes;
+        fills = subst (λ (policy : PolicyOf).
+            Fills n deeds policy (course_of recorder) ⊎ (IsErr result × FillsTurning n deeds policy (course_of recorder))) (sym was) fills;
       })

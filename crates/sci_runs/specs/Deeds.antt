@@ -1,5 +1,5 @@
 -- What a node does of its own: it issues and performs operations, and takes turns.
-use Rattle.std.specs.Prelude.{◌≡◌, ◌≤◌, ◌⊎◌, ℕ, List, [], ◌∷◌, ◌++◌, length, Some}
+use Rattle.std.specs.Prelude.{◌≡◌, ◌≤◌, ℕ, List, [], ◌∷◌, ◌++◌, length, Some}
 use Rattle.std.specs.List.{AllByRecursion}
 use Rattle.sci_words.specs.declared.{event.Event.{Event}, limits.TheConstants.{MAX_EVENTS}}
 use Rattle.sci_core.specs.Core.{node_of, stepping}
@@ -51,13 +51,23 @@ IsDeed n (Turns progress) old new = IsTurnDone n old.policy old.course new.polic
 abbrev pub Does : ℕ → List Deed → PolicyOf → Course → PolicyOf → Course → Type 0
 Does n deeds before old after new = DoesBy (IsDeed n) deeds (standing before old) (standing after new)
 
--- deeds of node n, and perhaps a turn so far behind them, make as many events as a schedule can have
-pub record Fills (n : ℕ) (before : PolicyOf) (old : Course) : Type 0 where
-  pub deeds : List Deed
+-- some of these deeds of node n, from the first on, make as many events as a schedule can have
+pub record Fills (n : ℕ) (deeds : List Deed) (before : PolicyOf) (old : Course) : Type 0 where
+  pub first : List Deed
+  pub rest : List Deed
+  pub are : deeds ≡ first ++ rest
+  pub policy : PolicyOf
+  pub full : Course
+  pub does : Does n first before old policy full
+  pub many : MAX_EVENTS ≤ length full.events
+
+-- all of these deeds do, and a turn so far behind them
+pub record FillsTurning (n : ℕ) (deeds : List Deed) (before : PolicyOf) (old : Course) : Type 0 where
   pub policy : PolicyOf
   pub mid : Course
   pub does : Does n deeds before old policy mid
   pub after : PolicyOf
   pub full : Course
-  pub rest : (mid ≡ full) ⊎ ((progress : Progress) × IsTurnSoFar n policy mid after full progress)
+  pub progress : Progress
+  pub turn : IsTurnSoFar n policy mid after full progress
   pub many : MAX_EVENTS ≤ length full.events

@@ -1,5 +1,5 @@
 -- The rounds of a run, one after another: whose each is, and what its node does in it.
-use Rattle.std.specs.Prelude.{◌≡◌, ◌≢◌, ◌<◌, ◌≤◌, ℕ, zero, suc, List, [], Option, Ok, Result, length, slice_index_or}
+use Rattle.std.specs.Prelude.{◌≡◌, ◌≢◌, ◌<◌, ◌≤◌, ◌⊎◌, ℕ, zero, suc, List, [], Option, Ok, Result, IsErr, length, slice_index_or}
 use Rattle.std.specs.declared.alloc.AllocError.{AllocError}
 use Rattle.sci_words.specs.declared.{event.Event.{Event}, limits.TheConstants.{MAX_OPERATIONS}}
 use Rattle.sci_text.specs.{Script.{ScriptValue}, Schedule.{ScheduleValue}}
@@ -8,7 +8,7 @@ use Rattle.sci_policy.specs.{Deeds.{Deed}, Policy.{PolicyOf, opening_policy}}
 use Rattle.sci_drive.specs.{declared.driver.{Issuing.{Issuing}, Round.{Round}}, Calls.{AllowAll}}
 use Rattle.sci_drive.specs.{Driving.{DriverOf, opening_driver}, Rounds.{GoesRound}}
 use Rattle.sci_threads.specs.Shares.{operations_of, size_for}
-use Rattle.sci_runs.specs.{declared.order.Order.{Order}, Deeds.{Does, Fills}, Recorded.{Course, raised, with_limit}}
+use Rattle.sci_runs.specs.{declared.order.Order.{Order}, Deeds.{Does, Fills, FillsTurning}, Recorded.{Course, raised, with_limit}}
 use Rattle.sci_runs.specs.Turns.{first_order, next_node, next_order}
 
 -- ---- a run
@@ -53,9 +53,15 @@ Played nodes zero order old later new = (order ≡ later) × (old ≡ new)
 Played nodes (suc rounds) order old later new =
     (mid : Moment) × (next : Order) × Played nodes rounds order old next mid × (later ≡ next_order nodes next) × IsRound (next_node nodes next) mid new
 
--- in a round of node n from this moment on, the schedule gets as many events as it can have
-abbrev pub FillsAt : ℕ → Moment → Type 0
-FillsAt n moment = Fills n (policy_at moment n) (course_at moment)
+-- A round of node n begins at this moment, in which the schedule gets as many events as it can have: by some of its deeds, from the
+-- first on, or by all that come before its turn, and by events of the turn, which is refused.
+pub record FillsAt (n : ℕ) (moment : Moment) : Type 0 where
+  pub driver : DriverOf
+  pub node : NodeOf
+  pub result : Result Round AllocError
+  pub deeds : List Deed
+  pub goes : (d : DriverOf) → GoesOpenly deeds (driver_at moment n d) driver (node_at moment.core n) node result
+  pub fills : Fills n deeds (policy_at moment n) (course_at moment) ⊎ (IsErr result × FillsTurning n deeds (policy_at moment n) (course_at moment))
 
 -- the schedule has no room for fewer than this many rounds and what comes then
 pub record HasNoRoom (nodes turns : ℕ) (order : Order) (first : Moment) : Type 0 where

@@ -54,11 +54,12 @@ pub(crate) fn are_answered(players: &[Player<'_>]) -> bool
 }
 
 impl<'a> Player<'a> {
-    ghost use Rattle.std.specs.Prelude.{◌≡◌, ◌<◌, List, None, IfOk};
+    ghost use Rattle.std.specs.Prelude.{◌≡◌, ◌<◌, List};
     ghost use Rattle.sci_core.specs.Core.{node_at};
     ghost use Rattle.sci_drive.specs.Driving.{IsDriven, IsInOrder};
     ghost use Rattle.sci_policy.specs.Deeds.{Deed};
-    ghost use Rattle.sci_runs.specs.{Deeds.{Does}, Goings.{Goes}, Played.{GoesOpenly}, Recorded.{SparesOthers, course_of}};
+    ghost use Rattle.sci_drive.specs.Rounds.{HasDone};
+    ghost use Rattle.sci_runs.specs.{Goings.{GoesAt, StopsAt, place}, Played.{GoesOpenly}, Recorded.{SparesOthers}};
 
     /// Does a round at a node. Requires that there is such a node, and that this player has driven it. Refused where an
     /// event is lost, and the recorder has the reason.
@@ -71,9 +72,8 @@ impl<'a> Player<'a> {
         ensures script { self.new.driver.script ≡ self.old.driver.script }
         ensures goes { (deeds : List Deed) × GoesOpenly deeds self.old.driver self.new.driver
             (node_at recorder.old.core node) (node_at recorder.new.core node) result
-            × IfOk result (λ _. recorder.new.lost ≡ None → Does node deeds
-            self.old.policy (course_of recorder.old) self.new.policy (course_of recorder.new)) }
-        ensures gone { Goes node self.old.policy recorder.old self.new.policy recorder.new }
+            × HasDone (GoesAt node) (StopsAt node) deeds
+            (place self.old.policy recorder.old) (place self.new.policy recorder.new) result }
         ensures spares { SparesOthers node recorder.old.core recorder.new.core }
     {
         let mut seat = Seat {

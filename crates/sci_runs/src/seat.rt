@@ -19,23 +19,23 @@ pub(crate) struct Seat<'a> {
 }
 
 impl<'a> Worker for Seat<'a> {
-    ghost use Rattle.std.specs.Prelude.{◌≡◌, ℕ, None};
+    ghost use Rattle.std.specs.Prelude.{◌≡◌, ℕ};
     ghost use Rattle.sci_core.specs.Core.{node_at};
     ghost use Rattle.std.proofs.Common.{refl, subst, ◌∙◌};
-    ghost use Rattle.sci_policy.proofs.Deeds.{deeds_on};
-    ghost use Rattle.sci_runs.specs.{Deeds.{Does, IsDeed, standing}, Goings.{Goes, goes_itself, goes_on}, Recorded.{SparesOthers, course_of}};
+    ghost use Rattle.sci_runs.specs.{Goings.{Goes, Stops, goes_itself, goes_on}, Recorded.{SparesOthers}};
 
     ghost node = { λ seat. node_at seat.recorder.now.core seat.node };
 
     ghost stays = { λ old new. (new.node ≡ old.node)
         × (new.recorder.ghost_name ≡ old.recorder.ghost_name)
         × (new.policy.ghost_name ≡ old.policy.ghost_name)
-        × SparesOthers old.node old.recorder.now.core new.recorder.now.core
-        × Goes old.node old.policy.now old.recorder.now new.policy.now new.recorder.now };
+        × SparesOthers old.node old.recorder.now.core new.recorder.now.core };
 
     ghost does = { λ old deeds new. (new.node ≡ old.node)
-        × (new.recorder.now.lost ≡ None → (old.recorder.now.lost ≡ None) × Does old.node deeds
-        old.policy.now (course_of old.recorder.now) new.policy.now (course_of new.recorder.now)) };
+        × Goes old.node deeds old.policy.now old.recorder.now new.policy.now new.recorder.now };
+
+    ghost stopped = { λ old new. (new.node ≡ old.node)
+        × Stops old.node old.policy.now old.recorder.now new.policy.now new.recorder.now };
 
     fn submit(&mut self, op: Op) -> Result<u32, SubmitFault> {
         self.recorder.submit(self.node, op)
@@ -54,7 +54,6 @@ impl<'a> Worker for Seat<'a> {
       refl,
       refl,
       record { size = refl; others = λ m apart. refl },
-      goes_itself x.node x.policy.now x.recorder.now,
     ) };
 
     ghost stays_through = { λ x y z one two. (
@@ -65,21 +64,15 @@ impl<'a> Worker for Seat<'a> {
         size = two.3.size ∙ one.3.size;
         others = λ m apart. two.3.others m (λ is. apart (is ∙ one.0)) ∙ one.3.others m apart;
       },
-      goes_on x.node x.policy.now y.policy.now z.policy.now x.recorder.now y.recorder.now z.recorder.now one.4
-          (subst (λ (n : ℕ). Goes n y.policy.now y.recorder.now z.policy.now z.recorder.now) one.0 two.4),
     ) };
 
-    ghost does_nothing = { λ x. (refl, λ none. (none, refl)) };
+    ghost does_nothing = { λ x. (refl, goes_itself x.node x.policy.now x.recorder.now) };
 
     ghost does_on = { λ x y z deeds more first second. (
       second.0 ∙ first.0,
-      λ none. (
-        (first.1 (second.1 none).0).0,
-        deeds_on (IsDeed x.node) deeds more (standing x.policy.now (course_of x.recorder.now))
-            (standing y.policy.now (course_of y.recorder.now))
-            (standing z.policy.now (course_of z.recorder.now)) (first.1 (second.1 none).0).1
-            (subst (λ (n : ℕ). Does n more y.policy.now (course_of y.recorder.now)
-            z.policy.now (course_of z.recorder.now)) first.0 (second.1 none).1),
-      ),
+      goes_on x.node deeds more x.policy.now y.policy.now z.policy.now x.recorder.now
+          y.recorder.now z.recorder.now first.1
+          (subst (λ (n : ℕ). Goes n more y.policy.now y.recorder.now
+          z.policy.now z.recorder.now) first.0 second.1),
     ) };
 }

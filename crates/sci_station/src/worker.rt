@@ -17,6 +17,9 @@ impl Worker for Station {
 
     ghost does = { λ old deeds new. Does deeds old new };
 
+    // No turn is refused.
+    ghost stopped = { λ old new. ⊥ };
+
     fn submit(&mut self, op: Op) -> Result<u32, SubmitFault> {
         Station::submit(self, op)
     }

@@ -1,9 +1,10 @@
 -- A round submits, performs and takes a turn, and may tell the gate at its end.
 use Rattle.std.proofs.Common.{◌≡◌, Bool, true, false, List, [], ◌∷◌, ◌++◌, map, rules, refl, subst, sym, ap, ◌∙◌}
-use Rattle.std.specs.{Prelude.{◌↔◌, IfOk, Ok, Result}, declared.alloc.AllocError.{AllocError}}
+use Rattle.std.proofs.lemmas.List.{append-nil}
+use Rattle.std.specs.{Prelude.{◌↔◌, IfOk, IsErr, Ok, Err, Result}, declared.alloc.AllocError.{AllocError}}
 use Rattle.sci_policy.specs.{declared.progress.Progress.{Progress}, Deeds.{Deed, Turns}, Worker.{IsNodeTurn}}
 use Rattle.sci_drive.specs.{declared.driver.Round.{Round}, Calls.{Done, IsHeard}, Driving.{DriverOf, IsAnswered, IsDriven, IsInOrder}}
-use Rattle.sci_drive.specs.Rounds.{GoesRound, performed, turn_of}
+use Rattle.sci_drive.specs.Rounds.{GoesRound, HasDone, performed, turn_of}
 use Rattle.sci_drive.proofs.{Drives.{tells, turns}, GateCalls.{done_call, heard_nothing}, InOrder.{tells_in_order, turns_in_order}}
 use Rattle.sci_drive.proofs.{DriverRounds.{goes}, driver.Driver.round.Goals.{After-turn}}
 use Rattle.sci_drive.proofs.driver.Driver.round.Goals as goal
@@ -52,12 +53,24 @@ quiet g c = heard_nothing g.G.Gate.hears g.met.G.Gate.hears_nothing g.met.G.Gate
 pub returns-in_err-progress-clause-driven : goal.returns-in_err-progress-clause-driven
 returns-in_err-progress-clause-driven g c = driven g (goal.at.returns-in_err-progress-clause-driven g c).After-turn
 
+-- a turn that was refused
+has_stopped : {W E : Type 0} (does : W → List Deed → W → Type 0) (stopped : W → W → Type 0) (deeds : List Deed) (x y z : W) (result : Result Round E)
+    → IsErr result → does x (deeds ++ []) y → stopped y z → HasDone does stopped (deeds ++ turn_of result) x z result
+has_stopped does stopped deeds x y z (Ok round) err did stop = absurd (cc)
+has_stopped does stopped deeds x y z (Err refused) err did stop = (y, did, stop)
+
 pub returns-in_err-progress-clause-goes : goal.returns-in_err-progress-clause-goes
 returns-in_err-progress-clause-goes g c =
-    let at = (goal.at.returns-in_err-progress-clause-goes g c).After-turn in (
-      before g at ++ turn_of c.from_residual.result,
+    let at = (goal.at.returns-in_err-progress-clause-goes g c).After-turn in
+    let deeds = before g at in
+    let did : g.W.Worker.does c.args.worker.now deeds at.perform-answered.new.worker =
+    g.met.W.Worker.does_on c.args.worker.now at.submit.new.worker at.perform-answered.new.worker at.submit.ensures.submits.1
+    (map performed at.perform-answered.ensures.performed.0) at.submit.ensures.submits.3 at.perform-answered.ensures.performed.2 in (
+      deeds ++ turn_of c.from_residual.result,
       gone g at at.perform-answered.new.gate at.perform-answered.new.self.was_done c.from_residual.result (search rules) (quiet g at) (search rules),
-      search rules,
+      has_stopped g.W.Worker.does g.W.Worker.stopped deeds c.args.worker.now at.perform-answered.new.worker at.turn.new.self c.from_residual.result
+          (search rules) (subst (λ (ds : List Deed). g.W.Worker.does c.args.worker.now ds at.perform-answered.new.worker) (sym (append-nil deeds)) did)
+          (at.turn.ensures.stopped (search rules)),
     )
 
 pub returns-then-not-self-clause-driven : goal.returns-then-not-self-clause-driven

@@ -1,12 +1,12 @@
 use Rattle.std.proofs.Common.{refl}
-use Rattle.sci_runs.proofs.Playing.{does_performing, goes_working, idles, performed}
+use Rattle.sci_runs.proofs.Playing.{idles, performed}
 use Rattle.sci_runs.proofs.seat.SeatWorker.perform.Goals as goal
 
 pub returns-clause-does : goal.returns-clause-does
 returns-clause-does c =
     let seat = c.args.self.now in
     let told = c.perform.ensures in
-    performed c.perform.result seat.node c.args.line seat.policy.now seat.recorder.now c.perform.new.self told.keeps told.event told.recorded
+    performed c.perform.result seat.node c.args.line seat.policy.now seat.recorder.now c.perform.new.self told.keeps told.stands told.event told.recorded
 
 pub returns-clause-idle : goal.returns-clause-idle
 returns-clause-idle c = λ none.
@@ -14,16 +14,4 @@ returns-clause-idle c = λ none.
     idles seat.node seat.policy.now seat.recorder.now c.perform.new.self (c.perform.ensures.same none)
 
 pub returns-clause-stays : goal.returns-clause-stays
-returns-clause-stays c =
-    let seat = c.args.self.now in
-    let old = seat.recorder.now in
-    let new = c.perform.new.self in
-    let told = c.perform.ensures in (
-      refl,
-      refl,
-      refl,
-      told.spares,
-      goes_working seat.node seat.policy.now old new told.keeps told.stands
-          (does_performing c.perform.result seat.node c.args.line seat.policy.now old new
-          (performed c.perform.result seat.node c.args.line seat.policy.now old new told.keeps told.event told.recorded) told.same),
-    )
+returns-clause-stays c = (refl, refl, refl, c.perform.ensures.spares)
