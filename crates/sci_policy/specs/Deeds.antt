@@ -1,5 +1,5 @@
 -- What a worker does: it issues and performs operations, and takes turns.
-use Rattle.std.specs.Prelude.{◌≡◌, ℕ, Bool, true, false, List, [], ◌∷◌, count_by}
+use Rattle.std.specs.Prelude.{◌≡◌, ℕ, List, [], ◌∷◌}
 use Rattle.sci_words.specs.declared.operation.Op.{Op}
 use Rattle.sci_history.specs.declared.entry.Entry.{Entry}
 use Rattle.sci_policy.specs.declared.progress.Progress.{Progress}
@@ -9,14 +9,6 @@ pub data Deed : Type 0 where
   Issues : (op : Op) → Deed
   Performs : (line : ℕ) (entry : Entry) → Deed
   Turns : (progress : Progress) → Deed
-
-abbrev pub is_turn : Deed → Bool
-is_turn (Turns progress) = true
-is_turn _ = false
-
--- how many turns there are among deeds
-abbrev pub turns_among : List Deed → ℕ
-turns_among deeds = count_by is_turn deeds
 
 -- these deeds, one after another, each of which leads from one state to another as a relation says
 abbrev pub DoesBy : {S : Type 0} → (Deed → S → S → Type 0) → List Deed → S → S → Type 0
