@@ -7,3 +7,4 @@ pub mod History
 pub mod Settling
 pub mod FirstCome
 pub mod ReachedLaws
+pub mod NetworkLaws

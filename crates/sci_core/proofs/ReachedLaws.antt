@@ -15,41 +15,56 @@ use Rattle.sci_history.proofs.Order.{filter_none, filter-filter, all_weaker, all
 use Rattle.sci_core.specs.{Node.{NodeOf, opening_node, no_node}, Core.{Core, node_at, stepping, step, opening, run}}
 use Rattle.sci_core.specs.{Reached.{IsReachable, IsReached}, Done.{ChangesBy, LastChanges, made_by, done}}
 use Rattle.sci_core.specs.{Outcome.{logs_of}, Coherent.{IsCoherent}, Shape.{HasShapes}, Sharing.{last_at, last_of}}
+use Rattle.sci_core.specs.Network.{Happens, Move, entries_by, moved_from}
 use Rattle.sci_core.specs.{Tidy.{AreAccepted}, WellFormed.{IsWellFormed}, Size.{Size, IsSize}}
-use Rattle.sci_core.proofs.WellFormed.WellFormedSteps.{step_well, run_well, is_size, reachable, opened, any_well}
-use Rattle.sci_core.proofs.Tidy.{TidyRuns.{opening_tidy, any_tidy, reached_tidy}, Transactions.{runs_alternate}}
+use Rattle.sci_core.proofs.WellFormed.WellFormedSteps.{step_well, run_well, moves_well, moved_happens, is_size, reachable, opened, any_well}
+use Rattle.sci_core.proofs.Tidy.{TidyRuns.{opening_tidy, any_tidy, reached_tidy}, Transactions.{moves_alternate}}
 use Rattle.sci_core.proofs.Shape.{ShapeSteps.{ShapedAt}, ShapeRuns.{each_mapped, opening_shaped, step_follows}}
 use Rattle.sci_core.proofs.Shape.{ShapeClauses.{last_is, shape_of}, StaleFronts.{any_stale}}
 use Rattle.sci_core.proofs.History.Works.{HasSerials, opening_serials}
-use Rattle.sci_core.proofs.History.ScheduleHistories.{run_follows, RunLogged, run_logged, IsKnown}
+use Rattle.sci_core.proofs.History.ScheduleHistories.{IsKnown, RunLogged, entries_happen, moves_follow, moves_logged}
 
 -- ---- from the opening on
 
--- a line's shape where a schedule leads, and its history
-record Traced (size : Size) (schedule : List Event) (line : ℕ) : Type 0 where
-  pub contents : Stamped
-  pub shaped : ShapedAt (run size schedule) line contents
-  pub history : IsHistory (filter (is_on_line line) (done size schedule)) zero_stamped contents
+-- what holds where moves lead, and of their entries, holds of a schedule, whose events are moves
+by_moves : (P : Core → List Entry → Type 0) (size : Size) (schedule : List Event)
+    → P (moved_from (opening size) (map Happens schedule)) (entries_by (opening size) (map Happens schedule)) → P (run size schedule) (done size schedule)
+by_moves P size schedule holds =
+    subst (λ (es : List Entry). P (run size schedule) es) (entries_happen (opening size) schedule)
+    (subst (λ (core : Core). P core (entries_by (opening size) (map Happens schedule))) (moved_happens (opening size) schedule) holds)
 
-traced : (size : Size) (schedule : List Event) (line : ℕ) → IsSize size → line < size.lines → Traced size schedule line
-traced size schedule line sizes inside =
-    let trace = run_follows (opening size) schedule (opened size sizes) (opening_tidy size) line inside zero_stamped (opening_shaped size line) in
+-- a line's shape where moves lead, and its history
+record Traced (size : Size) (moves : List Move) (line : ℕ) : Type 0 where
+  pub contents : Stamped
+  pub shaped : ShapedAt (moved_from (opening size) moves) line contents
+  pub history : IsHistory (filter (is_on_line line) (entries_by (opening size) moves)) zero_stamped contents
+
+traced : (size : Size) (moves : List Move) (line : ℕ) → IsSize size → line < size.lines → Traced size moves line
+traced size moves line sizes inside =
+    let trace = moves_follow (opening size) moves (opened size sizes) (opening_tidy size) line inside zero_stamped (opening_shaped size line) in
     record { contents = trace.0; shaped = trace.1; history = trace.2 }
 
--- the entries of a schedule on a line are a history of it, from zero words to its last contents
+-- the entries of moves on a line are a history of it, from zero words to its last contents
+pub moves_history : (size : Size) (moves : List Move) (line : ℕ) → IsSize size → line < size.lines
+    → IsHistory (filter (is_on_line line) (entries_by (opening size) moves)) zero_stamped (last_at (moved_from (opening size) moves) line)
+moves_history size moves line sizes inside =
+    let trace = traced size moves line sizes inside in
+    let core = moved_from (opening size) moves in
+    let well = (moves_well (opening size) moves (opened size sizes)).well in
+    subst (IsHistory (filter (is_on_line line) (entries_by (opening size) moves)) zero_stamped) (sym (last_is core line trace.contents well trace.shaped))
+    trace.history
+
 pub schedule_history : (size : Size) (schedule : List Event) (line : ℕ) → IsSize size → line < size.lines
     → IsHistory (filter (is_on_line line) (done size schedule)) zero_stamped (last_at (run size schedule) line)
 schedule_history size schedule line sizes inside =
-    let trace = traced size schedule line sizes inside in
-    let well = (run_well (opening size) schedule (opened size sizes)).well in
-    subst (IsHistory (filter (is_on_line line) (done size schedule)) zero_stamped) (sym (last_is (run size schedule) line trace.contents well trace.shaped))
-    trace.history
+    by_moves (λ core es. IsHistory (filter (is_on_line line) es) zero_stamped (last_at core line)) size schedule
+    (moves_history size (map Happens schedule) line sizes inside)
 
 -- ---- shape
 
 pub any_shaped : (core : Core) → IsReachable core → (line : ℕ) → line < core.size.lines → (c : Stamped) × ShapedAt core line c
 any_shaped core reached line inside =
-    let trace = traced core.size reached.schedule line reached.size inside in
+    let trace = traced core.size reached.moves line reached.size inside in
     subst (λ (x : Core). (c : Stamped) × ShapedAt x line c) reached.leads (trace.contents, trace.shaped)
 
 pub any_shapes : (core : Core) → IsReachable core → HasShapes core
@@ -90,14 +105,17 @@ reached_effects core e reached = any_effects core e (reachable core reached)
 opening_log : (size : Size) (n : ℕ) → (node_at (opening size) n).log ≡ []
 opening_log size n = each_mapped (λ (part : NodeOf). part.log ≡ []) (λ (m : ℕ). opening_node m size) no_node 0 size.nodes n (λ m. refl) refl
 
--- what a schedule logs
-pub schedule_logged : (size : Size) (schedule : List Event) → IsSize size → RunLogged (opening size) (done size schedule) (run size schedule)
-schedule_logged size schedule sizes =
+-- what moves log, and what a schedule does
+moves_log : (size : Size) (moves : List Move) → IsSize size → RunLogged (opening size) (entries_by (opening size) moves) (moved_from (opening size) moves)
+moves_log size moves sizes =
     let first = opening size in
     let serials : (n : ℕ) → HasSerials (node_at first n) =
     λ n. each_mapped HasSerials (λ (m : ℕ). opening_node m size) no_node 0 size.nodes n (λ m. opening_serials m size)
     (opening_serials 0 (record { nodes = 1; lines = 0; slots = 0; limit = 0 })) in
-    run_logged first schedule (opened size sizes) serials
+    moves_logged first moves (opened size sizes) serials
+
+pub schedule_logged : (size : Size) (schedule : List Event) → IsSize size → RunLogged (opening size) (done size schedule) (run size schedule)
+schedule_logged size schedule sizes = by_moves (λ core es. RunLogged (opening size) es core) size schedule (moves_log size (map Happens schedule) sizes)
 
 -- each log has its own node's entries of the schedule
 pub schedule_log : (size : Size) (schedule : List Event) (node : ℕ) → IsSize size
@@ -110,21 +128,31 @@ log_at core node lt = get_or-map-range_with_len (λ (n : ℕ). (node_at core n).
 pub log_beyond : (core : Core) (node : ℕ) → MAX_NODES ≤ node → log_of (logs_of core) node ≡ []
 log_beyond core node past = get_or_past (logs_of core) node [] (omega arith)
 
-pub any_logged : (core : Core) (reached : IsReachable core) → RunLogged (opening core.size) (done core.size reached.schedule) core
-any_logged core reached = subst (RunLogged (opening core.size) (done core.size reached.schedule)) reached.leads
-    (schedule_logged core.size reached.schedule reached.size)
+-- the entries of the moves that lead to a state
+abbrev pub entries_of : (core : Core) → IsReachable core → List Entry
+entries_of core reached = entries_by (opening core.size) reached.moves
 
-pub reached_logged : (core : Core) (reached : IsReached core) → RunLogged (opening core.size) (done core.size reached.schedule) core
+pub any_logged : (core : Core) (reached : IsReachable core) → RunLogged (opening core.size) (entries_of core reached) core
+any_logged core reached = subst (RunLogged (opening core.size) (entries_of core reached)) reached.leads (moves_log core.size reached.moves reached.size)
+
+pub reached_logged : (core : Core) (reached : IsReached core) → RunLogged (opening core.size) (entries_by (opening core.size) reached.moves) core
 reached_logged core reached = any_logged core (reachable core reached)
 
 -- each log of a reached state has its own node's entries of the schedule
-pub reached_log : (core : Core) (reached : IsReached core) (node : ℕ) → (node_at core node).log ≡ filter (is_of_node node) (done core.size reached.schedule)
-reached_log core reached node = grind (arith, schedule_log, is_size)
+pub any_log : (core : Core) (reached : IsReachable core) (node : ℕ) → (node_at core node).log ≡ filter (is_of_node node) (entries_of core reached)
+any_log core reached node = (any_logged core reached).logs node
+    ∙ ap (λ (es : List Entry). es ++ filter (is_of_node node) (entries_of core reached)) (opening_log core.size node)
+
+pub reached_log : (core : Core) (reached : IsReached core) (node : ℕ)
+    → (node_at core node).log ≡ filter (is_of_node node) (entries_by (opening core.size) reached.moves)
+reached_log core reached node = any_log core (reachable core reached) node
 
 -- and its entries on a line are the line's history
 pub reached_history : (core : Core) (reached : IsReached core) (line : ℕ) → line < core.size.lines
-    → IsHistory (filter (is_on_line line) (done core.size reached.schedule)) zero_stamped (last_at core line)
-reached_history core reached line inside = grind (arith, schedule_history, is_size)
+    → IsHistory (filter (is_on_line line) (entries_by (opening core.size) reached.moves)) zero_stamped (last_at core line)
+reached_history core reached line inside =
+    subst (λ (x : Core). IsHistory (filter (is_on_line line) (entries_by (opening core.size) reached.moves)) zero_stamped (last_at x line)) reached.leads
+    (moves_history core.size reached.moves line (is_size core.size reached.size) inside)
 
 pub last_within : (core : Core) (line : ℕ) → line < core.size.lines → stamped_at (last_of core) line ≡ last_at core line
 last_within core line inside = get_or-map-range_with_len (last_at core) 0 core.size.lines line line zero_stamped inside (omega arith)
@@ -132,18 +160,26 @@ last_within core line inside = get_or-map-range_with_len (last_at core) 0 core.s
 pub beyond_log : (core : Core) (node : ℕ) → IsWellFormed core → core.size.nodes ≤ node → (node_at core node).log ≡ []
 beyond_log core node well past = let long = well.sizes.parts_long in ap (λ (part : NodeOf). part.log) (get_or_past core.parts node no_node (omega arith))
 
--- each line of the last contents, one that the machine doesn't have too, has the schedule's entries as its history
+-- each line of the last contents, one that the machine doesn't have too, has the entries of the moves as its history
+moves_line : (size : Size) (moves : List Move) (line : ℕ) → IsSize size
+    → IsHistory (filter (is_on_line line) (entries_by (opening size) moves)) zero_stamped (stamped_at (last_of (moved_from (opening size) moves)) line)
+moves_line size moves line sizes =
+    grind (arith, moves_well, opened, cases_lt, last_within, moves_history, all_weaker, moves_log, filter_none, length-map-range_with_len, get_or_past)
+
 schedule_line : (size : Size) (schedule : List Event) (line : ℕ) → IsSize size
     → IsHistory (filter (is_on_line line) (done size schedule)) zero_stamped (stamped_at (last_of (run size schedule)) line)
 schedule_line size schedule line sizes =
-    grind (arith, run_well, opened, cases_lt, last_within, schedule_history, all_weaker, schedule_logged, filter_none, length-map-range_with_len, get_or_past)
+    by_moves (λ core es. IsHistory (filter (is_on_line line) es) zero_stamped (stamped_at (last_of core) line)) size schedule
+    (moves_line size (map Happens schedule) line sizes)
 
 line_history : (core : Core) (reached : IsReachable core) (line : ℕ)
-    → IsHistory (filter (is_on_line line) (done core.size reached.schedule)) zero_stamped (stamped_at (last_of core) line)
-line_history core reached line = grind (arith, schedule_line)
+    → IsHistory (filter (is_on_line line) (entries_of core reached)) zero_stamped (stamped_at (last_of core) line)
+line_history core reached line =
+    subst (λ (x : Core). IsHistory (filter (is_on_line line) (entries_of core reached)) zero_stamped (stamped_at (last_of x) line)) reached.leads
+    (moves_line core.size reached.moves line reached.size)
 
 line_logged : (core : Core) (reached : IsReachable core) (line node : ℕ) → node < MAX_NODES
-    → filter (is_on_line line) (log_of (logs_of core) node) ≡ filter (is_of_node node) (filter (is_on_line line) (done core.size reached.schedule))
+    → filter (is_on_line line) (log_of (logs_of core) node) ≡ filter (is_of_node node) (filter (is_on_line line) (entries_of core reached))
 line_logged core reached line node lt = grind (arith, any_logged, opening_log, log_at, filter-filter)
 
 line_serials : (core : Core) (reached : IsReachable core) (line node : ℕ) → node < MAX_NODES
@@ -155,7 +191,7 @@ line_serials core reached line node lt =
 pub has_history : (core : Core) (reached : IsReachable core) (line : ℕ) → core.size.nodes ≤ MAX_NODES
     → HasHistory (logs_of core) line (stamped_at (last_of core) line)
 has_history core reached line few =
-    let entries = done core.size reached.schedule in
+    let entries = entries_of core reached in
     let nodes = all_weaker (λ (entry : Entry). entry.node < core.size.nodes) (λ entry. entry.node < MAX_NODES) (λ entry lt. omega arith) entries
     (any_logged core reached).nodes in
     record {
@@ -176,7 +212,7 @@ reached_lawful core reached = any_lawful core (reachable core reached) reached.s
 -- every entry is on one of the machine's lines, and on a word of it
 pub reached_within : (core : Core) → IsReached core → AreWithin core.size.lines (logs_of core)
 reached_within core reached node =
-    let entries = done core.size reached.schedule in
+    let entries = entries_by (opening core.size) reached.moves in
     let logged = reached_logged core reached in
     let log : (node_at core node).log ≡ filter (is_of_node node) entries =
     logged.logs node ∙ ap (λ (es : List Entry). es ++ filter (is_of_node node) entries) (opening_log core.size node) in
@@ -190,15 +226,21 @@ reached_within core reached node =
 
 -- ---- all lines together
 
--- the entries of a schedule are a run of the memory of all lines
+-- the entries of moves are a run of the memory of all lines, and so are those of a schedule
+pub any_run : (size : Size) (moves : List Move) → IsSize size
+    → IsRun (map pair_of (entries_by (opening size) moves)) (zero_memory size.lines) (words_of_lines (last_of (moved_from (opening size) moves)))
+any_run size moves sizes =
+    let core = moved_from (opening size) moves in
+    let same : core.size ≡ size = (moves_well (opening size) moves (opened size sizes)).same in
+    let long : length (last_of core) ≡ size.lines = length-map-range_with_len (last_at core) 0 core.size.lines ∙ ap (λ (s : Size). s.lines) same in
+    subst (λ (lines : ℕ). IsRun (map pair_of (entries_by (opening size) moves)) (zero_memory lines) (words_of_lines (last_of core))) long
+    (histories_are_run (entries_by (opening size) moves) (last_of core) (λ line. moves_line size moves line sizes))
+
 pub schedule_run : (size : Size) (schedule : List Event) → IsSize size
     → IsRun (map pair_of (done size schedule)) (zero_memory size.lines) (words_of_lines (last_of (run size schedule)))
 schedule_run size schedule sizes =
-    let core = run size schedule in
-    let same : core.size ≡ size = (run_well (opening size) schedule (opened size sizes)).same in
-    let long : length (last_of core) ≡ size.lines = length-map-range_with_len (last_at core) 0 core.size.lines ∙ ap (λ (s : Size). s.lines) same in
-    subst (λ (lines : ℕ). IsRun (map pair_of (done size schedule)) (zero_memory lines) (words_of_lines (last_of core))) long
-    (histories_are_run (done size schedule) (last_of core) (λ line. schedule_line size schedule line sizes))
+    by_moves (λ core es. IsRun (map pair_of es) (zero_memory size.lines) (words_of_lines (last_of core))) size schedule
+    (any_run size (map Happens schedule) sizes)
 
 -- and make its logs sequentially consistent
 pub schedule_order : (size : Size) (schedule : List Event) → IsSize size → size.nodes ≤ MAX_NODES
@@ -215,12 +257,24 @@ schedule_order size schedule sizes few =
       histories = λ line. schedule_line size schedule line sizes;
     }
 
-pub reached_order : (core : Core) (reached : IsReached core) → IsSequentialOrder (logs_of core) (last_of core) (done core.size reached.schedule)
-reached_order core reached = subst (λ (x : Core). IsSequentialOrder (logs_of x) (last_of x) (done core.size reached.schedule)) reached.leads
-    (schedule_order core.size reached.schedule (is_size core.size reached.size) reached.size.extent.few_nodes)
+-- the entries of the moves that lead to a state are one order of its logs
+pub any_order : (core : Core) (reached : IsReachable core) → core.size.nodes ≤ MAX_NODES
+    → IsSequentialOrder (logs_of core) (last_of core) (entries_of core reached)
+any_order core reached few =
+    record {
+      logged = λ node. elim (cases_lt node MAX_NODES) [
+        | inl lt ↦ sym (log_at core node lt ∙ any_log core reached node)
+        | inr past ↦ sym (any_log core reached node) ∙ (beyond_log core node (any_well core reached) (omega arith) ∙ sym (log_beyond core node past))
+      ];
+      histories = λ line. line_history core reached line;
+    }
+
+pub reached_order : (core : Core) (reached : IsReached core)
+    → IsSequentialOrder (logs_of core) (last_of core) (entries_by (opening core.size) reached.moves)
+reached_order core reached = any_order core (reachable core reached) reached.size.extent.few_nodes
 
 pub reached_consistent : (core : Core) → IsReached core → IsSequentiallyConsistent (logs_of core) (last_of core)
-reached_consistent core reached = (done core.size reached.schedule, reached_order core reached)
+reached_consistent core reached = (entries_by (opening core.size) reached.moves, reached_order core reached)
 
 -- ---- all of them
 
@@ -229,7 +283,7 @@ reached_coherent core reached = record {
   reached = reached;
   tidy = reached_tidy core reached;
   accepted = reached_accepted core reached;
-  alternates = λ n line some inside. runs_alternate core.size reached.schedule n line (is_size core.size reached.size) some inside;
+  alternates = λ n line some inside. moves_alternate core.size reached.moves n line (is_size core.size reached.size) some inside;
   shapes = reached_shapes core reached;
   explained = λ line inside. reached_history core reached line inside;
   logged = λ node. reached_log core reached node;

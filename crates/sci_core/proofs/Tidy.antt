@@ -8,6 +8,7 @@ pub mod PacketMoves
 pub mod RowWaits
 pub mod WaitingNodes
 pub mod TidySteps
+pub mod Overtaking
 pub mod TidyRuns
 pub mod Transactions
 pub mod Enabled

@@ -28,3 +28,4 @@ pub mod InTurn
 pub mod FirstCome
 pub mod Settling
 pub mod Rounds
+pub mod Network

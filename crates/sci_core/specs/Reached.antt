@@ -1,21 +1,20 @@
 -- The states where a schedule leads.
 use Rattle.std.specs.Prelude.{◌≡◌, ◌<◌, ℕ, List}
-use Rattle.sci_words.specs.declared.event.Event.{Event}
-use Rattle.sci_core.specs.{Core.{Core, node_at, run}, Size.{IsSize, IsMachineSize}, Node.{NodeOf}}
+use Rattle.sci_core.specs.{Core.{Core, node_at, opening}, Network.{Move, moved_from}, Size.{IsSize, IsMachineSize}, Node.{NodeOf}}
 
--- a state to which a schedule leads a machine of any size; a schedule is any finite list of events
+-- a state to which moves lead a machine of any size: events in any order, over a network that keeps none
 pub record IsReachable (core : Core) : Type 0 where
   pub size : IsSize core.size
-  pub schedule : List Event
-  pub leads : run core.size schedule ≡ core
+  pub moves : List Move
+  pub leads : moved_from (opening core.size) moves ≡ core
 
 -- the same of a machine within the limits
 pub record IsReached (core : Core) : Type 0 where
   pub size : IsMachineSize core.size
-  pub schedule : List Event
-  pub leads : run core.size schedule ≡ core
+  pub moves : List Move
+  pub leads : moved_from (opening core.size) moves ≡ core
 
--- a node of a state where a schedule leads a machine of any size
+-- a node of a state where moves lead a machine of any size
 pub record IsReachableNode (n : ℕ) (node : NodeOf) : Type 0 where
   pub core : Core
   pub reached : IsReachable core

@@ -18,7 +18,7 @@ use Rattle.sci_lanes.specs.Ends.{FitsInside, rest_view, no_view, first_off, firs
 use Rattle.sci_lanes.proofs.{Keeping.{read_none, seen_all}, Sharing.{splits}}
 
 reached_opening : (size : Size) → IsMachineSize size → IsReached (opening size)
-reached_opening size ok = record { size = ok; schedule = []; leads = refl }
+reached_opening size ok = record { size = ok; moves = []; leads = refl }
 
 pub node_opened : (size : Size) (n : ℕ) → n < size.nodes → node_at (opening size) n ≡ opening_node n size
 node_opened size n lt = get_or-map-range_with_len (λ m. opening_node m size) 0 size.nodes n n no_node lt (omega arith)

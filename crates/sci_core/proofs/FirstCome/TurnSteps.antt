@@ -1,7 +1,7 @@
 -- Of every line, the node that is let in waits last, and the first of those who wait becomes the authority: of every step, and of
 -- every schedule.
 use Rattle.std.proofs.Common.{◌≡◌, ◌≢◌, ℕ, zero, suc, ◌+◌, ◌%◌, ◌<◌, ◌≤◌, not, ◌&&◌, Bool, true, false, if◌then◌else◌, List, [], ◌∷◌, ◌++◌, filter}
-use Rattle.std.proofs.Common.{reverse, Option, Some, None, refl, sym, ap, subst, ◌∙◌, arith, inl, inr}
+use Rattle.std.proofs.Common.{map, reverse, Option, Some, None, refl, sym, ap, subst, ◌∙◌, arith, inl, inr}
 use Rattle.std.proofs.lemmas.Bool.{cases_Bool, cases_eq, eq-eqb, ne_eqb}
 use Rattle.std.proofs.lemmas.List.{append_assoc, get_or-set_other, append-nil, reverse-append, reverse-reverse}
 use Rattle.std.specs.{Prelude.{IfSome, slice_get, unwrap_or, ◌==◌}, List.{AllByRecursion, range_with_len}}
@@ -14,6 +14,7 @@ use Rattle.sci_core.specs.declared.lane.LaneKind.{LaneKind, TheVariants.{Request
 use Rattle.sci_core.specs.Core.{Core, lane_of, lane_place, node_at, opening, run, run_from, sent_by, step, stepping, with_lane, with_node}
 use Rattle.sci_core.specs.FirstCome.{AreInTurn, AreWaiting, Before, IsInTurn, Nobody, entered, enters, entrant_by, entrants, is_authority, succeeded}
 use Rattle.sci_core.specs.FirstCome.{successors}
+use Rattle.sci_core.specs.Network.{Happens, Move, Overtakes, entered_by, entrants_in, moved, moved_from, overtaken, succeeded_by}
 use Rattle.sci_core.specs.Node.{NodeOf, home_of, node_accepting, node_asking, node_issuing, node_performing, node_refusing, node_replying, node_serving}
 use Rattle.sci_core.specs.{Reached.{IsReachable}, Sharing.{home_at}, SharingList.{IsListOf, IsSharingList, LinkedFrom}}
 use Rattle.sci_core.specs.{Size.{IsSize, Size}, Tidy.{IsTidy}, WellFormed.{IsPart, IsWellFormed}}
@@ -27,13 +28,13 @@ use Rattle.sci_core.proofs.Shape.Chains.{none_empty}
 use Rattle.sci_core.proofs.Shape.ShapeRuns.{accept_stands, answered, ask_stands, issue_stands, opening_at_home, opening_shaped, operates_so, pending_known}
 use Rattle.sci_core.proofs.Shape.ShapeRuns.{refuse_stands, reply_stands, serve_does}
 use Rattle.sci_core.proofs.Shape.ShapeServes.{Answered, home_turns, other_line, served_shift, told_here, with_home, with_served}
-use Rattle.sci_core.proofs.Shape.ShapeSteps.{SameLine, homes_same, performed_moves, performed_same, view_of}
+use Rattle.sci_core.proofs.Shape.ShapeSteps.{SameLine, homes_same, overtaken_line, performed_moves, performed_same, view_of}
 use Rattle.sci_core.proofs.Shape.Shapes.{IsShaped}
 use Rattle.sci_core.proofs.Shape.Standings.{Coming, Leading, Leaves, Makes, Performs, Reads, performing_does}
 use Rattle.sci_core.proofs.{Shape.Views.{View, link_in}, Settling.Drains.{TookFrom, made_by, some_node, took_from}}
 use Rattle.sci_core.proofs.Basics.Options.{of_some}
 use Rattle.sci_core.proofs.WellFormed.Parts.{RepliesWell, SendsWell, part_asking, part_replying}
-use Rattle.sci_core.proofs.WellFormed.WellFormedSteps.{any_well, reachable_stepping, step_well, reachable_next}
+use Rattle.sci_core.proofs.WellFormed.WellFormedSteps.{any_well, reachable_stepping, step_well, move_well, moved_happens, reachable_moved}
 use Rattle.sci_core.proofs.{ReachedLaws.{any_shaped}, Tidy.TidyRuns.{any_tidy, run_reachable}}
 use Rattle.sci_core.proofs.Tidy.WaitingNodes.{Answers as AnswersTo, serve_answers}
 use Rattle.sci_core.proofs.FirstCome.Turns.{HomeTurns, One, Nobody as Unsucceeded, Succeeds, Turned, arrival_by, cache_turned, coming_ends, coming_in}
@@ -403,24 +404,31 @@ turned_round : (old new : View) (first : Option ℕ) (ns arrival : List ℕ) (t 
     → reverse (coming_in old ns) ++ arrival ≡ t.successor ++ reverse (coming_in new t.nodes)
 turned_round old new first ns arrival t single = grind (arith, reverse-append, coming_in, reverse_successor)
 
-stepped_turn : (core new : Core) (e : Event) (line : ℕ) (waiting then_ : List ℕ) → IsReachable core → stepping core e ≡ Some new → IsReachable new
-    → line < core.size.lines → new.size ≡ core.size → AreWaiting core line waiting → AreWaiting new line then_
-    → waiting ++ entrants core e line ≡ successors core new line ++ then_
-stepped_turn core new e line waiting then_ reached steps next inside same are now =
-    let well = any_well core reached in
+-- from how a line's list has turned, with the node that arrives
+turned_so : (core new : Core) (line : ℕ) (waiting then_ arrival : List ℕ) → IsReachable core → IsReachable new → line < core.size.lines
+    → new.size ≡ core.size → reverse arrival ≡ arrival
+    → ((c : Stamped) (ns : List ℕ) → IsShaped (view_of core line) (home_at core line) c ns → TurnedAt core new line ns arrival)
+    → AreWaiting core line waiting → AreWaiting new line then_ → waiting ++ arrival ≡ successors core new line ++ then_
+turned_so core new line waiting then_ arrival reached next inside same single turns are now =
     let was = any_shaped core reached line inside in
     let is = any_shaped new next line (subst (λ (size : Size). line < size.lines) (sym same) inside) in
-    let t = turned core new e well (any_tidy core reached) steps line inside was.0 was.1.0 was.1.1 in
-    let round = turned_round (view_of core line) (view_of new line) (head_of (home_at new line)) was.1.0 (entrants core e line) t
-    (reverse_entrants core e line) in
+    let t = turns was.0 was.1.0 was.1.1 in
+    let round = turned_round (view_of core line) (view_of new line) (head_of (home_at new line)) was.1.0 arrival t single in
     let one = linked_once (link_in (view_of new line)) (head_of (home_at new line)) is.1.0 t.nodes is.1.1.list.linked t.list.linked in
     let before = waiting_are core line was.0 was.1.0 waiting was.1.1 are in
     let after = waiting_are new line is.0 is.1.0 then_ is.1.1 now in
     let who = successors_are core new line t.successor (any_well new next) same t.succeeds in
     let there : then_ ≡ reverse (coming_in (view_of new line) t.nodes) = after ∙ ap (λ (xs : List ℕ). reverse (coming_in (view_of new line) xs)) one in
-    ap (λ (xs : List ℕ). xs ++ entrants core e line) before
+    ap (λ (xs : List ℕ). xs ++ arrival) before
     ∙ (round ∙ (ap (λ (xs : List ℕ). xs ++ reverse (coming_in (view_of new line) t.nodes)) (sym who)
     ∙ ap (λ (xs : List ℕ). successors core new line ++ xs) (sym there)))
+
+stepped_turn : (core new : Core) (e : Event) (line : ℕ) (waiting then_ : List ℕ) → IsReachable core → stepping core e ≡ Some new → IsReachable new
+    → line < core.size.lines → new.size ≡ core.size → AreWaiting core line waiting → AreWaiting new line then_
+    → waiting ++ entrants core e line ≡ successors core new line ++ then_
+stepped_turn core new e line waiting then_ reached steps next inside same are now =
+    turned_so core new line waiting then_ (entrants core e line) reached next inside same (reverse_entrants core e line)
+    (λ c ns is. turned core new e (any_well core reached) (any_tidy core reached) steps line inside c ns is) are now
 
 -- an event that isn't enabled lets nobody in
 unmoved_entrants : (core : Core) (e : Event) (line : ℕ) → stepping core e ≡ None → entrants core e line ≡ []
@@ -464,30 +472,61 @@ any_waiting core line reached inside =
     let shaped = any_shaped core reached line inside in
     (reverse (coming_in (view_of core line) shaped.1.0), waiting_of core line (home_at core line) shaped.0 shaped.1.0 refl shaped.1.1)
 
+-- over a network that keeps no order
+move_turns : (core : Core) (move : Move) (line : ℕ) (waiting then_ : List ℕ) → IsReachable core → IsReachable (moved core move) → line < core.size.lines
+    → AreWaiting core line waiting → AreWaiting (moved core move) line then_
+    → waiting ++ entrants_in core move line ≡ successors core (moved core move) line ++ then_
+move_turns core (Happens e) line waiting then_ reached next inside are now = step_turns core e line waiting then_ reached inside are now
+move_turns core (Overtakes place k) line waiting then_ reached next inside are now =
+    turned_so core (overtaken core place k) line waiting then_ [] reached next inside refl refl
+    (λ c ns is. stood_turned core (overtaken core place k) line c ns (overtaken_line core place k line (any_well core reached) (any_tidy core reached) inside) is)
+    are now
+
 -- from any state on
-run_turns : (core : Core) (events : List Event) (line : ℕ) (waiting then_ : List ℕ) → IsReachable core → line < core.size.lines → AreWaiting core line waiting
-    → AreWaiting (run_from core events) line then_ → waiting ++ entered core events line ≡ succeeded core events line ++ then_
-run_turns core [] line waiting then_ reached inside are now =
+moves_turn : (core : Core) (moves : List Move) (line : ℕ) (waiting then_ : List ℕ) → IsReachable core → line < core.size.lines
+    → AreWaiting core line waiting → AreWaiting (moved_from core moves) line then_
+    → waiting ++ entered_by core moves line ≡ succeeded_by core moves line ++ then_
+moves_turn core [] line waiting then_ reached inside are now =
     let shaped = any_shaped core reached line inside in
     append-nil waiting ∙ (waiting_are core line shaped.0 shaped.1.0 waiting shaped.1.1 are
     ∙ sym (waiting_are core line shaped.0 shaped.1.0 then_ shaped.1.1 now))
-run_turns core (e ∷ events) line waiting then_ reached inside are now =
-    let next = reachable_next core e (stepping core e) reached refl in
-    let kept = step_well core e (any_well core reached) in
-    let below : line < (step core e).size.lines = subst (λ (size : Size). line < size.lines) (sym kept.same) inside in
-    let mid = any_waiting (step core e) line next below in
-    let first = step_turns core e line waiting mid.0 reached inside are mid.1 in
-    let rest = run_turns (step core e) events line mid.0 then_ next below mid.1 now in
-    let who = successors core (step core e) line in
-    sym (append_assoc waiting (entrants core e line) (entered (step core e) events line))
-    ∙ (ap (λ (xs : List ℕ). xs ++ entered (step core e) events line) first ∙ (append_assoc who mid.0 (entered (step core e) events line)
-    ∙ (ap (λ (xs : List ℕ). who ++ xs) rest ∙ sym (append_assoc who (succeeded (step core e) events line) then_))))
+moves_turn core (move ∷ moves) line waiting then_ reached inside are now =
+    let next = reachable_moved core move reached in
+    let kept = move_well core move (any_well core reached) in
+    let below : line < (moved core move).size.lines = subst (λ (size : Size). line < size.lines) (sym kept.same) inside in
+    let mid = any_waiting (moved core move) line next below in
+    let first = move_turns core move line waiting mid.0 reached next inside are mid.1 in
+    let rest = moves_turn (moved core move) moves line mid.0 then_ next below mid.1 now in
+    let who = successors core (moved core move) line in
+    sym (append_assoc waiting (entrants_in core move line) (entered_by (moved core move) moves line))
+    ∙ (ap (λ (xs : List ℕ). xs ++ entered_by (moved core move) moves line) first
+    ∙ (append_assoc who mid.0 (entered_by (moved core move) moves line)
+    ∙ (ap (λ (xs : List ℕ). who ++ xs) rest ∙ sym (append_assoc who (succeeded_by (moved core move) moves line) then_))))
+
+-- from the opening on
+pub moves_in_turn : (size : Size) (moves : List Move) (line : ℕ) (waiting : List ℕ) → IsSize size → line < size.lines
+    → AreWaiting (moved_from (opening size) moves) line waiting
+    → entered_by (opening size) moves line ≡ succeeded_by (opening size) moves line ++ waiting
+moves_in_turn size moves line waiting sizes inside now =
+    let shaped = opening_shaped size line in
+    let empty = none_empty (link_in (view_of (opening size) line)) (head_of (home_at (opening size) line)) shaped.0
+    (ap head_of (opening_at_home size (line % size.nodes) line)) shaped.1.list in
+    moves_turn (opening size) moves line [] waiting (run_reachable size [] sizes) inside
+    (Nobody (subst (IsSharingList (opening size) line) empty shaped.1.list) refl) now
+
+-- of a schedule, whose events are moves
+entered_happen : (core : Core) (events : List Event) (line : ℕ) → entered_by core (map Happens events) line ≡ entered core events line
+entered_happen core [] line = refl
+entered_happen core (e ∷ events) line = ap (λ (xs : List ℕ). entrants core e line ++ xs) (entered_happen (step core e) events line)
+
+succeeded_happen : (core : Core) (events : List Event) (line : ℕ) → succeeded_by core (map Happens events) line ≡ succeeded core events line
+succeeded_happen core [] line = refl
+succeeded_happen core (e ∷ events) line = ap (λ (xs : List ℕ). successors core (step core e) line ++ xs) (succeeded_happen (step core e) events line)
 
 pub all_turns : (size : Size) (schedule : List Event) (line : ℕ) (waiting : List ℕ) → IsSize size → line < size.lines
     → AreWaiting (run size schedule) line waiting → AreInTurn size schedule line waiting
 all_turns size schedule line waiting sizes inside now =
-    let shaped = opening_shaped size line in
-    let empty = none_empty (link_in (view_of (opening size) line)) (head_of (home_at (opening size) line)) shaped.0
-    (ap head_of (opening_at_home size (line % size.nodes) line)) shaped.1.list in
-    run_turns (opening size) schedule line [] waiting (run_reachable size [] sizes) inside
-    (Nobody (subst (IsSharingList (opening size) line) empty shaped.1.list) refl) now
+    let moves = map Happens schedule in
+    let there = subst (λ (core : Core). AreWaiting core line waiting) (sym (moved_happens (opening size) schedule)) now in
+    sym (entered_happen (opening size) schedule line)
+    ∙ (moves_in_turn size moves line waiting sizes inside there ∙ ap (λ (xs : List ℕ). xs ++ waiting) (succeeded_happen (opening size) schedule line))

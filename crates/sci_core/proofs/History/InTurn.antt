@@ -1,5 +1,5 @@
 -- A node that has at most one operation pending at a time logs in the order issued.
-use Rattle.std.proofs.Common.{◌≡◌, ◌≢◌, ℕ, zero, suc, ◌+◌, ◌<◌, List, [], ◌∷◌, ◌++◌, get_or, set, take, Option, Some, None, refl, sym, ap, subst, ◌∙◌}
+use Rattle.std.proofs.Common.{◌≡◌, ◌≢◌, ℕ, zero, suc, ◌+◌, ◌<◌, List, [], ◌∷◌, ◌++◌, map, get_or, set, take, Option, Some, None, refl, sym, ap, subst, ◌∙◌}
 use Rattle.std.proofs.{Common.{arith, inl, inr}, lemmas.Bool.{cases_eq, cases_lt}}
 use Rattle.std.proofs.lemmas.List.{get_or-set_same, get_or-set_other, Elements.{All-from_recursion}}
 use Rattle.std.proofs.lemmas.List.Quantifiers.{all_pairs_push}
@@ -11,13 +11,14 @@ use Rattle.sci_cache.specs.Cache.{CacheOf}
 use Rattle.sci_core.specs.declared.pending.Pending.{Pending}
 use Rattle.sci_core.specs.Node.{NodeOf, opening_node, no_node, pending_on, entry_of, node_logged, may_issue, node_issued, node_issuing, node_performing}
 use Rattle.sci_core.specs.Node.{node_accepting, IsPendingOn, IsNode}
-use Rattle.sci_core.specs.{Core.{Core, node_at, with_node, stepping, step, opening, run_from, run}, Done.{performed}}
+use Rattle.sci_core.specs.{Core.{Core, node_at, with_node, stepping, step, opening, run}, Done.{performed}}
 use Rattle.sci_core.specs.{InTurn.{HasOnePending, IssuesInTurn}, Outcome.{logs_of}, Size.{Size, IsSize}}
+use Rattle.sci_core.specs.Network.{Happens, Move, MovesInTurn, Overtakes, moved, moved_from}
 use Rattle.sci_core.specs.WellFormed.{IsWellFormed}
 use Rattle.sci_core.proofs.Basics.{Lists.{if_either, at_place_set}, Options.{of_some, none_in}}
 use Rattle.sci_core.proofs.Step.{NodeSides.{PerformedAs, perform_as, serve_as, refuse_as, reply_as}, Nodes.{some_below}}
 use Rattle.sci_core.proofs.Step.Steps.{Stepped, By_issue, By_perform, By_ask, By_serve, By_refuse, By_reply, By_accept, stepping_stepped}
-use Rattle.sci_core.proofs.WellFormed.WellFormedSteps.{step_well, run_well, opened}
+use Rattle.sci_core.proofs.WellFormed.WellFormedSteps.{move_well, moved_happens, run_well, opened}
 use Rattle.sci_core.proofs.{ReachedLaws.{log_at, log_beyond, beyond_log}, Shape.ShapeRuns.{each_mapped}}
 use Rattle.sci_core.proofs.History.Works.{SameWork, ask_work, serve_work, accept_work}
 
@@ -130,11 +131,17 @@ step_turn core e n well one has = after_turn core e (stepping core e) (performed
 
 -- ---- a run
 
-pub run_turn : (core : Core) (events : List Event) (n : ℕ) → IsWellFormed core → ((place : ℕ) → HasOnePending (node_at (run_from core (take place events)) n))
-    → LogsInTurn (node_at core n) → LogsInTurn (node_at (run_from core events) n)
-run_turn core [] n well one has = has
-run_turn core (e ∷ events) n well one has =
-    run_turn (step core e) events n (step_well core e well).well (λ place. one (suc place)) (step_turn core e n well (one zero) has)
+-- over a network that keeps no order
+move_turn : (core : Core) (move : Move) (n : ℕ) → IsWellFormed core → HasOnePending (node_at core n) → LogsInTurn (node_at core n)
+    → LogsInTurn (node_at (moved core move) n)
+move_turn core (Happens e) n well one has = step_turn core e n well one has
+move_turn core (Overtakes place k) n well one has = has
+
+moves_turn : (core : Core) (moves : List Move) (n : ℕ) → IsWellFormed core
+    → ((place : ℕ) → HasOnePending (node_at (moved_from core (take place moves)) n)) → LogsInTurn (node_at core n) → LogsInTurn (node_at (moved_from core moves) n)
+moves_turn core [] n well one has = has
+moves_turn core (move ∷ moves) n well one has =
+    moves_turn (moved core move) moves n (move_well core move well).well (λ place. one (suc place)) (move_turn core move n well (one zero) has)
 
 none_below : (j : ℕ) → j < 0 → ⊥
 none_below j lt = omega arith
@@ -146,12 +153,27 @@ opening_turn : (me : ℕ) (size : Size) → LogsInTurn (opening_node me size)
 opening_turn me size = grind (arith, empty_in_order, none_in)
 
 -- from the opening on
+pub moves_logged_in_turn : (size : Size) (moves : List Move) (n : ℕ) → IsSize size → MovesInTurn size moves n
+    → IsInProgramOrder (node_at (moved_from (opening size) moves) n).log
+moves_logged_in_turn size moves n sizes one =
+    let first = each_mapped LogsInTurn (λ (m : ℕ). opening_node m size) no_node 0 size.nodes n (λ m. opening_turn m size)
+    (opening_turn 0 (record { nodes = 1; lines = 0; slots = 0; limit = 0 })) in
+    (moves_turn (opening size) moves n (opened size sizes) one first).rising
+
+-- of a schedule, whose events are moves
+taken_happen : (place : ℕ) (events : List Event) → take place (map Happens events) ≡ map Happens (take place events)
+taken_happen zero events = refl
+taken_happen (suc place) [] = refl
+taken_happen (suc place) (e ∷ events) = ap (λ (ms : List Move). Happens e ∷ ms) (taken_happen place events)
+
 pub schedule_turn : (size : Size) (schedule : List Event) (n : ℕ) → IsSize size → IssuesInTurn size schedule n
     → IsInProgramOrder (node_at (run size schedule) n).log
 schedule_turn size schedule n sizes one =
-    let first = each_mapped LogsInTurn (λ (m : ℕ). opening_node m size) no_node 0 size.nodes n (λ m. opening_turn m size)
-    (opening_turn 0 (record { nodes = 1; lines = 0; slots = 0; limit = 0 })) in
-    (run_turn (opening size) schedule n (opened size sizes) one first).rising
+    let so : MovesInTurn size (map Happens schedule) n = λ place.
+    subst (λ (core : Core). HasOnePending (node_at core n))
+    (sym (ap (moved_from (opening size)) (taken_happen place schedule) ∙ moved_happens (opening size) (take place schedule))) (one place) in
+    subst (λ (core : Core). IsInProgramOrder (node_at core n).log) (moved_happens (opening size) schedule)
+    (moves_logged_in_turn size (map Happens schedule) n sizes so)
 
 pub schedules_in_turn : (size : Size) (schedule : List Event) → IsSize size → ((n : ℕ) → n < size.nodes → IssuesInTurn size schedule n)
     → AreInProgramOrder (logs_of (run size schedule))

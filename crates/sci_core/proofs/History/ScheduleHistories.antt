@@ -1,5 +1,5 @@
 -- The entries of a schedule on a line are the line's history, and the nodes' logs are theirs.
-use Rattle.std.proofs.Common.{◌≡◌, ℕ, ◌<◌, List, [], ◌∷◌, ◌++◌, length, filter, append_assoc, Option, Some, None, refl, sym, ap, subst, ◌∙◌, arith}
+use Rattle.std.proofs.Common.{◌≡◌, ℕ, ◌<◌, List, [], ◌∷◌, ◌++◌, length, filter, map, append_assoc, Option, Some, None, refl, sym, ap, subst, ◌∙◌, arith}
 use Rattle.std.proofs.lemmas.{Option.{IfSome_then}, Bool.{cases_eq, eq-eqb, ne_eqb}}
 use Rattle.std.proofs.lemmas.List.{append-nil, get_or-set_same, get_or-set_other, Elements.{filter-append}}
 use Rattle.std.specs.{Prelude.{IsTrue, IfSome, unwrap_or, option_to_list}, List.{AllByRecursion}}
@@ -9,16 +9,16 @@ use Rattle.sci_history.specs.Placed.{is_of_node, is_on_line}
 use Rattle.sci_history.proofs.Order.{filter_yes, filter_no}
 use Rattle.sci_cache.specs.Cache.{Letter}
 use Rattle.sci_core.specs.Node.{NodeOf, node_issuing, node_performing, node_asking, node_serving, node_refusing, node_replying, node_accepting, pending_on}
-use Rattle.sci_core.specs.{Node.{IsPendingOn, no_node}, Core.{Core, node_at, with_node, stepping, step, run_from}}
+use Rattle.sci_core.specs.{Node.{IsPendingOn, no_node}, Core.{Core, node_at, with_node, stepping, step}}
 use Rattle.sci_core.specs.{Done.{performed, ChangesBy, made_by, done_from}, Tidy.{IsTidy}, WellFormed.{IsWellFormed}}
-use Rattle.sci_core.specs.Size.{Size}
-use Rattle.sci_core.proofs.{Basics.{Lists.{at_place_set}, Options.{of_some}}, WellFormed.WellFormedSteps.{step_well}}
-use Rattle.sci_core.proofs.Tidy.TidyRuns.{node_below, step_tidy}
+use Rattle.sci_core.specs.{Network.{Happens, Move, Overtakes, entries_by, made_in, moved, moved_from}, Size.{Size}}
+use Rattle.sci_core.proofs.{Basics.{Lists.{at_place_set}, Options.{of_some}}, WellFormed.WellFormedSteps.{move_well}}
+use Rattle.sci_core.proofs.Tidy.TidyRuns.{node_below, move_tidy}
 use Rattle.sci_core.proofs.Step.Steps.{Stepped, By_issue, By_perform, By_ask, By_serve, By_refuse, By_reply, By_accept, stepping_stepped}
 use Rattle.sci_core.proofs.Step.NodeSides.{PerformedAs, ServedAs, RefusedAs, perform_as, serve_as, refuse_as, reply_as}
 use Rattle.sci_core.proofs.History.Works.{SameWork, HasSerials, same_serials, issue_serials, issue_log, perform_serials, perform_logs, perform_owns}
 use Rattle.sci_core.proofs.{History.Works.{ask_work, serve_work, accept_work}, Shape.ShapeSteps.{ShapedAt}}
-use Rattle.sci_core.proofs.Shape.ShapeRuns.{step_follows, pending_known}
+use Rattle.sci_core.proofs.Shape.ShapeRuns.{move_follows, pending_known}
 
 -- ---- a line's history
 
@@ -28,16 +28,22 @@ history_made : (made : Option Entry) (line : ℕ) (c d e : Stamped) (rest : List
 history_made None line c d e rest changes history = subst (λ (s : Stamped). IsHistory (filter (is_on_line line) rest) s e) changes history
 history_made (Some entry) line c d e rest changes history = grind (arith, cases_eq, filter_yes, eq-eqb, filter_no, ne_eqb)
 
-pub run_follows : (core : Core) (events : List Event) → IsWellFormed core → IsTidy core → (line : ℕ) → line < core.size.lines → (c : Stamped)
+-- over a network that keeps no order
+pub moves_follow : (core : Core) (moves : List Move) → IsWellFormed core → IsTidy core → (line : ℕ) → line < core.size.lines → (c : Stamped)
     → ShapedAt core line c
-    → (d : Stamped) × ShapedAt (run_from core events) line d × IsHistory (filter (is_on_line line) (done_from core events)) c d
-run_follows core [] well tidy line inside c shaped = (c, shaped, refl)
-run_follows core (e ∷ events) well tidy line inside c shaped =
-    let one = step_follows core e well tidy line inside c shaped in
-    let next = step_well core e well in
-    let rest = run_follows (step core e) events next.well (step_tidy core e well tidy) line (subst (λ (size : Size). line < size.lines) (sym next.same) inside)
-    one.0 one.1 in
-    (rest.0, rest.1, history_made (made_by core e) line c one.0 rest.0 (done_from (step core e) events) one.2 rest.2)
+    → (d : Stamped) × ShapedAt (moved_from core moves) line d × IsHistory (filter (is_on_line line) (entries_by core moves)) c d
+moves_follow core [] well tidy line inside c shaped = (c, shaped, refl)
+moves_follow core (move ∷ moves) well tidy line inside c shaped =
+    let one = move_follows core move well tidy line inside c shaped in
+    let next = move_well core move well in
+    let rest = moves_follow (moved core move) moves next.well (move_tidy core move well tidy) line
+    (subst (λ (size : Size). line < size.lines) (sym next.same) inside) one.0 one.1 in
+    (rest.0, rest.1, history_made (made_in core move) line c one.0 rest.0 (entries_by (moved core move) moves) one.2 rest.2)
+
+-- events alone are moves
+pub entries_happen : (core : Core) (events : List Event) → entries_by core (map Happens events) ≡ done_from core events
+entries_happen core [] = refl
+entries_happen core (e ∷ events) = ap (λ (es : List Entry). option_to_list (made_by core e) ++ es) (entries_happen (step core e) events)
 
 -- ---- logs
 
@@ -140,15 +146,19 @@ one_within : (made : Option Entry) (P : Entry → Type 0) (rest : List Entry) �
 one_within None P rest h all = all
 one_within (Some entry) P rest h all = (h, all)
 
-pub run_logged : (core : Core) (events : List Event) → IsWellFormed core → ((n : ℕ) → HasSerials (node_at core n))
-    → RunLogged core (done_from core events) (run_from core events)
-run_logged core [] well serials = record { serials = serials; logs = λ n. sym (append-nil (node_at core n).log); nodes = tt; known = tt }
-run_logged core (e ∷ events) well serials =
-    let next = step_well core e well in
-    let one = step_logged core e well in
-    let rest = run_logged (step core e) events next.well (one.serials serials) in
-    let made = made_by core e in
-    let more = done_from (step core e) events in
+move_logged : (core : Core) (move : Move) → IsWellFormed core → Logged core (made_in core move) (moved core move)
+move_logged core (Happens e) well = step_logged core e well
+move_logged core (Overtakes place k) well = record { serials = λ all. all; logs = λ n. sym (append-nil (node_at core n).log); within = tt }
+
+pub moves_logged : (core : Core) (moves : List Move) → IsWellFormed core → ((n : ℕ) → HasSerials (node_at core n))
+    → RunLogged core (entries_by core moves) (moved_from core moves)
+moves_logged core [] well serials = record { serials = serials; logs = λ n. sym (append-nil (node_at core n).log); nodes = tt; known = tt }
+moves_logged core (move ∷ moves) well serials =
+    let next = move_well core move well in
+    let one = move_logged core move well in
+    let rest = moves_logged (moved core move) moves next.well (one.serials serials) in
+    let made = made_in core move in
+    let more = entries_by (moved core move) moves in
     record {
       serials = rest.serials;
       logs = λ n. rest.logs n ∙ (ap (λ (log : List Entry). log ++ filter (is_of_node n) more) (one.logs n)

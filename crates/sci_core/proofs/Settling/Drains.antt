@@ -1,9 +1,9 @@
 -- Every event that moves a packet on lowers the weight by one, and while it is above 0 one is enabled.
-use Rattle.std.proofs.Common.{◌≡◌, ℕ, suc, ◌+◌, ◌-◌, ◌*◌, ◌/◌, ◌%◌, ◌<◌, ◌≤◌, ◌&&◌, Bool, true, false, if◌then◌else◌, List, [], ◌∷◌, ◌++◌, length, get_or}
+use Rattle.std.proofs.Common.{◌≡◌, ℕ, suc, ◌+◌, ◌-◌, ◌*◌, ◌/◌, ◌%◌, ◌<◌, ◌≤◌, ◌&&◌, Bool, true, false, if◌then◌else◌, List, [], ◌∷◌, ◌++◌, length, get_or, take, drop}
 use Rattle.std.proofs.Common.{Option, Some, None, refl, sym, ap, subst, ◌∙◌, zero, arith, inl, inr}
-use Rattle.std.proofs.lemmas.{Bool.{cases_lt}, List.Sums.{sum_by-cons, sum_by-set, sum_by_push}}
+use Rattle.std.proofs.lemmas.{Bool.{cases_lt}, List.{set_past, take-append-drop, Sums.{sum_by-append, sum_by-cons, sum_by-set, sum_by_push}}}
 use Rattle.std.proofs.Math.Nat.{div-add-mod, div-lt_iff_lt-mul, mod-lt, mul_comm}
-use Rattle.std.specs.{Prelude.{◌⊎◌, IfSome, IsSome, is_some, option_map, slice_get, unwrap_or}, List.{sum_by}}
+use Rattle.std.specs.{Prelude.{◌⊎◌, IfSome, IsSome, is_some, option_map, slice_get, unwrap_or}, List.{AllByRecursion, sum_by}}
 use Rattle.sci_words.specs.declared.event.{AskKind.{AskKind}, Event.{Event}}
 use Rattle.sci_history.specs.declared.entry.Entry.{Entry}
 use Rattle.sci_packets.specs.Table.{IsRequest, is_request}
@@ -14,6 +14,7 @@ use Rattle.sci_core.specs.Core.{with_node}
 use Rattle.sci_core.specs.Draining.{AskNothing, CanDrain, Drained, Drains, IsDrained, answer_weight, is_asking, lane_weight, letter_weight, moves_made}
 use Rattle.sci_core.specs.Draining.{moves_on, one_if, weight}
 use Rattle.sci_core.specs.Node.{NodeOf, no_node, node_accepting, node_asking, node_issuing, node_performing, node_refusing, node_replying, node_serving}
+use Rattle.sci_core.specs.Network.{Happens, Move, Overtakes, asks_in, brings_in, brought, brought_on, moved, moved_from, overtaken}
 use Rattle.sci_core.specs.{Reached.{IsReachable}, Sides.{TakesFront, taken_to}, WellFormed.{IsWellFormed}}
 use Rattle.sci_core.proofs.Step.{Applied.{front_comes, waits_replying}, Sides.{steps_by_sides, takes}}
 use Rattle.sci_core.proofs.Step.{Stepping.{stepping_from_nobody, stepping_nobody}, Steps.{lane_below}}
@@ -21,7 +22,7 @@ use Rattle.sci_core.proofs.Tidy.{Enabled.{any_accept_enabled, serve_enabled}, Ti
 use Rattle.sci_core.proofs.Tidy.WaitingNodes.{Accepts, Answers as AnswersTo, AsksOnce, Stays, ask_once, accept_accepts, issue_stays, perform_stays}
 use Rattle.sci_core.proofs.Tidy.WaitingNodes.{refuse_answers, reply_replies, serve_answers}
 use Rattle.sci_core.proofs.{Basics.Options.{of_some, map_some}, WellFormed.Parts.{SendsWell, part_asking}}
-use Rattle.sci_core.proofs.WellFormed.WellFormedSteps.{any_well, reachable_next}
+use Rattle.sci_core.proofs.WellFormed.WellFormedSteps.{any_well, reachable_next, reachable_moved}
 use Rattle.sci_words.specs.declared.event.Event.TheVariants as event
 
 -- ---- weights after a change
@@ -202,6 +203,40 @@ run_weighs core [] reached asks = omega arith
 run_weighs core (e ∷ events) reached asks =
     let first = step_weighs core e (stepping core e) reached asks.0 refl in
     let rest = run_weighs (step core e) events (step_reachable core e reached) asks.1 in
+    omega arith
+
+-- over a network that keeps no order
+weighs_brought : (k : ℕ) (lane : List Letter) → lane_weight (brought k lane) ≡ lane_weight lane
+weighs_brought k lane =
+    let whole = ap lane_weight (take-append-drop k lane) in
+    let later = ap lane_weight (take-append-drop 1 (drop k lane)) in
+    let a = sum_by-append letter_weight (take k lane) (drop k lane) in
+    let b = sum_by-append letter_weight (take 1 (drop k lane)) (drop 1 (drop k lane)) in
+    let c = sum_by-append letter_weight (take 1 (drop k lane)) (take k lane ++ drop 1 (drop k lane)) in
+    let d = sum_by-append letter_weight (take k lane) (drop 1 (drop k lane)) in
+    omega arith
+
+overtaken_weighs : (core : Core) (place k : ℕ) → weight (overtaken core place k) ≡ weight core
+overtaken_weighs core place k =
+    let same = weighs_brought k (lane_at core place) in
+    let waiting = sum_by (λ (part : NodeOf). answer_weight part.waiting) core.parts in
+    elim (cases_lt place (length core.lanes)) [
+      | inl within ↦
+          let then_ = sum_by-set lane_weight core.lanes place (brought k (lane_at core place)) [] within in
+          omega arith
+      | inr past ↦ ap (λ (lanes : List (List Letter)). waiting + sum_by lane_weight lanes) (set_past core.lanes place (brought k (lane_at core place)) past)
+    ]
+
+move_weighs : (core : Core) (move : Move) → IsReachable core → asks_in move ≡ false → weight core ≡ weight (moved core move) + brings_in core move
+move_weighs core (Happens e) reached asks = step_weighs core e (stepping core e) reached asks refl
+move_weighs core (Overtakes place k) reached asks = let same = overtaken_weighs core place k in omega arith
+
+pub moves_weigh : (core : Core) (moves : List Move) → IsReachable core → AllByRecursion (λ move. asks_in move ≡ false) moves
+    → weight core ≡ weight (moved_from core moves) + brought_on core moves
+moves_weigh core [] reached asks = omega arith
+moves_weigh core (move ∷ moves) reached asks =
+    let first = move_weighs core move reached asks.0 in
+    let rest = moves_weigh (moved core move) moves (reachable_moved core move reached) asks.1 in
     omega arith
 
 -- ---- what is left under way

@@ -15,6 +15,7 @@ use Rattle.sci_core.specs.Node.{node_refusing, node_replying, node_accepting, no
 use Rattle.sci_core.specs.Core.{Core, node_at, with_node, with_lane, lane_place, stepping, step, opening}
 use Rattle.sci_core.specs.{Done.{performed, TakesEffect, ChangesBy, made_by}, Sharing.{is_about}, Tidy.{IsTidy}}
 use Rattle.sci_core.specs.{WellFormed.{IsPart, IsWellFormed}, Size.{Size}}
+use Rattle.sci_core.specs.Network.{Happens, Move, Overtakes, made_in, moved, overtaken}
 use Rattle.sci_core.proofs.{Basics.Options.{of_some}, Step.Nodes.{some_below}}
 use Rattle.sci_core.proofs.Step.Steps.{Sent, Taken, Stepped, By_issue, By_perform, By_ask, By_serve, By_refuse, By_reply, By_accept, stepping_stepped}
 use Rattle.sci_core.proofs.Step.NodeSides.{Unmoved, PerformedAs, AsksAlike, ServedAs, At_home, In_cache, RefusedAs, AcceptsAlike, issue_unmoved}
@@ -25,7 +26,7 @@ use Rattle.sci_core.proofs.Tidy.{WaitingNodes.{reply_replies, accept_accepts}, T
 use Rattle.sci_core.proofs.Tidy.TidyRuns.{node_below, waiting_answers, opening_none}
 use Rattle.sci_core.proofs.Shape.Standings.{Performs, performing_does, alike_itself}
 use Rattle.sci_core.proofs.Shape.ShapeSteps.{view_of, ShapedAt, SameLine, same_shaped, changed_same, Operates, performed_same, performed_did, asked_same}
-use Rattle.sci_core.proofs.Shape.ShapeSteps.{replied_same, accepted_same}
+use Rattle.sci_core.proofs.Shape.ShapeSteps.{replied_same, accepted_same, overtaken_line}
 use Rattle.sci_core.proofs.Shape.ShapeServes.{Answered, refused_same, home_kept, cache_kept}
 
 -- a line has its shape still, and its last contents are as the entry tells
@@ -250,6 +251,13 @@ pub step_follows : (core : Core) (e : Event) → IsWellFormed core → IsTidy co
     → Follows (step core e) (made_by core e) line c
 step_follows core e well tidy line inside c shaped =
     after_follows core e (stepping core e) (performed core e) well tidy (stepping_stepped core e well) line inside c shaped
+
+-- over a network that keeps no order
+pub move_follows : (core : Core) (move : Move) → IsWellFormed core → IsTidy core → (line : ℕ) → line < core.size.lines → (c : Stamped)
+    → ShapedAt core line c → Follows (moved core move) (made_in core move) line c
+move_follows core (Happens e) well tidy line inside c shaped = step_follows core e well tidy line inside c shaped
+move_follows core (Overtakes place k) well tidy line inside c shaped =
+    same_follows core (overtaken core place k) None line c refl (overtaken_line core place k line well tidy inside) shaped
 
 -- ---- the opening
 

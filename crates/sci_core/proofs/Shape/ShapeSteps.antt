@@ -9,10 +9,12 @@ use Rattle.sci_home.specs.declared.state.HomeState.{HomeState}
 use Rattle.sci_cache.specs.{Performing.{Performed}, Line.{LineState}, Cache.{Letter, line_of}}
 use Rattle.sci_core.specs.Node.{NodeOf, lines_of, home_of, no_node}
 use Rattle.sci_core.specs.Core.{Core, node_at, with_node, lane_at, with_lane}
+use Rattle.sci_core.specs.{Network.{overtaken}, WellFormed.{IsWellFormed}}
 use Rattle.sci_core.specs.{Sharing.{is_about, packets_of, answer_in, home_at, answer_to as told}, Tidy.{IsTidy}}
 use Rattle.sci_core.proofs.Basics.Lists.{at_place_set}
 use Rattle.sci_core.proofs.Tidy.PacketMoves.{packets_changed, packets_same, packets_asked, packets_replied, packets_accepted, filter_joined, filter_left}
 use Rattle.sci_core.proofs.Tidy.{PacketMoves.{filter_one, lane_has, node_has}, RowWaits.{idle_has_none, some_has_one}}
+use Rattle.sci_core.proofs.Tidy.Overtaking.{overtaken_packets}
 use Rattle.sci_core.proofs.Tidy.WaitingNodes.{AsksOnce, Replies, Accepts}
 use Rattle.sci_core.proofs.Tidy.TidySteps.{about_from, about_line, about_asker, request_asker, answer_asker, same_line}
 use Rattle.sci_core.proofs.Shape.{Views.{View}, Standings.{Alike, alike_itself, Performs}}
@@ -224,3 +226,13 @@ accepted_same core n place next answer rest lt below within front answers to kno
             (ap answer_in packets)
       ];
     }
+
+-- ---- a packet overtakes others of its lane
+
+pub overtaken_line : (core : Core) (place k line : ℕ) → IsWellFormed core → IsTidy core → line < core.size.lines
+    → SameLine core (overtaken core place k) line
+overtaken_line core place k line well tidy inside = record {
+  home = refl;
+  alike = λ m. alike_same (view_of core line) (view_of (overtaken core place k) line) m refl
+      (ap answer_in (overtaken_packets core place k m line well tidy inside));
+}

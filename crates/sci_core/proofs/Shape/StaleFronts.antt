@@ -10,19 +10,20 @@ use Rattle.sci_home.specs.Serving.{serving_clear, serving_claim, serving_fread, 
 use Rattle.sci_cache.specs.{State.{CacheState, Asking, Head, Claiming, Clearing, Returning}, Performing.{performing}}
 use Rattle.sci_cache.specs.{Serving.{serving}, Line.{LineState, line_in, untouched}, Cache.{Letter, line_of}}
 use Rattle.sci_core.specs.declared.lane.LaneKind.TheVariants.{Requests}
-use Rattle.sci_core.specs.{Core.{Core, node_at, run_from, step, stepping, with_lane, with_node}, Done.{performed}}
+use Rattle.sci_core.specs.{Core.{Core, node_at, stepping, with_lane, with_node}, Done.{performed}}
+use Rattle.sci_core.specs.Network.{Happens, Move, Overtakes, moved, moved_from, overtaken}
 use Rattle.sci_core.specs.{Fresh.{is_fresh}, Node.{NodeOf, no_node, node_serving}, Reached.{IsReachable}}
 use Rattle.sci_core.specs.{Sharing.{answer_in, home_at, answer_to as told}, Shape.{IsGoneStale}, Size.{Size}}
 use Rattle.sci_core.specs.{Tidy.{IsSentIn, IsTidy}, WellFormed.{IsPart, IsWellFormed}}
 use Rattle.sci_core.proofs.Shape.{Heads.{if_head}, Led.{fresh_in, same_fresh}, Shapes.{Asks, home_sent}}
 use Rattle.sci_core.proofs.Shape.ShapeRuns.{LineStep, Performed, Served, Stood, answered, line_steps, operates_so, opening_at_home}
 use Rattle.sci_core.proofs.Shape.ShapeServes.{Answered, home_keeps, other_line, served_shift, with_served}
-use Rattle.sci_core.proofs.Shape.ShapeSteps.{SameLine, homes_same, view_of}
+use Rattle.sci_core.proofs.Shape.ShapeSteps.{SameLine, homes_same, overtaken_line, view_of}
 use Rattle.sci_core.proofs.Shape.{Standings.{Leaves, Makes, Performs, Reads, performing_does}, Views.{Shift, View}}
 use Rattle.sci_core.proofs.Step.NodeSides.{At_home, In_cache, PerformedAs, ServedAs}
 use Rattle.sci_core.proofs.{Step.Steps.{Stepped, Taken, stepping_stepped}, Basics.Options.{of_some}}
-use Rattle.sci_core.proofs.Tidy.{PacketMoves.{packets_changed}, TidyRuns.{opening_tidy, step_tidy}}
-use Rattle.sci_core.proofs.{Tidy.WaitingNodes.{Answers, serve_answers}, WellFormed.WellFormedSteps.{opened, step_well}}
+use Rattle.sci_core.proofs.Tidy.{PacketMoves.{packets_changed}, TidyRuns.{opening_tidy, move_tidy}}
+use Rattle.sci_core.proofs.{Tidy.WaitingNodes.{Answers, serve_answers}, WellFormed.WellFormedSteps.{opened, move_well}}
 use Rattle.sci_packets.specs.declared.body.Body.TheVariants as body
 use Rattle.sci_home.specs.declared.state.HomeState.TheVariants as at
 
@@ -245,13 +246,20 @@ after_stale core e made (Some new) well tidy stepped line inside stale =
 
 -- ---- every reached state
 
-run_stale : (core : Core) (events : List Event) (line : ℕ) → IsWellFormed core → IsTidy core → line < core.size.lines → StaleAt core line
-    → StaleAt (run_from core events) line
-run_stale core [] line well tidy inside stale = stale
-run_stale core (e ∷ events) line well tidy inside stale =
-    let then_ = step_well core e well in
-    run_stale (step core e) events line then_.well (step_tidy core e well tidy) (subst (λ (size : Size). line < size.lines) (sym then_.same) inside)
-    (after_stale core e (performed core e) (stepping core e) well tidy (stepping_stepped core e well) line inside stale)
+move_stale : (core : Core) (move : Move) (line : ℕ) → IsWellFormed core → IsTidy core → line < core.size.lines → StaleAt core line
+    → StaleAt (moved core move) line
+move_stale core (Happens e) line well tidy inside stale =
+    after_stale core e (performed core e) (stepping core e) well tidy (stepping_stepped core e well) line inside stale
+move_stale core (Overtakes place k) line well tidy inside stale =
+    stood_stale core (overtaken core place k) line (overtaken_line core place k line well tidy inside) stale
+
+moves_stale : (core : Core) (moves : List Move) (line : ℕ) → IsWellFormed core → IsTidy core → line < core.size.lines → StaleAt core line
+    → StaleAt (moved_from core moves) line
+moves_stale core [] line well tidy inside stale = stale
+moves_stale core (move ∷ moves) line well tidy inside stale =
+    let then_ = move_well core move well in
+    moves_stale (moved core move) moves line then_.well (move_tidy core move well tidy) (subst (λ (size : Size). line < size.lines) (sym then_.same) inside)
+    (move_stale core move line well tidy inside stale)
 
 gone_so : (core : Core) (line : ℕ) (home : HomeState) → IsStale (view_of core line) home → IsGoneStale core line home
 gone_so core line (at.Home c) stale = tt
@@ -259,4 +267,4 @@ gone_so core line (at.Fresh p c) stale = tt
 gone_so core line (at.Gone p) stale = stale
 
 pub any_stale : (core : Core) (line : ℕ) → IsReachable core → line < core.size.lines → IsGoneStale core line (home_at core line)
-any_stale core line reached inside = grind (arith, run_stale, opened, opening_tidy, view_of, opening_at_home, gone_so)
+any_stale core line reached inside = grind (arith, moves_stale, opened, opening_tidy, view_of, opening_at_home, gone_so)

@@ -7,7 +7,7 @@ use Rattle.sci_core.specs.{Node.{NodeOf, no_node}, Core.{Core, node_at, with_nod
 use Rattle.sci_core.specs.Sharing.{is_about, packets_of}
 use Rattle.sci_core.proofs.Basics.FlatMaps.{around, flat_same, flat_from_none, flat_from_one, nothing_before, nothing_after}
 
-abbrev waits_in : (Letter → Bool) → NodeOf → List Letter
+abbrev pub waits_in : (Letter → Bool) → NodeOf → List Letter
 waits_in q part = filter q (option_to_list part.waiting)
 
 filter_flat : {X : Type 0} (q : Letter → Bool) (f : X → List Letter) (xs : List X) → filter q (flat_map f xs) ≡ flat_map (λ x. filter q (f x)) xs
@@ -15,10 +15,10 @@ filter_flat q f [] = refl
 filter_flat q f (x ∷ xs) = filter-append q (f x) (flat_map f xs) ∙ ap (λ ys. filter q (f x) ++ ys) (filter_flat q f xs)
 
 -- the packets that wait, and those in lanes
-abbrev two_parts : (Letter → Bool) → List NodeOf → List (List Letter) → List Letter
+abbrev pub two_parts : (Letter → Bool) → List NodeOf → List (List Letter) → List Letter
 two_parts q parts lanes = flat_map (waits_in q) parts ++ flat_map (filter q) lanes
 
-packets_are : (core : Core) (m k : ℕ) → packets_of core m k ≡ two_parts (is_about m k) core.parts core.lanes
+pub packets_are : (core : Core) (m k : ℕ) → packets_of core m k ≡ two_parts (is_about m k) core.parts core.lanes
 packets_are core m k = grind (arith, filter-append, filter_flat)
 
 -- ---- filters

@@ -9,10 +9,12 @@ use Rattle.sci_packets.specs.Table.{is_request}
 use Rattle.sci_core.specs.declared.lane.LaneKind.TheVariants.{Requests}
 use Rattle.sci_core.specs.Node.{NodeOf, opening_node, node_performing, node_serving, node_refusing, node_accepting, lines_of}
 use Rattle.sci_core.specs.{Core.{Core, node_at, stepping, step, opening, run_from, run}, Done.{performed}}
+use Rattle.sci_core.specs.Network.{Happens, Move, Overtakes, moved, moved_from}
 use Rattle.sci_core.specs.{Reached.{IsReachable, IsReached}, Sharing.{packets_of}, Tidy.{IsTidy}}
 use Rattle.sci_core.specs.{WellFormed.{IsPart, IsWellFormed}, Size.{Size, IsSize, IsMachineSize}}
 use Rattle.sci_core.proofs.{Basics.Options.{of_some}, WellFormed.Parts.{part_serving, part_refusing}}
-use Rattle.sci_core.proofs.WellFormed.WellFormedSteps.{step_well, run_well, is_size, reachable, opened}
+use Rattle.sci_core.proofs.WellFormed.WellFormedSteps.{step_well, run_well, is_size, reachable, opened, move_well, moved_happens}
+use Rattle.sci_core.proofs.Tidy.Overtaking.{overtaken_tidy}
 use Rattle.sci_core.proofs.Tidy.WaitingNodes.{Stays, Answers, Accepts, issue_stays, perform_stays, ask_once, serve_answers, refuse_answers, reply_replies}
 use Rattle.sci_core.proofs.Tidy.WaitingNodes.{accept_accepts}
 use Rattle.sci_core.proofs.Tidy.TidySteps.{changed_tidy, asked_tidy, replied_tidy, served_tidy, accepted_tidy}
@@ -74,6 +76,15 @@ pub run_tidy : (core : Core) (events : List Event) → IsWellFormed core → IsT
 run_tidy core [] well tidy = tidy
 run_tidy core (e ∷ events) well tidy = run_tidy (step core e) events (step_well core e well).well (step_tidy core e well tidy)
 
+-- over a network that keeps no order
+pub move_tidy : (core : Core) (move : Move) → IsWellFormed core → IsTidy core → IsTidy (moved core move)
+move_tidy core (Happens e) well tidy = step_tidy core e well tidy
+move_tidy core (Overtakes place k) well tidy = overtaken_tidy core place k well tidy
+
+pub moves_tidy : (core : Core) (moves : List Move) → IsWellFormed core → IsTidy core → IsTidy (moved_from core moves)
+moves_tidy core [] well tidy = tidy
+moves_tidy core (move ∷ moves) well tidy = moves_tidy (moved core move) moves (move_well core move well).well (move_tidy core move well tidy)
+
 -- ---- the opening
 
 nothing_waits : (size : Size) (a count : ℕ)
@@ -92,7 +103,7 @@ pub opening_tidy : (size : Size) → IsTidy (opening size)
 opening_tidy size n line lt below = grind (arith, get_or-map-range_with_len, get_or-replicate, opening_none)
 
 pub any_tidy : (core : Core) → IsReachable core → IsTidy core
-any_tidy core reached = subst IsTidy reached.leads (run_tidy (opening core.size) reached.schedule (opened core.size reached.size) (opening_tidy core.size))
+any_tidy core reached = subst IsTidy reached.leads (moves_tidy (opening core.size) reached.moves (opened core.size reached.size) (opening_tidy core.size))
 
 pub reached_tidy : (core : Core) → IsReached core → IsTidy core
 reached_tidy core reached = any_tidy core (reachable core reached)
@@ -101,7 +112,16 @@ pub run_size : (size : Size) (schedule : List Event) → IsSize size → (run si
 run_size size schedule sizes = (run_well (opening size) schedule (opened size sizes)).same
 
 pub run_reachable : (size : Size) (schedule : List Event) → IsSize size → IsReachable (run size schedule)
-run_reachable size schedule sizes = grind (arith, run_size)
+run_reachable size schedule sizes =
+    let same = run_size size schedule sizes in
+    record {
+      size = subst IsSize (sym same) sizes;
+      moves = map Happens schedule;
+      leads = subst (λ (s : Size). moved_from (opening s) (map Happens schedule) ≡ run size schedule) (sym same)
+          (moved_happens (opening size) schedule);
+    }
 
 pub run_reached : (size : Size) (schedule : List Event) → IsMachineSize size → IsReached (run size schedule)
-run_reached size schedule sizes = grind (arith, run_size, is_size)
+run_reached size schedule sizes =
+    let is = run_reachable size schedule (is_size size sizes) in
+    record { size = subst IsMachineSize (sym (run_size size schedule (is_size size sizes))) sizes; moves = is.moves; leads = is.leads }

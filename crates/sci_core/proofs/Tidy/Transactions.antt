@@ -1,5 +1,5 @@
 -- Transactions alternate, since the packets under way tell how far each is.
-use Rattle.std.proofs.Common.{◌≡◌, ℕ, ◌%◌, ◌<◌, Bool, true, false, if◌then◌else◌, List, [], ◌∷◌, ◌++◌, length, filter, Option, Some, None, refl, sym, ap}
+use Rattle.std.proofs.Common.{◌≡◌, ℕ, ◌%◌, ◌<◌, Bool, true, false, if◌then◌else◌, List, [], ◌∷◌, ◌++◌, length, filter, map, Option, Some, None, refl, sym, ap}
 use Rattle.std.proofs.{Common.{subst, ◌∙◌, inl, inr, arith}, lemmas.{Bool.{cases_Bool}, List.Elements.{All-head}}}
 use Rattle.std.specs.{Prelude.{IfSome, unwrap_or, option_to_list, option_map, slice_get}, List.{All}}
 use Rattle.sci_core.proofs.Basics.Options.{if_below}
@@ -9,9 +9,9 @@ use Rattle.sci_core.proofs.Tidy.RowWaits.{idle_has_none, some_has_one}
 use Rattle.sci_core.proofs.Tidy.WaitingNodes.{Stays, AsksOnce, Answers, Replies, Accepts, issue_stays, perform_stays, ask_once, serve_answers}
 use Rattle.sci_core.proofs.Tidy.WaitingNodes.{refuse_answers, reply_replies, accept_accepts}
 use Rattle.sci_core.proofs.Tidy.TidySteps.{about_line, about_asker, request_asker, about_answer}
-use Rattle.sci_core.proofs.Tidy.TidyRuns.{node_below, waiting_answers, step_tidy, opening_none, opening_tidy}
+use Rattle.sci_core.proofs.Tidy.{Overtaking.{overtaken_packets}, TidyRuns.{node_below, waiting_answers, move_tidy, opening_none, opening_tidy}}
 use Rattle.sci_core.proofs.WellFormed.Parts.{SendsWell, RepliesWell, part_asking, part_serving, part_refusing, part_replying}
-use Rattle.sci_core.proofs.WellFormed.WellFormedSteps.{Comes, comes_from_lane, step_well, opened}
+use Rattle.sci_core.proofs.WellFormed.WellFormedSteps.{Comes, comes_from_lane, move_well, opened}
 use Rattle.sci_core.proofs.Step.Steps.{lane_below}
 use Rattle.sci_words.specs.declared.event.Event.{Event}
 use Rattle.sci_packets.specs.Table.{is_request}
@@ -24,6 +24,7 @@ use Rattle.sci_core.specs.Core.{taken_as, taken_from, step_by, stepping, step, o
 use Rattle.sci_core.specs.{Sharing.{is_about, packets_of}, Tidy.{IsTidy}, WellFormed.{IsInLane, IsPart, IsWellFormed}}
 use Rattle.sci_core.specs.Alternates.{Mark, Asked, Taken, Accepted, mark_of, marks_about, marks_of, trace, Phase, Idle, Sent, Served, IsAlternating}
 use Rattle.sci_core.specs.{Alternates.{Alternates}, Size.{Size, IsSize}}
+use Rattle.sci_core.specs.Network.{Happens, Move, Overtakes, marks_by, marks_in, moved}
 use Rattle.sci_words.specs.declared.event.Event.TheVariants as event
 
 -- how far the transaction is whose packets are under way
@@ -252,19 +253,36 @@ by_case : (core : Core) (next : Option Core) (mark : Option (Mark × Letter)) (n
 by_case core None mark n line h lt below = still (phase_of (packets_of core n line)) (phase_of (packets_of core n line)) refl
 by_case core (Some new) mark n line h lt below = h n line lt below
 
-run_alternates : (core : Core) (events : List Event) (n line : ℕ) → IsWellFormed core → IsTidy core → n < core.size.nodes → line < core.size.lines
-    → IsAlternating (phase_of (packets_of core n line)) (trace core events n line)
-run_alternates core [] n line well tidy lt below = none_follows (phase_of (packets_of core n line))
-run_alternates core (e ∷ events) n line well tidy lt below =
-    let next = step_well core e well in
-    goes_on (phase_of (packets_of core n line)) (phase_of (packets_of (step core e) n line)) (marks_of core e n line) (trace (step core e) events n line)
-    (by_case core (stepping core e) (mark_of core e) n line (stepping_advances core e well tidy) lt below)
-    (run_alternates (step core e) events n line next.well (step_tidy core e well tidy) (subst (λ (size : Size). n < size.nodes) (sym next.same) lt)
+move_advances : (core : Core) (move : Move) (n line : ℕ) → IsWellFormed core → IsTidy core → n < core.size.nodes → line < core.size.lines
+    → Advances (phase_of (packets_of core n line)) (marks_in core move n line) (phase_of (packets_of (moved core move) n line))
+move_advances core (Happens e) n line well tidy lt below =
+    by_case core (stepping core e) (mark_of core e) n line (stepping_advances core e well tidy) lt below
+move_advances core (Overtakes place k) n line well tidy lt below = ap phase_of (overtaken_packets core place k n line well tidy below)
+
+-- over a network that keeps no order
+moves_advance : (core : Core) (moves : List Move) (n line : ℕ) → IsWellFormed core → IsTidy core → n < core.size.nodes → line < core.size.lines
+    → IsAlternating (phase_of (packets_of core n line)) (marks_by core moves n line)
+moves_advance core [] n line well tidy lt below = none_follows (phase_of (packets_of core n line))
+moves_advance core (move ∷ moves) n line well tidy lt below =
+    let next = move_well core move well in
+    goes_on (phase_of (packets_of core n line)) (phase_of (packets_of (moved core move) n line)) (marks_in core move n line)
+    (marks_by (moved core move) moves n line) (move_advances core move n line well tidy lt below)
+    (moves_advance (moved core move) moves n line next.well (move_tidy core move well tidy) (subst (λ (size : Size). n < size.nodes) (sym next.same) lt)
     (subst (λ (size : Size). line < size.lines) (sym next.same) below))
+
+pub moves_alternate : (size : Size) (moves : List Move) (n line : ℕ) → IsSize size → n < size.nodes → line < size.lines
+    → IsAlternating Idle (marks_by (opening size) moves n line)
+moves_alternate size moves n line sizes lt below =
+    let core = opening size in
+    let none = opening_none size n line in
+    subst (λ (ps : List Letter). IsAlternating (phase_of ps) (marks_by core moves n line)) none
+    (moves_advance core moves n line (opened size sizes) (opening_tidy size) lt below)
+
+-- of a schedule, whose events are moves
+marks_happen : (core : Core) (events : List Event) (n line : ℕ) → marks_by core (map Happens events) n line ≡ trace core events n line
+marks_happen core [] n line = refl
+marks_happen core (e ∷ events) n line = ap (λ (ms : List Mark). marks_of core e n line ++ ms) (marks_happen (step core e) events n line)
 
 pub runs_alternate : (size : Size) (schedule : List Event) (n line : ℕ) → IsSize size → n < size.nodes → line < size.lines → Alternates size schedule n line
 runs_alternate size schedule n line sizes lt below =
-    let core = opening size in
-    let none = opening_none size n line in
-    subst (λ (ps : List Letter). IsAlternating (phase_of ps) (trace core schedule n line)) none
-    (run_alternates core schedule n line (opened size sizes) (opening_tidy size) lt below)
+    subst (IsAlternating Idle) (marks_happen (opening size) schedule n line) (moves_alternate size (map Happens schedule) n line sizes lt below)

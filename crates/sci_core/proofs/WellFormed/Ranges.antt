@@ -17,7 +17,7 @@ use Rattle.sci_history.specs.{declared.entry.Entry.{Entry}, History.{IsHistory}}
 use Rattle.sci_history.specs.Placed.{is_of_node, is_on_line, is_making, maker_count, on_line}
 use Rattle.sci_history.proofs.Histories.{versions-within}
 use Rattle.sci_history.proofs.Order.{filter_yes, filter_no, all_weaker, all_both, all-filter}
-use Rattle.sci_core.specs.{Size.{Size}, Core.{Core, node_at}, Done.{done}}
+use Rattle.sci_core.specs.{Size.{Size}, Core.{Core, node_at, opening}, Network.{entries_by}}
 use Rattle.sci_core.specs.{InRange.{IsLine, IsStamped, IsReply, IsEntryOf}, Outcome.{logs_of}}
 use Rattle.sci_core.specs.{Reached.{IsReachable, IsReached}, Sharing.{last_at}, WellFormed.{IsWellFormed}}
 use Rattle.sci_core.proofs.{History.ScheduleHistories.{IsKnown}, Basics.{Lists.{if_either}, Logs.{short_log}}}
@@ -128,9 +128,9 @@ record LineIsRight (core : Core) (entries : List Entry) (line : ℕ) : Type 0 wh
   pub replies : AllByRecursion (λ entry. IsReply entry.reply) (filter (is_on_line line) entries)
   pub versions : AllByRecursion (λ entry. entry.version ≤ MAX_NODES * MAX_OPERATIONS) (filter (is_on_line line) entries)
 
-line_right : (core : Core) (reached : IsReached core) (line : ℕ) → line < core.size.lines → LineIsRight core (done core.size reached.schedule) line
+line_right : (core : Core) (reached : IsReached core) (line : ℕ) → line < core.size.lines → LineIsRight core (entries_by (opening core.size) reached.moves) line
 line_right core reached line inside =
-    let entries = done core.size reached.schedule in
+    let entries = entries_by (opening core.size) reached.moves in
     let on = filter (is_on_line line) entries in
     let last = last_at core line in
     let history = reached_history core reached line inside in
@@ -174,10 +174,10 @@ record IsRight (size : Size) (entry : Entry) : Type 0 where
   pub reply : IsReply entry.reply
   pub version : entry.version ≤ MAX_NODES * MAX_OPERATIONS
 
-made_right : (core : Core) (reached : IsReached core) → AllByRecursion (IsRight core.size) (done core.size reached.schedule)
+made_right : (core : Core) (reached : IsReached core) → AllByRecursion (IsRight core.size) (entries_by (opening core.size) reached.moves)
 made_right core reached =
     let size = core.size in
-    let entries = done size reached.schedule in
+    let entries = entries_by (opening size) reached.moves in
     let logged = reached_logged core reached in
     let on = all_weaker (IsKnown size.lines) (λ entry. entry.op.line < size.lines) (λ entry h. h.0.0) entries logged.known in
     let Replies = λ (entry : Entry). IsReply entry.reply in
@@ -197,7 +197,7 @@ reached_entries core node reached =
     let size = core.size in
     let well = reached_well core reached in
     let log = (node_at core node).log in
-    let entries = done size reached.schedule in
+    let entries = entries_by (opening size) reached.moves in
     let right = subst (AllByRecursion (IsRight size)) (sym (reached_log core reached node))
     (all-filter (IsRight size) (is_of_node node) entries (made_right core reached)) in
     let Serial = λ (entry : Entry). entry.serial < size.limit in

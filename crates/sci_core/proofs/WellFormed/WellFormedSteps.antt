@@ -1,8 +1,8 @@
 -- Every step leaves a state well formed, and keeps the machine's sizes. So every reached state is.
-use Rattle.std.proofs.Common.{◌≡◌, ℕ, ◌*◌, ◌<◌, List, [], ◌∷◌, ◌++◌, replicate, Option, Some, None, refl, sym, ap, subst, ◌∙◌, inl, inr, arith}
+use Rattle.std.proofs.Common.{◌≡◌, ℕ, ◌*◌, ◌<◌, List, [], ◌∷◌, ◌++◌, map, replicate, take, drop, Option, Some, None, refl, sym, ap, subst, ◌∙◌, inl, inr, arith}
 use Rattle.std.proofs.lemmas.{Bool.{cases_lt}, List.{length-set, length-replicate, get_or-replicate, get_or_past}}
 use Rattle.std.proofs.lemmas.List.{Sums.{fold-append}, Folds.{sum_by-replicate}}
-use Rattle.std.proofs.lemmas.List.Elements.{All-nil, All-head, All-tail, All-push}
+use Rattle.std.proofs.lemmas.List.Elements.{All-nil, All-head, All-tail, All-push, All-append, All-take, All-drop}
 use Rattle.std.proofs.lemmas.List.FromFn.{length-map-range_with_len, get_or-map-range_with_len}
 use Rattle.std.specs.{Prelude.{IfSome, unwrap_or, Result, Ok, Err, IfOk, IsErr}, List.{All}}
 use Rattle.sci_words.specs.declared.event.Event.{Event}
@@ -11,7 +11,8 @@ use Rattle.sci_cache.specs.Cache.{Letter}
 use Rattle.sci_core.specs.declared.lane.LaneKind.{LaneKind, TheVariants.{Requests, Answers}}
 use Rattle.sci_core.specs.Node.{NodeOf, opening_node, node_issuing, node_performing, node_asking, node_replying, no_node}
 use Rattle.sci_core.specs.Core.{Core, with_node, lane_place, lane_of, with_lane, Side, Idle, Changes, Sends, Takes, changes, performs, sends, side}
-use Rattle.sci_core.specs.Core.{node_of, sent_by, taken_as, taken_from, step_by, stepping, step, opening, run_from, run}
+use Rattle.sci_core.specs.Core.{lane_at, node_of, sent_by, taken_as, taken_from, step_by, stepping, step, opening, run_from, run}
+use Rattle.sci_core.specs.Network.{Happens, Move, Overtakes, brought, moved, moved_from, overtaken}
 use Rattle.sci_core.specs.Reached.{IsReachable, IsReachableNode, IsReached, IsReachedNode}
 use Rattle.sci_core.specs.WellFormed.{IsRequestLetter, IsAnswerLetter, IsInLane, IsPart, IsWellFormed}
 use Rattle.sci_core.specs.Size.{Size, IsSize, IsMachineSize}
@@ -38,7 +39,7 @@ well_with_node core n next is well = record {
   each_lane = well.each_lane;
 }
 
-well_with_lane : (core : Core) (place : ℕ) (lane : List Letter) → All (IsInLane core.size.nodes core.size.lines place) lane → IsWellFormed core
+pub well_with_lane : (core : Core) (place : ℕ) (lane : List Letter) → All (IsInLane core.size.nodes core.size.lines place) lane → IsWellFormed core
     → IsWellFormed (with_lane core place lane)
 well_with_lane core place lane all well = record {
   sizes = record {
@@ -178,6 +179,34 @@ run_well core (e ∷ events) well =
       same = rest.same ∙ one.same;
     }
 
+-- ---- a network that keeps no order
+
+all_brought : (P : Letter → Type 0) (k : ℕ) (lane : List Letter) → All P lane → All P (brought k lane)
+all_brought P k lane all =
+    All-append P (take 1 (drop k lane)) (take k lane ++ drop 1 (drop k lane)) (All-take P 1 (drop k lane) (All-drop P k lane all))
+    (All-append P (take k lane) (drop 1 (drop k lane)) (All-take P k lane all) (All-drop P 1 (drop k lane) (All-drop P k lane all)))
+
+overtaken_well : (core : Core) (place k : ℕ) → IsWellFormed core → IsWellFormed (overtaken core place k)
+overtaken_well core place k well =
+    well_with_lane core place (brought k (lane_at core place))
+    (all_brought (IsInLane core.size.nodes core.size.lines place) k (lane_at core place) (well.each_lane place)) well
+
+pub move_well : (core : Core) (move : Move) → IsWellFormed core → StepsWell core (moved core move)
+move_well core (Happens e) well = step_well core e well
+move_well core (Overtakes place k) well = record { well = overtaken_well core place k well; same = refl }
+
+pub moves_well : (core : Core) (moves : List Move) → IsWellFormed core → StepsWell core (moved_from core moves)
+moves_well core [] well = record { well = well; same = refl }
+moves_well core (move ∷ moves) well =
+    let one = move_well core move well in
+    let rest = moves_well (moved core move) moves one.well in
+    record { well = rest.well; same = rest.same ∙ one.same }
+
+-- a network that keeps the order is one
+pub moved_happens : (core : Core) (events : List Event) → moved_from core (map Happens events) ≡ run_from core events
+moved_happens core [] = refl
+moved_happens core (e ∷ events) = moved_happens (step core e) events
+
 -- ---- the opening
 
 opening_part : (me : ℕ) (size : Size) → 0 < size.nodes → IsPart size me (opening_node me size)
@@ -206,13 +235,13 @@ pub is_size : (size : Size) → IsMachineSize size → IsSize size
 is_size size sizes = grind arith
 
 abbrev pub reachable : (core : Core) → IsReached core → IsReachable core
-reachable core reached = record { size = is_size core.size reached.size; schedule = reached.schedule; leads = reached.leads }
+reachable core reached = record { size = is_size core.size reached.size; moves = reached.moves; leads = reached.leads }
 
 pub opened : (size : Size) → IsSize size → IsWellFormed (opening size)
 opened size sizes = let some = sizes.has_node in opening_well size (omega arith)
 
 pub any_well : (core : Core) → IsReachable core → IsWellFormed core
-any_well core reached = subst IsWellFormed reached.leads (run_well (opening core.size) reached.schedule (opened core.size reached.size)).well
+any_well core reached = subst IsWellFormed reached.leads (moves_well (opening core.size) reached.moves (opened core.size reached.size)).well
 
 pub reached_well : (core : Core) → IsReached core → IsWellFormed core
 reached_well core reached = any_well core (reachable core reached)
@@ -221,14 +250,27 @@ reached_well core reached = any_well core (reachable core reached)
 pub reachable_stepping : (core next : Core) (e : Event) → IsReachable core → stepping core e ≡ Some next → IsReachable next
 reachable_stepping core next e reached steps =
     let kept = subst (λ (o : Option Core). IfSome o (StepsWell core)) steps (stepping_well core e (any_well core reached)) in
-    let all = reached.schedule ++ e ∷ [] in
-    let leads : run core.size all ≡ next =
-    fold-append step (opening core.size) reached.schedule (e ∷ [])
+    let all = reached.moves ++ Happens e ∷ [] in
+    let leads : moved_from (opening core.size) all ≡ next =
+    fold-append moved (opening core.size) reached.moves (Happens e ∷ [])
     ∙ (ap (λ (k : Core). step k e) reached.leads ∙ ap (λ (o : Option Core). unwrap_or o core) steps) in
     record {
       size = subst IsSize (sym kept.same) reached.size;
-      schedule = all;
-      leads = subst (λ (size : Size). run size all ≡ next) (sym kept.same) leads;
+      moves = all;
+      leads = subst (λ (size : Size). moved_from (opening size) all ≡ next) (sym kept.same) leads;
+    }
+
+-- one move more
+pub reachable_moved : (core : Core) (move : Move) → IsReachable core → IsReachable (moved core move)
+reachable_moved core move reached =
+    let kept = move_well core move (any_well core reached) in
+    let all = reached.moves ++ move ∷ [] in
+    let leads : moved_from (opening core.size) all ≡ moved core move =
+    fold-append moved (opening core.size) reached.moves (move ∷ []) ∙ ap (λ (k : Core). moved k move) reached.leads in
+    record {
+      size = subst IsSize (sym kept.same) reached.size;
+      moves = all;
+      leads = subst (λ (size : Size). moved_from (opening size) all ≡ moved core move) (sym kept.same) leads;
     }
 
 pub reachable_next : (core : Core) (e : Event) (next : Option Core) → IsReachable core → stepping core e ≡ next → IsReachable (unwrap_or next core)
@@ -239,7 +281,7 @@ pub reached_stepping : (core next : Core) (e : Event) → IsReached core → ste
 reached_stepping core next e reached steps =
     let kept = subst (λ (o : Option Core). IfSome o (StepsWell core)) steps (stepping_well core e (reached_well core reached)) in
     let more = reachable_stepping core next e (reachable core reached) steps in
-    record { size = subst IsMachineSize (sym kept.same) reached.size; schedule = more.schedule; leads = more.leads }
+    record { size = subst IsMachineSize (sym kept.same) reached.size; moves = more.moves; leads = more.leads }
 
 -- a call that steps, or leaves the state as it was
 pub reached_either : {T E : Type 0} (result : Result T E) (old new : Core) (e : Event) → IsReached old → IfOk result (λ _. stepping old e ≡ Some new)
