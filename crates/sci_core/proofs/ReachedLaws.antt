@@ -2,7 +2,7 @@
 use Rattle.std.proofs.Common.{◌≡◌, ℕ, ◌<◌, ◌≤◌, List, [], ◌++◌, filter, length, map, Option, refl, sym, ap, subst, ◌∙◌, arith, inl, inr}
 use Rattle.std.proofs.lemmas.{List.{get_or_past, Elements.{All-from_recursion}}, Bool.{cases_lt}}
 use Rattle.std.proofs.lemmas.List.FromFn.{get_or-map-range_with_len, length-map-range_with_len}
-use Rattle.std.specs.{Prelude.{Result, Ok, Err, IfOk, Some, unwrap_or}, List.{All, AllPairs}}
+use Rattle.std.specs.{Prelude.{Result, Ok, Err, IfOk, None, Some, unwrap_or}, List.{All, AllPairs}}
 use Rattle.sci_words.specs.declared.{limits.TheConstants.{MAX_NODES}, event.Event.{Event}, stamped.Stamped.{Stamped}}
 use Rattle.sci_words.specs.Stamped.{zero_stamped}
 use Rattle.sci_history.specs.{declared.entry.Entry.{Entry}, Audit.{IsWithin, AreWithin}}
@@ -15,11 +15,11 @@ use Rattle.sci_history.proofs.Order.{filter_none, filter-filter, all_weaker, all
 use Rattle.sci_core.specs.{Node.{NodeOf, opening_node, no_node}, Core.{Core, node_at, stepping, step, opening, run}}
 use Rattle.sci_core.specs.{Reached.{IsReachable, IsReached}, Done.{ChangesBy, LastChanges, made_by, done}}
 use Rattle.sci_core.specs.{Outcome.{logs_of}, Coherent.{IsCoherent}, Shape.{HasShapes}, Sharing.{last_at, last_of}}
-use Rattle.sci_core.specs.Network.{Happens, Move, entries_by, moved_from}
+use Rattle.sci_core.specs.Network.{Happens, Move, Overtakes, entries_by, moved_from, overtaken}
 use Rattle.sci_core.specs.{Tidy.{AreAccepted}, WellFormed.{IsWellFormed}, Size.{Size, IsSize}}
-use Rattle.sci_core.proofs.WellFormed.WellFormedSteps.{step_well, run_well, moves_well, moved_happens, is_size, reachable, opened, any_well}
+use Rattle.sci_core.proofs.WellFormed.WellFormedSteps.{step_well, run_well, move_well, moves_well, moved_happens, is_size, reachable, opened, any_well}
 use Rattle.sci_core.proofs.Tidy.{TidyRuns.{opening_tidy, any_tidy, reached_tidy}, Transactions.{moves_alternate}}
-use Rattle.sci_core.proofs.Shape.{ShapeSteps.{ShapedAt}, ShapeRuns.{each_mapped, opening_shaped, step_follows}}
+use Rattle.sci_core.proofs.Shape.{ShapeSteps.{ShapedAt}, ShapeRuns.{each_mapped, move_follows, opening_shaped, step_follows}}
 use Rattle.sci_core.proofs.Shape.{ShapeClauses.{last_is, shape_of}, StaleFronts.{any_stale}}
 use Rattle.sci_core.proofs.History.Works.{HasSerials, opening_serials}
 use Rattle.sci_core.proofs.History.ScheduleHistories.{IsKnown, RunLogged, entries_happen, moves_follow, moves_logged}
@@ -96,6 +96,15 @@ any_effects core e reached line inside =
     let now = last_is (step core e) line follows.0 (step_well core e well).well follows.1 in
     subst (λ (c : Stamped). ChangesBy (made_by core e) line c (last_at (step core e) line)) (sym was)
     (subst (ChangesBy (made_by core e) line shaped.0) (sym now) follows.2)
+
+-- the network changes no contents
+pub overtaken_effects : (core : Core) (place k : ℕ) → IsReachable core → LastChanges core (overtaken core place k) None
+overtaken_effects core place k reached line inside =
+    let well = any_well core reached in
+    let shaped = any_shaped core reached line inside in
+    let follows = move_follows core (Overtakes place k) well (any_tidy core reached) line inside shaped.0 shaped.1 in
+    let was = last_is core line shaped.0 well shaped.1 in
+    last_is (overtaken core place k) line follows.0 (move_well core (Overtakes place k) well).well follows.1 ∙ (follows.2 ∙ sym was)
 
 pub reached_effects : (core : Core) (e : Event) → IsReached core → LastChanges core (step core e) (made_by core e)
 reached_effects core e reached = any_effects core e (reachable core reached)

@@ -4,12 +4,11 @@ use Rattle.std.specs.Prelude.{ℕ, ◌+◌, ◌&&◌, Bool, false, List, [], ◌
 use Rattle.std.specs.List.{fold}
 use Rattle.sci_words.specs.declared.event.Event.{Event}
 use Rattle.sci_history.specs.declared.entry.Entry.{Entry}
-use Rattle.sci_cache.specs.Cache.{Letter}
 use Rattle.sci_core.specs.{Core.{Core, lane_at, node_at, opening, step, stepping, with_lane}, Done.{made_by}, Alternates.{Mark, marks_of}}
 use Rattle.sci_core.specs.{FirstCome.{entrants, successors}, Draining.{is_asking, moves_on, one_if}, InTurn.{HasOnePending}, Size.{Size}}
 
 -- the packet at a place of a lane comes before the others; if there is none, the lane stays
-abbrev pub brought : ℕ → List Letter → List Letter
+abbrev pub brought : {X : Type 0} → ℕ → List X → List X
 brought k lane = take 1 (drop k lane) ++ (take k lane ++ drop 1 (drop k lane))
 
 abbrev pub overtaken : Core → ℕ → ℕ → Core

@@ -3,6 +3,7 @@
 ghost use Rattle.std.specs.Prelude.{◌≡◌, ◌∷◌, [], ◌++◌, IfSome, IsErr, OnOk, OnErr, IfOk, option_map, option_copied, slice_get, length, drop, map, None};
 ghost use Rattle.std.specs.Prelude.{Some};
 ghost use Rattle.sci_cache.specs.Cache.{letter_of};
+ghost use Rattle.sci_core.specs.Network.{brought};
 
 use sci_packets::Packet;
 use std::alloc::{AllocError, Global};
@@ -105,6 +106,13 @@ impl Lane {
         self.packets.pop_front()
     }
 
+    /// Brings the packet at a place, counted from the oldest, before the others, if there is one.
+    pub(crate) fn bring_forward(&mut self, place: usize)
+        ensures { self.new ≡ brought place self.old }
+    {
+        bring_forward(&mut self.packets, place);
+    }
+
     /// The oldest packet, if there is one.
     pub fn front(&self) -> Option<&Packet>
         ensures { option_map letter_of (option_copied result) ≡ slice_get self.now 0 }
@@ -141,4 +149,12 @@ fn push<T: Drop>(queue: &mut VecDeque<T>, item: T) -> Result<(), AllocError>
 {
     queue.push_back(item)?;
     Ok(())
+}
+
+fn bring_forward<T: Drop>(queue: &mut VecDeque<T>, place: usize)
+    ensures { queue.new.items ≡ brought place queue.old.items }
+{
+    if let Some(item) = queue.remove(place) {
+        queue.push_front_reserved(item);
+    }
 }

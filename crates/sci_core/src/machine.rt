@@ -35,6 +35,7 @@ impl Machine {
     ghost use Rattle.sci_words.specs.declared.event.Event.TheVariants.{Issue, Perform};
     ghost use Rattle.sci_cache.specs.Cache.{letter_of};
     ghost use Rattle.sci_core.specs.Core.{IsEnabled, core_of, lane_of, node_at, opening, stepping, run_from};
+    ghost use Rattle.sci_core.specs.{Core.{lane_place}, Network.{overtaken}};
     ghost use Rattle.sci_core.specs.{Node.{node_issuing, node_performing}, Fault.{IsFaultOf}, Size.{size_of}};
     ghost use Rattle.sci_core.specs.{Reached.{IsReached}, Stopped.{IsStoppedAt}, Coherent.{IsCoherent}};
     ghost use Rattle.sci_core.specs.{Done.{LastChanges, made_by}, Outcome.{logs_of}, Sharing.{last_at, last_of}};
@@ -121,6 +122,20 @@ impl Machine {
         ensures coherent { IsCoherent self.new }
     {
         self.state.perform(node, line)
+    }
+
+    /// The network brings a packet of a lane before those that were sent earlier: the one at this place, counted from the
+    /// oldest, if there is one. So it is the next that its receiver takes. Requires that there are such nodes.
+    pub fn bring_forward(&mut self, kind: LaneKind, from: u8, to: u8, place: usize)
+        requires from { from < self.old.size.nodes }
+        requires to { to < self.old.size.nodes }
+        ensures overtaken { self.new
+            ≡ overtaken self.old (lane_place self.old.size.nodes kind from to) place }
+        ensures effect { LastChanges self.old self.new None }
+        ensures size { self.new.size ≡ self.old.size }
+        ensures coherent { IsCoherent self.new }
+    {
+        self.state.bring_forward(kind, from, to, place);
     }
 
     /// Applies events in their order; those that are not enabled change nothing. If memory is refused, the

@@ -28,6 +28,8 @@ impl Model for State {
 }
 
 impl State {
+    ghost use Rattle.sci_core.specs.Network.{overtaken};
+
     ghost use Rattle.std.specs.Prelude.{◌≡◌, ◌<◌, ◌≤◌, ◌*◌, ◌++◌, ◌∷◌, [], Some, None, true, false, IfOk, IfSome, OnOk, OnErr, IsTrue, option_map};
     ghost use Rattle.std.specs.Prelude.{option_copied, slice_get, length, drop};
     ghost use Rattle.sci_words.specs.declared.limits.TheConstants.{MAX_LINES, MAX_OPERATIONS};
@@ -180,6 +182,16 @@ impl State {
     {
         let place = self.place(kind, usize::from(from), usize::from(packet.target.get()));
         self.lanes[place].send(packet)
+    }
+
+    /// Brings a packet of a lane before the others, if there is one at this place.
+    pub(crate) fn bring_forward(&mut self, kind: LaneKind, from: u8, to: u8, place: usize)
+        requires from { from < self.old.size.nodes }
+        requires to { to < self.old.size.nodes }
+        ensures { self.new ≡ overtaken self.old (lane_place self.old.size.nodes kind from to) place }
+    {
+        let lane = self.place(kind, usize::from(from), usize::from(to));
+        self.lanes[lane].bring_forward(place);
     }
 
     /// Takes the oldest packet of a lane away, if there is one.

@@ -19,6 +19,8 @@ mod machine_rows;
 #[cfg(test)]
 mod machine_tests;
 #[cfg(test)]
+mod overtaking_tests;
+#[cfg(test)]
 mod memory_tests;
 #[cfg(test)]
 mod pairs;

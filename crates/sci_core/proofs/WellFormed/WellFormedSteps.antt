@@ -283,6 +283,12 @@ reached_stepping core next e reached steps =
     let more = reachable_stepping core next e (reachable core reached) steps in
     record { size = subst IsMachineSize (sym kept.same) reached.size; moves = more.moves; leads = more.leads }
 
+pub reached_moved : (core : Core) (move : Move) → IsReached core → IsReached (moved core move)
+reached_moved core move reached =
+    let more = reachable_moved core move (reachable core reached) in
+    let kept = move_well core move (reached_well core reached) in
+    record { size = subst IsMachineSize (sym kept.same) reached.size; moves = more.moves; leads = more.leads }
+
 -- a call that steps, or leaves the state as it was
 pub reached_either : {T E : Type 0} (result : Result T E) (old new : Core) (e : Event) → IsReached old → IfOk result (λ _. stepping old e ≡ Some new)
     → (IsErr result → new ≡ old) → IsReached new
