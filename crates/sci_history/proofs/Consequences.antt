@@ -32,7 +32,7 @@ among_filter p entry [] passes h = h
 among_filter p entry (e ∷ entries) passes (inl same) = subst (IsAmong entry) (sym (filter_yes p e entries (ap p (sym same) ∙ passes))) (inl same)
 among_filter p entry (e ∷ entries) passes (inr h) = grind (arith, cases_Bool, filter_yes, filter_no, among_filter p entry entries passes h)
 
-among_whole : (p : Entry → Bool) (entry : Entry) (entries : List Entry) → IsAmong entry (filter p entries) → IsAmong entry entries
+pub among_whole : (p : Entry → Bool) (entry : Entry) (entries : List Entry) → IsAmong entry (filter p entries) → IsAmong entry entries
 among_whole p entry [] h = h
 among_whole p entry (e ∷ entries) h =
     elim (cases_Bool (p e)) [
@@ -52,7 +52,7 @@ pub did_placed : (logs : List (List Entry)) (line node : ℕ) (last : Stamped) (
 did_placed logs line node last entry lawful did = grind (arith, among_filter, eq-eqb, among_whole)
 
 -- and what is placed its node did
-placed_did : (logs : List (List Entry)) (line : ℕ) (last : Stamped) (entry : Entry) → AreOwn logs → length logs ≡ MAX_NODES → IsLawfulLine logs line last
+pub placed_did : (logs : List (List Entry)) (line : ℕ) (last : Stamped) (entry : Entry) → AreOwn logs → length logs ≡ MAX_NODES → IsLawfulLine logs line last
     → IsAmong entry (placed logs line) → DidOn logs line entry.node entry
 placed_did logs line last entry own sixteen lawful h =
     grind (arith, among_all, all-by_version, nodes_on_line, among_filter, eq-eqb, among_whole, eqb-true, all-passes)
@@ -72,7 +72,7 @@ if_long : (b : Bool) (xs ys : List ℕ) (k : ℕ) → length xs ≡ k → length
 if_long true xs ys k h i = h
 if_long false xs ys k h i = i
 
-words_long : (words : List ℕ) (entries : List Entry) (version : ℕ) → length (words_at words entries version) ≡ length words
+pub words_long : (words : List ℕ) (entries : List Entry) (version : ℕ) → length (words_at words entries version) ≡ length words
 words_long words [] version = refl
 words_long words (entry ∷ entries) version =
     grind (
@@ -82,10 +82,10 @@ words_long words (entry ∷ entries) version =
       words_long (line_after words entry.op) entries version ∙ length-set words entry.op.word (effect_of_act entry.op.act (get_or words entry.op.word 0)).0,
     )
 
-load_replies : (words : List ℕ) (op : Op) → op.act ≡ Load → reply_of words op ≡ Got (get_or words op.word 0)
+pub load_replies : (words : List ℕ) (op : Op) → op.act ≡ Load → reply_of words op ≡ Got (get_or words op.word 0)
 load_replies words op load = ap (λ (act : Act). (effect_of_act act (get_or words op.word 0)).1) load
 
-loaded : (logs : List (List Entry)) (line : ℕ) (last : Stamped) (entry : Entry) → AreOwn logs → length logs ≡ MAX_NODES → IsLawfulLine logs line last
+pub loaded : (logs : List (List Entry)) (line : ℕ) (last : Stamped) (entry : Entry) → AreOwn logs → length logs ≡ MAX_NODES → IsLawfulLine logs line last
     → IsAmong entry (placed logs line) → entry.op.act ≡ Load → entry.reply ≡ Got (get_or (line_words logs line entry.version) entry.op.word 0)
 loaded logs line last entry own sixteen lawful h load =
     let agrees = agreed logs line last entry own sixteen lawful h in
@@ -109,7 +109,7 @@ abbrev NoneBetween : List (List Entry) → ℕ → ℕ → ℕ → ℕ → Type 
 NoneBetween logs line word low high = (k : ℕ) (z : Entry) → DidOn logs line k z → is_making z ≡ true → low < z.version → z.version ≤ high → z.op.word ≡ word → ⊥
 
 -- the maker of a version
-made_at : (logs : List (List Entry)) (line version : ℕ) (last : Stamped) → AreOwn logs → length logs ≡ MAX_NODES → IsLawfulLine logs line last → 0 < version
+pub made_at : (logs : List (List Entry)) (line version : ℕ) (last : Stamped) → AreOwn logs → length logs ≡ MAX_NODES → IsLawfulLine logs line last → 0 < version
     → version ≤ last.version → (z : Entry) × IsAmong z (placed logs line) × (makes version z ≡ true)
 made_at logs line version last own sixteen lawful some within =
     let entries = placed logs line in
