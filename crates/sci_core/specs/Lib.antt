@@ -24,6 +24,7 @@ pub mod Obstacles
 pub mod Coherent
 pub mod GoingOn
 pub mod Draining
+pub mod Queues
 pub mod InTurn
 pub mod FirstCome
 pub mod Settling

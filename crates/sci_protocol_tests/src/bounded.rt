@@ -153,6 +153,14 @@ impl Bounded {
         self.machine.count(kind, from, to)
     }
 
+    /// The network brings the packet at a place of a lane before the others.
+    pub fn bring_forward(&mut self, kind: LaneKind, from: u8, to: u8, place: u8) {
+        let nodes = self.machine.extent().nodes;
+        if from < nodes && to < nodes {
+            self.machine.bring_forward(kind, from, to, usize::from(place));
+        }
+    }
+
     /// The last contents of each line.
     pub fn last(&self) -> Last {
         self.machine.last()

@@ -19,9 +19,11 @@ mod machine_rows;
 #[cfg(test)]
 mod machine_tests;
 #[cfg(test)]
-mod overtaking_tests;
-#[cfg(test)]
 mod memory_tests;
+#[cfg(test)]
+mod network;
+#[cfg(test)]
+mod overtaking;
 #[cfg(test)]
 mod pairs;
 #[cfg(test)]

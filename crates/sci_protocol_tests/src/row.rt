@@ -12,6 +12,7 @@
 //!   version and the words up to the last one that isn't 0. `home LINE = WORDS` is the state of a home, as `GONE 2`.
 //! - `entries NODE = COUNT` is how many operations a node has performed. `list LINE = [NODE, ..]`, `authority LINE = NODE`
 //!   and `last LINE = CONTENTS` are what the machine says of a line.
+//! - `overtake requests FROM TO` and `overtake answers FROM TO`: in this lane the second packet comes before the first.
 //! - `drain = COUNT` and `settle = COUNT` are how many events these take. No event comes after them in a row.
 //! - `log NODES NODES LINES`, the last command, is the text of the logs and the last contents, to the end of the row. Its
 //!   lines may stand on one, with `;` between them.
@@ -23,6 +24,7 @@ use crate::reading::{event_of, extent_of, numbers};
 use crate::states::{home_text, state_text};
 use crate::twins::Twins;
 use crate::words::push_contents;
+use sci_core::LaneKind;
 use std::alloc::Global;
 use std::test::*;
 
@@ -105,11 +107,25 @@ impl Row {
         if command.is_empty() {
             return Ok(());
         }
+        if let Some(lane) = command.strip_prefix("overtake ") {
+            return self.overtake(lane);
+        }
         let _found = match command.strip_prefix("not ") {
             Some(event) => self.obstacle(event)?,
             None => self.happens(command)?,
         };
         Ok(())
+    }
+
+    fn overtake(&mut self, lane: &str) -> Result<(), Fail> {
+        let (kind, nodes) = lane.split_once(' ').ok_or("no lane")?;
+        let (from, to) = numbers(nodes)?;
+        let kind = match kind {
+            "requests" => LaneKind::Requests,
+            "answers" => LaneKind::Answers,
+            _ => return Err(Fail::from("no kind of lane")),
+        };
+        self.twins.overtake(kind, from, to)
     }
 
     /// The words that are found where a command says some.

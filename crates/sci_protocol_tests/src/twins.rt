@@ -51,6 +51,11 @@ impl Twins {
         &mut self.walked.machine
     }
 
+    /// The second packet of a lane comes before the first.
+    pub fn overtake(&mut self, kind: LaneKind, from: u8, to: u8) -> Result<(), Fail> {
+        self.walked.bring_forward(kind, from, to, 1)
+    }
+
     /// Why an event isn't enabled, or None if it is. A cache by hand must give the same reason.
     pub fn obstacle_to(&mut self, event: &Event) -> Result<Option<Obstacle>, Fail> {
         let obstacle = self.machine().obstacle_to(event);

@@ -26,6 +26,8 @@ pub enum Happening {
     Cleared,
     Lost,
     WasBusy,
+    Overtook,
+    PassedALostOne,
 }
 
 /// What happens when an operation is performed.
@@ -45,11 +47,11 @@ pub const OTHERS: [Happening; 8] = [
 
 /// How often each of these happened.
 #[derive(Clone, Copy, Debug, PartialEq, Eq)]
-pub struct Counts([u64; 10]);
+pub struct Counts([u64; 12]);
 
 impl Counts {
     pub fn none() -> Counts {
-        Counts([0; 10])
+        Counts([0; 12])
     }
 
     /// Adds what happened in other walks.
@@ -65,7 +67,7 @@ impl Counts {
     }
 
     /// It happened once more.
-    fn count(&mut self, what: Happening) {
+    pub fn count(&mut self, what: Happening) {
         if let Some(count) = self.0.get_mut(what as usize) {
             *count = count.wrapping_add(1);
         }
@@ -295,6 +297,23 @@ impl Walked {
         let packet = lane.pop_front().ok_or("the lane is empty")?;
         self.shows(kind, from, to)?;
         Ok(packet)
+    }
+
+    /// The network brings the packet at a place of a lane before the others, if there is one.
+    pub fn bring_forward(
+        &mut self,
+        kind: LaneKind,
+        from: u8,
+        to: u8,
+        place: u8,
+    ) -> Result<(), Fail> {
+        self.machine.bring_forward(kind, from, to, place);
+        let lane = self.place(kind, from, to);
+        let lane = self.lanes.get_mut(lane).ok_or("there is no such lane")?;
+        if let Some(packet) = lane.remove(usize::from(place)) {
+            lane.push_front(packet)?;
+        }
+        self.shows(kind, from, to)
     }
 
     /// An error if the machine doesn't show the packets that the events have left in a lane.

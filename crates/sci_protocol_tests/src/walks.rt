@@ -3,6 +3,7 @@
 //! happened gives, and its logs are audited and put into one order. At last each machine comes to rest.
 
 use crate::choices::{any_event, enabled_event};
+use crate::network::Network;
 use crate::plain_lists::holds;
 use crate::walked::{Counts, Happening, OPERATIONS, OTHERS, Walked};
 use sci_cache::Held;
@@ -17,6 +18,9 @@ use std::test::*;
 
 /// Walks on a machine of this many nodes, lines and slots: of how many seeds, and how many events each tries.
 type Walks = (u8, u8, u8, u16, u16);
+
+/// Walks of two to five nodes over a network, with more slots and lines, so that lanes have several packets.
+const CROWDED: [Walks; 3] = [(2, 6, 6, 60, 400), (3, 8, 4, 60, 400), (5, 8, 8, 40, 500)];
 
 /// An error if the logs aren't lawful, or have no one order of all entries.
 fn audit_logs(alloc: Global, walked: &Walked) -> Result<(), Fail> {
@@ -44,15 +48,21 @@ fn compare(alloc: Global, walked: &Walked) -> Result<(), Fail> {
     audit_logs(alloc, walked)
 }
 
-/// One event of a walk. If a plain look finds an event enabled, it must be.
-fn step(random: &mut Random, walked: &mut Walked) -> Result<(), Fail> {
+/// One event of a walk, after what the network does. If a plain look finds an event enabled, it must be.
+fn step(network: Network, random: &mut Random, walked: &mut Walked) -> Result<(), Fail> {
+    network.carry(random, walked)?;
     if random.once_in(16) {
         let event = any_event(random, walked);
-        let _happened = walked.step(&event)?;
+        if !network.loses(walked, &event) {
+            let _happened = walked.step(&event)?;
+        }
         return Ok(());
     }
     for _look in 0..8 {
         if let Some(event) = enabled_event(random, walked) {
+            if network.loses(walked, &event) {
+                continue;
+            }
             if !walked.step(&event)? {
                 return Err(Fail::new(format_args!("{event:?} is not enabled")));
             }
@@ -121,7 +131,7 @@ fn settle(alloc: Global, walked: &mut Walked) -> Result<(), Fail> {
 }
 
 /// What happens in the walk of a seed.
-fn walk(alloc: Global, walks: Walks, seed: u64) -> Result<Counts, Fail> {
+fn walk(alloc: Global, network: Network, walks: Walks, seed: u64) -> Result<Counts, Fail> {
     let (nodes, lines, slots, _seeds, events) = walks;
     let extent = Extent::new(nodes, lines, slots).ok_or("an extent")?;
     let mut random = Random::new(seed);
@@ -130,7 +140,7 @@ fn walk(alloc: Global, walks: Walks, seed: u64) -> Result<Counts, Fail> {
         if place == events / 2 {
             compare(alloc, &walked)?;
         }
-        step(&mut random, &mut walked)?;
+        step(network, &mut random, &mut walked)?;
     }
     compare(alloc, &walked)?;
     settle(alloc, &mut walked)?;
@@ -148,18 +158,16 @@ fn happened(counts: &Counts, each: &[Happening], least: u64) -> Result<(), Fail>
     Ok(())
 }
 
-/// An error if a walk of these goes wrong, or if in them all an operation or something else happens less often. The
-/// seed of a walk that goes wrong is printed.
-fn walk_all(
+/// What happens in walks over a network. If one goes wrong, its seed is printed.
+fn walk_over(
     rt: &(impl Eprint + AllocGlobal),
+    network: Network,
     all: &[Walks],
-    operations: u64,
-    others: u64,
-) -> Result<(), Fail> {
+) -> Result<Counts, Fail> {
     let mut counts = Counts::none();
     for walks in all {
         for seed in 0..u64::from(walks.3) {
-            match walk(rt.alloc(), *walks, seed) {
+            match walk(rt.alloc(), network, *walks, seed) {
                 Ok(more) => counts.add(&more),
                 Err(fail) => {
                     let _ = rt.eprintln(format_args!("walks {walks:?}, seed {seed}"));
@@ -168,6 +176,17 @@ fn walk_all(
             }
         }
     }
+    Ok(counts)
+}
+
+/// An error if a walk of these goes wrong, or if in them all an operation or something else happens less often.
+fn walk_all(
+    rt: &(impl Eprint + AllocGlobal),
+    all: &[Walks],
+    operations: u64,
+    others: u64,
+) -> Result<(), Fail> {
+    let counts = walk_over(rt, Network::Ordered, all)?;
     happened(&counts, &OPERATIONS, operations)?;
     happened(&counts, &OTHERS, others)
 }
@@ -217,4 +236,18 @@ fn walks_of_sixteen_nodes(rt: HostRuntime) -> Result<(), Fail> {
 fn walks_of_many_nodes_and_lines(rt: HostRuntime) -> Result<(), Fail> {
     let all = [(15, 6, 8, 60, 800), (16, 64, 8, 4, 800)];
     walk_all(&rt, &all, 100, 4)
+}
+
+#[test]
+fn walks_over_a_network_that_keeps_no_order(rt: HostRuntime) -> Result<(), Fail> {
+    let counts = walk_over(&rt, Network::Unordered, &CROWDED)?;
+    happened(&counts, &OTHERS, 100)?;
+    happened(&counts, &[Happening::Overtook], 1_000)
+}
+
+#[test]
+fn walks_over_a_network_that_loses_packets(rt: HostRuntime) -> Result<(), Fail> {
+    let counts = walk_over(&rt, Network::Losing, &CROWDED)?;
+    happened(&counts, &OTHERS, 50)?;
+    happened(&counts, &[Happening::PassedALostOne], 100)
 }

@@ -23,7 +23,7 @@ abbrev pub sum_to : (ℕ → ℕ) → ℕ → ℕ
 sum_to f zero = 0
 sum_to f (suc n) = sum_to f n + f n
 
-sum_to_at : (f : ℕ → ℕ) (n i : ℕ) → i < n → f i ≤ sum_to f n
+pub sum_to_at : (f : ℕ → ℕ) (n i : ℕ) → i < n → f i ≤ sum_to f n
 sum_to_at f zero i below = absurd (omega arith)
 sum_to_at f (suc n) i below =
     elim (cases_lt i n) [
@@ -31,7 +31,7 @@ sum_to_at f (suc n) i below =
       | inr past ↦ let same : i ≡ n = omega arith in subst (λ (j : ℕ). f j ≤ sum_to f n + f n) (sym same) (omega arith)
     ]
 
-sum_to_more : (f g h : ℕ → ℕ) (n : ℕ) → ((i : ℕ) → f i ≡ g i + h i) → sum_to f n ≡ sum_to g n + sum_to h n
+pub sum_to_more : (f g h : ℕ → ℕ) (n : ℕ) → ((i : ℕ) → f i ≡ g i + h i) → sum_to f n ≡ sum_to g n + sum_to h n
 sum_to_more f g h zero each = omega arith
 sum_to_more f g h (suc n) each = let before = sum_to_more f g h n each in let here = each n in omega arith
 
@@ -43,7 +43,7 @@ sum_to_less f k (suc n) each =
     let more : suc n * k ≡ n * k + k = grind arith in
     omega arith
 
-sum_to_under : (f g : ℕ → ℕ) (n : ℕ) → ((i : ℕ) → i < n → f i ≤ g i) → sum_to f n ≤ sum_to g n
+pub sum_to_under : (f g : ℕ → ℕ) (n : ℕ) → ((i : ℕ) → i < n → f i ≤ g i) → sum_to f n ≤ sum_to g n
 sum_to_under f g zero each = omega arith
 sum_to_under f g (suc n) each = let before = sum_to_under f g n (λ i below. each i (omega arith)) in let here = each n (omega arith) in omega arith
 
@@ -90,13 +90,13 @@ weight_under_way core = grind (arith, parts_heavy, lanes_heavy, length-append)
 -- ---- each packet is of one node's ask about one line
 
 -- how many packets are of an ask of these nodes about these lines
-abbrev counted : ℕ → ℕ → List Letter → ℕ
+abbrev pub counted : ℕ → ℕ → List Letter → ℕ
 counted nodes lines letters = sum_to (λ n. sum_to (λ line. length (filter (is_about n line) letters)) lines) nodes
 
-abbrev one_about : Letter → ℕ → ℕ → ℕ
+abbrev pub one_about : Letter → ℕ → ℕ → ℕ
 one_about letter n line = one_if (is_about n line letter)
 
-one_more : (q : Bool) (letter : Letter) (rest : List Letter) → length (if q then letter ∷ rest else rest) ≡ one_if q + length rest
+pub one_more : (q : Bool) (letter : Letter) (rest : List Letter) → length (if q then letter ∷ rest else rest) ≡ one_if q + length rest
 one_more true letter rest = omega arith
 one_more false letter rest = omega arith
 
@@ -122,7 +122,7 @@ counts_one nodes lines letter is =
     let outer = sum_to_at (λ m. sum_to (one_about letter m) lines) nodes n is.asker in
     omega arith
 
-all_counted : (nodes lines : ℕ) (letters : List Letter) → AllByRecursion (IsOneOf nodes lines) letters → length letters ≤ counted nodes lines letters
+pub all_counted : (nodes lines : ℕ) (letters : List Letter) → AllByRecursion (IsOneOf nodes lines) letters → length letters ≤ counted nodes lines letters
 all_counted nodes lines [] all = omega arith
 all_counted nodes lines (letter ∷ rest) all =
     let this = counts_one nodes lines letter all.0 in
@@ -135,7 +135,7 @@ all_counted nodes lines (letter ∷ rest) all =
 answer_one : (nodes lines : ℕ) (letter : Letter) → IsAnswerLetter nodes lines letter → IsOneOf nodes lines letter
 answer_one nodes lines letter is = grind arith
 
-flat_all : {X : Type 0} (P : Letter → Type 0) (f : X → List Letter) (xs : List X) (d : X) → ((i : ℕ) → i < length xs → AllByRecursion P (f (get_or xs i d)))
+pub flat_all : {X : Type 0} (P : Letter → Type 0) (f : X → List Letter) (xs : List X) (d : X) → ((i : ℕ) → i < length xs → AllByRecursion P (f (get_or xs i d)))
     → AllByRecursion P (flat_map f xs)
 flat_all P f [] d each = tt
 flat_all P f (x ∷ xs) d each = all-append P (f x) (flat_map f xs) (each 0 (omega arith)) (flat_all P f xs d (λ i below. each (suc i) (omega arith)))
@@ -149,7 +149,7 @@ waiting_answer : (nodes lines n : ℕ) (waiting : Option Letter) → IfSome wait
 waiting_answer nodes lines n None h = tt
 waiting_answer nodes lines n (Some answer) h = answer_one nodes lines answer h.0
 
-in_lane_one : (nodes lines place : ℕ) (letter : Letter) → IsInLane nodes lines place letter → IsOneOf nodes lines letter
+pub in_lane_one : (nodes lines place : ℕ) (letter : Letter) → IsInLane nodes lines place letter → IsOneOf nodes lines letter
 in_lane_one nodes lines place letter is = grind (arith, cases_lt, cases_Bool)
 
 all_one : (core : Core) → IsWellFormed core → AllByRecursion (IsOneOf core.size.nodes core.size.lines) (under_way core)
@@ -220,20 +220,20 @@ entries_few f k most none size n part is =
     omega (arith, mul-le-mul_left k enough)
 
 -- how many packets are of a node's asks
-abbrev of_node : Core → ℕ → ℕ
+abbrev pub of_node : Core → ℕ → ℕ
 of_node core n = sum_to (λ line. length (packets_of core n line)) core.size.lines
 
 abbrev waiting_of : Core → ℕ → ℕ
 waiting_of core n = sum_to (λ line. one_if (waits (line_of (node_at core n).cache line).state)) core.size.lines
 
-node_packets : (core : Core) (n : ℕ) → IsReachable core → n < core.size.nodes → of_node core n ≤ waiting_of core n
+pub node_packets : (core : Core) (n : ℕ) → IsReachable core → n < core.size.nodes → of_node core n ≤ waiting_of core n
 node_packets core n reached lt = grind (arith, sum_to_under, one_packet, any_tidy)
 
-node_lines : (core : Core) (n : ℕ) → waiting_of core n ≤ core.size.lines * 1
+pub node_lines : (core : Core) (n : ℕ) → waiting_of core n ≤ core.size.lines * 1
 node_lines core n = sum_to_less (λ line. one_if (waits (line_of (node_at core n).cache line).state)) 1 core.size.lines
     (λ line inside. few_if (waits (line_of (node_at core n).cache line).state))
 
-node_slots : (core : Core) (n : ℕ) → IsReachable core → n < core.size.nodes → waiting_of core n ≤ core.size.slots
+pub node_slots : (core : Core) (n : ℕ) → IsReachable core → n < core.size.nodes → waiting_of core n ≤ core.size.slots
 node_slots core n reached lt =
     let few = entries_few (λ state. one_if (waits state)) 1 (λ state. few_if (waits state)) refl core.size n (node_at core n)
     ((any_well core reached).each_part n lt) in
