@@ -1,4 +1,4 @@
--- What holds of every state of a machine: it is one where events lead, whatever packet comes next, and there one memory of one thread explains
+-- What holds of every state of a machine: events lead there, whatever packet comes next, and one memory of one thread explains
 -- every line.
 use Rattle.std.specs.Prelude.{◌≡◌, ℕ, ◌<◌, filter}
 use Rattle.sci_words.specs.Stamped.{zero_stamped}

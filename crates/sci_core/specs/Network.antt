@@ -7,18 +7,20 @@ use Rattle.sci_history.specs.declared.entry.Entry.{Entry}
 use Rattle.sci_core.specs.{Core.{Core, lane_at, node_at, opening, step, stepping, with_lane}, Done.{made_by}, Alternates.{Mark, marks_of}}
 use Rattle.sci_core.specs.{FirstCome.{entrants, successors}, Draining.{is_asking, moves_on, one_if}, InTurn.{HasOnePending}, Size.{Size}}
 
--- the packet at a place of a lane comes before the others; if there is none, the lane stays
+-- the packet at place k of a lane, counted from the oldest, comes before the others; if there is none, the lane stays
 abbrev pub brought : {X : Type 0} → ℕ → List X → List X
 brought k lane = take 1 (drop k lane) ++ (take k lane ++ drop 1 (drop k lane))
 
+-- the state after the network has done so in the lane at this place among all lanes
 abbrev pub overtaken : Core → ℕ → ℕ → Core
 overtaken core place k = with_lane core place (brought k (lane_at core place))
 
--- what happens in a machine with such a network: an event, or a packet of a lane overtakes those before it
+-- what happens in a machine with such a network: an event, or packet k of a lane overtakes those before it
 pub data Move : Type 0 where
   Happens : (event : Event) → Move
   Overtakes : (place k : ℕ) → Move
 
+-- the state after a move; an event that is not enabled changes nothing
 abbrev pub moved : Core → Move → Core
 moved core (Happens e) = step core e
 moved core (Overtakes place k) = overtaken core place k
@@ -60,7 +62,7 @@ entered_by core moves line = along_moves (λ at move. entrants_in at move line) 
 abbrev pub succeeded_by : Core → List Move → ℕ → List ℕ
 succeeded_by core moves line = along_moves (λ at move. successors at (moved at move) line) core moves
 
--- none of these moves is an Ask
+-- whether a move is an Ask
 abbrev pub asks_in : Move → Bool
 asks_in (Happens e) = is_asking e
 asks_in (Overtakes place k) = false

@@ -1,4 +1,4 @@
--- The states where a schedule leads.
+-- The states where events lead, over a network that keeps no order.
 use Rattle.std.specs.Prelude.{◌≡◌, ◌<◌, ℕ, List}
 use Rattle.sci_core.specs.{Core.{Core, node_at, opening}, Network.{Move, moved_from}, Size.{IsSize, IsMachineSize}, Node.{NodeOf}}
 

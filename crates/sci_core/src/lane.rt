@@ -151,6 +151,7 @@ fn push<T: Drop>(queue: &mut VecDeque<T>, item: T) -> Result<(), AllocError>
     Ok(())
 }
 
+/// Brings an item before the others, if there is one at this place.
 fn bring_forward<T: Drop>(queue: &mut VecDeque<T>, place: usize)
     ensures { queue.new.items ≡ brought place queue.old.items }
 {

@@ -34,7 +34,10 @@ pub use laws::{
     sole_copies_perform, transactions_alternate, versions_count_makers,
 };
 pub use machine::Machine;
-pub use network::{any_packet_is_taken, calls_reach, lanes_keep_lines_apart, moves_alternate, moves_log_in_order, moves_run_out, moves_are_in_turn, moves_are_runs, moves_reach};
+pub use network::{
+    any_packet_is_taken, calls_reach, lanes_keep_lines_apart, moves_alternate, moves_are_in_turn,
+    moves_are_runs, moves_log_in_order, moves_reach, moves_run_out,
+};
 pub use node::Node;
 pub use obstacle::Obstacle;
 pub use pending::Pending;

@@ -11,8 +11,8 @@ use sci_words::{Event, Extent, Op, Stamped};
 use std::alloc::{AllocError, Global};
 use std::marker::Model;
 
-/// A machine of nodes, homes and lanes, in a state that some list of events leads to. Contracts see it as that
-/// state.
+/// A machine of nodes, homes and lanes, in a state that events lead to, over a network that may keep no order. Contracts see it
+/// as that state.
 #[derive(Drop)]
 pub struct Machine {
     state: State,
@@ -125,7 +125,8 @@ impl Machine {
     }
 
     /// The network brings a packet of a lane before those that were sent earlier: the one at this place, counted from the
-    /// oldest, if there is one. So it is the next that its receiver takes. Requires that there are such nodes.
+    /// oldest, if there is one; else nothing changes. So it is the next that its receiver takes. Requires that there are such
+    /// nodes.
     pub fn bring_forward(&mut self, kind: LaneKind, from: u8, to: u8, place: usize)
         requires from { from < self.old.size.nodes }
         requires to { to < self.old.size.nodes }

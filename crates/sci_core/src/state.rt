@@ -28,12 +28,11 @@ impl Model for State {
 }
 
 impl State {
-    ghost use Rattle.sci_core.specs.Network.{overtaken};
-
     ghost use Rattle.std.specs.Prelude.{◌≡◌, ◌<◌, ◌≤◌, ◌*◌, ◌++◌, ◌∷◌, [], Some, None, true, false, IfOk, IfSome, OnOk, OnErr, IsTrue, option_map};
     ghost use Rattle.std.specs.Prelude.{option_copied, slice_get, length, drop};
     ghost use Rattle.sci_words.specs.declared.limits.TheConstants.{MAX_LINES, MAX_OPERATIONS};
     ghost use Rattle.sci_cache.specs.Cache.{letter_of};
+    ghost use Rattle.sci_core.specs.Network.{overtaken};
     ghost use Rattle.sci_core.specs.Node.{NodeOf};
     ghost use Rattle.sci_core.specs.Core.{core_of, lane_place, lane_of, with_lane, with_sent, node_at, opening, HasSize};
     ghost use Rattle.sci_core.specs.{Size.{size_of}, Outcome.{logs_of}, WellFormed.{IsWellFormed}};

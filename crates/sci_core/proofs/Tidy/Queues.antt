@@ -43,7 +43,10 @@ spread : (f : List Letter → ℕ) (lanes : List (List Letter)) (place : ℕ →
 spread f lanes place zero within rise = omega arith
 spread f lanes place (suc k) within rise =
     let before = spread f lanes place k (λ i lt. within i (omega arith)) rise in
-    let here = sum_by-map-range_with_len_more f (λ (i : ℕ). get_or lanes (place i) []) 0 k k refl in
+    let lane = λ (i : ℕ). get_or lanes (place i) [] in
+    let next : k + 1 ≡ suc k = omega arith in
+    let here = subst (λ (m : ℕ). sum_by f (map lane (range_with_len 0 m)) ≡ sum_by f (map lane (range_with_len 0 k)) + f (lane k)) next
+    (sum_by-map-range_with_len_more f lane 0 k k (omega arith)) in
     let more = sum_by_more f lanes (place k) [] (within k (omega arith)) in
     let up = rise k in
     let rest = sum_longer f lanes (place k + 1) (place (suc k)) (omega arith) in
@@ -98,7 +101,7 @@ coming_one core kind n P each =
     let long = length-map-range_with_len (λ from. lane_of core kind from n) 0 core.size.nodes in
     let lt : i < core.size.nodes = omega arith in
     recursion_from_All P (get_or (lanes_to core kind n) i [])
-    (subst (All P) (sym (get_or-map-range_with_len (λ from. lane_of core kind from n) 0 core.size.nodes i i [] lt refl)) (each i lt)))
+    (subst (All P) (sym (get_or-map-range_with_len (λ from. lane_of core kind from n) 0 core.size.nodes i i [] lt (omega arith))) (each i lt)))
 
 -- of all nodes and lines
 all_few : (core : Core) (n bound : ℕ) → IsReachable core → n < core.size.nodes → ((m : ℕ) → m < core.size.nodes → of_node core m ≤ bound)
