@@ -304,9 +304,11 @@ sci_status sci_machine_authority(const sci_machine *machine, uint8_t line, uint8
 sci_status sci_machine_logs(const sci_machine *machine, sci_logs *logs);
 
 /* ---- nodes: the controller that a simulator has at each processor. The caller carries the packets. Their first two bytes are
-** the target, the higher one first. The nodes are together a coherent machine only if the caller gives each packet to its target
-** once, and those from one node to another in the order in which they were made, requests and answers apart. After sci_node_open
-** no call takes memory. */
+** the target, the higher one first. The nodes are together a coherent machine if the caller gives each packet to its target at
+** most once: a request by sci_node_serve or sci_node_refuse, an answer by sci_node_accept. Packets may come in any order. Nothing
+** goes on about a line of a node whose packet is never given. A call that answers another status than SCI_OK has not taken the
+** packet. At most min(lines, slots) answers are under way to a node, and nodes * min(lines, slots) packets in all. After
+** sci_node_open no call takes memory. */
 
 /* Puts the controller of node me in a machine of this size into an empty object. Its processor may issue limit operations
 ** (sci_core::Node::new).

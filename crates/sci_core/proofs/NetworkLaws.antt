@@ -1,24 +1,19 @@
 -- The laws of a network that keeps no order.
-use Rattle.std.proofs.Common.{◌≡◌, ℕ, ◌+◌, ◌*◌, ◌%◌, ◌<◌, ◌≤◌, ◌==◌, ◌&&◌, Bool, true, false, List, [], ◌∷◌, ◌++◌, length, filter, map, take, drop, set, get_or, cond}
-use Rattle.std.proofs.Common.{Option, Some, None, zero, suc, refl, sym, ap, subst, ◌∙◌, arith, inl, inr}
-use Rattle.std.proofs.{lemmas.{Bool.{eq-eqb}, List.{get_or-set_same, length-replicate}, List.Elements.{All-head, All-tail, All-weaker}}, Math.Seq.{drop-append_seam, take-append_seam}}
+use Rattle.std.proofs.Common.{◌≡◌, ℕ, ◌<◌, ◌≤◌, ◌==◌, ◌&&◌, Bool, true, false, List, [], ◌∷◌, ◌++◌, length, filter, drop, set, cond}
+use Rattle.std.proofs.Common.{Some, None, zero, suc, refl, sym, ap, subst, ◌∙◌}
+use Rattle.std.proofs.{lemmas.{Bool.{eq-eqb}, List.{get_or-set_same}, List.Elements.{All-head, All-tail, All-weaker}}, Math.Seq.{drop-append_seam, take-append_seam}}
 use Rattle.std.specs.{Prelude.{IsSome, option_map, slice_get}, List.{All}}
-use Rattle.sci_words.specs.declared.{limits.TheConstants.{MAX_NODES}, event.{AskKind.{AskKind}, Event.{Event}}, operation.Op.{Op}}
+use Rattle.sci_words.specs.declared.{event.{AskKind.{AskKind}}, operation.Op.{Op}}
 use Rattle.sci_history.specs.declared.entry.Entry.{Entry}
-use Rattle.sci_history.specs.Memory.{IsRun, words_of_lines, zero_memory}
-use Rattle.sci_history.specs.{Placed.{pair_of}, Sequential.{IsSequentialOrder}}
-use Rattle.sci_history.proofs.SequentialRuns.{histories_are_run}
-use Rattle.sci_packets.specs.Table.{is_request}
 use Rattle.sci_cache.specs.Cache.{Letter}
 use Rattle.sci_core.specs.declared.lane.LaneKind.{LaneKind, TheVariants.{Requests, Answers}}
 use Rattle.sci_core.specs.declared.taking.Taking.{Taking}
 use Rattle.sci_core.specs.Core.{Core, lane_at, lane_of, lane_place, node_at, opening, sent_by, with_node}
 use Rattle.sci_core.specs.{Sides.{taken_to}, Taking.{IsTakable, lane_kind, node_taking, taking_event}}
-use Rattle.sci_core.specs.Network.{Move, Overtakes, brought, entries_by, moved_from, overtaken}
+use Rattle.sci_core.specs.Network.{Move, Overtakes, brought, moved_from, overtaken}
 use Rattle.sci_core.specs.Node.{NodeOf, node_accepting, node_asking, node_issuing, node_performing, node_replying, node_serving}
-use Rattle.sci_core.specs.{Outcome.{logs_of}, Reached.{IsReachable}, Sharing.{asker_of, is_about, last_of}, Size.{Size, IsSize}}
+use Rattle.sci_core.specs.{Reached.{IsReachable}, Sharing.{asker_of, is_about}, Size.{Size, IsSize}}
 use Rattle.sci_core.specs.WellFormed.{IsInLane, IsWellFormed}
-use Rattle.sci_core.proofs.ReachedLaws.{any_order, any_run}
 use Rattle.sci_core.proofs.Step.{Places.{place_answers, place_from, place_requests, place_to}, Steps.{lane_below}}
 use Rattle.sci_core.proofs.Step.{Sides.{steps_by_sides}, Stepping.{front_taken}, Takings.{stepping_taking, takable}}
 use Rattle.sci_core.proofs.Tidy.{Enabled.{any_accept_enabled, any_request_enabled}, Overtaking.{few_in_lane}, TidyRuns.{any_tidy}}

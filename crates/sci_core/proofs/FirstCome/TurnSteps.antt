@@ -11,7 +11,7 @@ use Rattle.sci_packets.specs.declared.body.Body.{Body}
 use Rattle.sci_home.specs.{declared.state.HomeState.{HomeState}, Serving.{head_of, home_serving as at_home}}
 use Rattle.sci_cache.specs.{State.{CacheState}, Performing.{performing}, Serving.{serving}, Cache.{Letter, line_of}}
 use Rattle.sci_core.specs.declared.lane.LaneKind.{LaneKind, TheVariants.{Requests, Answers}}
-use Rattle.sci_core.specs.Core.{Core, lane_of, lane_place, node_at, opening, run, run_from, sent_by, step, stepping, with_lane, with_node}
+use Rattle.sci_core.specs.Core.{Core, lane_of, lane_place, node_at, opening, run, sent_by, step, stepping, with_lane, with_node}
 use Rattle.sci_core.specs.FirstCome.{AreInTurn, AreWaiting, Before, IsInTurn, Nobody, entered, enters, entrant_by, entrants, is_authority, succeeded}
 use Rattle.sci_core.specs.FirstCome.{successors}
 use Rattle.sci_core.specs.Network.{Happens, Move, Overtakes, entered_by, entrants_in, moved, moved_from, overtaken, succeeded_by}

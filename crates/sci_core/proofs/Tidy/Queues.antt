@@ -1,19 +1,18 @@
 -- How many packets are under way to one node. They are of the asks that wait (`Burdens`), each at most once: the lanes to a node
 -- are some of all lanes, each at its own place.
-use Rattle.std.proofs.Common.{◌≡◌, ℕ, zero, suc, ◌+◌, ◌*◌, ◌<◌, ◌≤◌, Bool, false, List, [], ◌∷◌, ◌++◌, length, map, get_or, filter, take, refl, sym, ap, subst, ◌∙◌, arith}
-use Rattle.std.proofs.lemmas.List.{length-append, take-take, Elements.{All-weaker, recursion_from_All, filter-append}, Concat.{length-flat_map}}
+use Rattle.std.proofs.Common.{◌≡◌, ℕ, zero, suc, ◌+◌, ◌*◌, ◌<◌, ◌≤◌, List, [], ◌∷◌, ◌++◌, length, map, get_or, filter, take, refl, sym, ap, subst, ◌∙◌, arith}
+use Rattle.std.proofs.lemmas.List.{length-append, take-take, Elements.{All-weaker, recursion_from_All, filter-append}}
 use Rattle.std.proofs.lemmas.List.{FromFn.{get_or-map-range_with_len, length-map-range_with_len, sum_by-map-range_with_len_more}, Sums.{sum_by-cons, sum_by-take-le, sum_by_more}}
 use Rattle.std.specs.Prelude.{option_to_list}
 use Rattle.std.specs.List.{All, AllByRecursion, flat_map, range_with_len, sum_by}
 use Rattle.sci_history.proofs.Order.{all-append}
-use Rattle.sci_packets.specs.Table.{is_request}
 use Rattle.sci_cache.specs.Cache.{Letter}
 use Rattle.sci_core.specs.declared.lane.LaneKind.{LaneKind, TheVariants.{Requests, Answers}}
-use Rattle.sci_core.specs.{Core.{Core, lane_at, lane_of, lane_place}, Queues.{FitsQueues, coming, lanes_to}, Reached.{IsReachable}}
+use Rattle.sci_core.specs.{Core.{Core, lane_of, lane_place}, Queues.{FitsQueues, coming, lanes_to}, Reached.{IsReachable}}
 use Rattle.sci_core.specs.{Draining.{one_if}, Node.{NodeOf}, Sharing.{asker_of, is_about, packets_of}, WellFormed.{IsInLane, IsWellFormed}}
 use Rattle.sci_core.proofs.Step.Places.{place_answers, place_below, place_to}
-use Rattle.sci_core.proofs.Tidy.Burdens.{IsOneOf, all_counted, counted, flat_all, in_lane_one, node_lines, node_packets, node_slots, of_node, one_about, one_more}
-use Rattle.sci_core.proofs.Tidy.Burdens.{sum_to, sum_to_at, sum_to_less, sum_to_more, sum_to_under}
+use Rattle.sci_core.proofs.Tidy.Burdens.{IsOneOf, all_counted, flat_all, in_lane_one, node_lines, node_packets, node_slots, of_node}
+use Rattle.sci_core.proofs.Tidy.Burdens.{one_about, one_more, sum_to, sum_to_at, sum_to_less, sum_to_more, sum_to_under}
 use Rattle.sci_core.proofs.{Tidy.{TidySteps.{about_from, answer_asker}}, WellFormed.WellFormedSteps.{any_well}}
 
 -- ---- some lanes among all
@@ -89,8 +88,9 @@ few_about core n m line well lt =
     let answers = count_flat m line (lanes_to core Answers n) in
     let few = lanes_few (about_in m line) core n well lt in
     let lanes = count_flat m line core.lanes in
-    let parts = ap length (filter-append (is_about m line) (waiting_answers core) (flat_map (λ (lane : List Letter). lane) core.lanes)) in
-    let both = length-append (filter (is_about m line) (waiting_answers core)) (filter (is_about m line) (flat_map (λ (lane : List Letter). lane) core.lanes)) in
+    let in_lanes = flat_map (λ (lane : List Letter). lane) core.lanes in
+    let parts = ap length (filter-append (is_about m line) (waiting_answers core) in_lanes) in
+    let both = length-append (filter (is_about m line) (waiting_answers core)) (filter (is_about m line) in_lanes) in
     omega arith
 
 coming_one : (core : Core) (kind : LaneKind) (n : ℕ) (P : Letter → Type 0) → ((from : ℕ) → from < core.size.nodes → All P (lane_of core kind from n))

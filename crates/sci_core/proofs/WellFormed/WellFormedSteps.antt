@@ -11,7 +11,7 @@ use Rattle.sci_cache.specs.Cache.{Letter}
 use Rattle.sci_core.specs.declared.lane.LaneKind.{LaneKind, TheVariants.{Requests, Answers}}
 use Rattle.sci_core.specs.Node.{NodeOf, opening_node, node_issuing, node_performing, node_asking, node_replying, no_node}
 use Rattle.sci_core.specs.Core.{Core, with_node, lane_place, lane_of, with_lane, Side, Idle, Changes, Sends, Takes, changes, performs, sends, side}
-use Rattle.sci_core.specs.Core.{lane_at, node_of, sent_by, taken_as, taken_from, step_by, stepping, step, opening, run_from, run}
+use Rattle.sci_core.specs.Core.{lane_at, node_of, sent_by, taken_as, taken_from, step_by, stepping, step, opening, run_from}
 use Rattle.sci_core.specs.Network.{Happens, Move, Overtakes, brought, moved, moved_from, overtaken}
 use Rattle.sci_core.specs.Reached.{IsReachable, IsReachableNode, IsReached, IsReachedNode}
 use Rattle.sci_core.specs.WellFormed.{IsRequestLetter, IsAnswerLetter, IsInLane, IsPart, IsWellFormed}

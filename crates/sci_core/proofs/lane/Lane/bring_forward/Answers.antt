@@ -1,5 +1,5 @@
 -- What is brought forward is the same packet, as contracts see it.
-use Rattle.std.proofs.Common.{◌≡◌, ℕ, List, ◌++◌, map, take, drop, refl, sym, ap, ◌∙◌}
+use Rattle.std.proofs.Common.{◌≡◌, ℕ, List, map, refl, ap, ◌∙◌}
 use Rattle.std.proofs.lemmas.List.{map-append, take-map, drop-map}
 use Rattle.sci_cache.specs.Cache.{letter_of}
 use Rattle.sci_core.specs.Network.{brought}
@@ -9,4 +9,5 @@ map_brought : {X Y : Type 0} (f : X → Y) (k : ℕ) (xs : List X) → map f (br
 map_brought f k xs = rw (map-append, map-append, take-map, drop-map, take-map, drop-map) refl
 
 pub returns : goal.returns
-returns c = ap (map letter_of) c.bring_forward.ensures ∙ (map_brought letter_of c.args.place c.self.inside.packets.items ∙ ap (brought c.args.place) c.self.view_is)
+returns c =
+    ap (map letter_of) c.bring_forward.ensures ∙ (map_brought letter_of c.args.place c.self.inside.packets.items ∙ ap (brought c.args.place) c.self.view_is)
