@@ -157,7 +157,8 @@ impl Bounded {
     pub fn bring_forward(&mut self, kind: LaneKind, from: u8, to: u8, place: u8) {
         let nodes = self.machine.extent().nodes;
         if from < nodes && to < nodes {
-            self.machine.bring_forward(kind, from, to, usize::from(place));
+            self.machine
+                .bring_forward(kind, from, to, usize::from(place));
         }
     }
 

@@ -42,8 +42,13 @@ fn lane_of(event: &Event) -> Option<(LaneKind, u8, u8)> {
 impl Network {
     /// Whether the next packet of a lane is lost.
     fn loses_front(self, walked: &Walked, kind: LaneKind, from: u8, to: u8) -> bool {
-        let next = walked.oldest(kind, from, to);
-        self == Network::Losing && next.is_some_and(|packet| is_lost(&packet, kind))
+        let Some(lane) = walked.lane(kind, from, to) else {
+            return false;
+        };
+        match lane.front() {
+            Some(next) => self == Network::Losing && is_lost(next, kind),
+            None => false,
+        }
     }
 
     /// Whether an event would take a packet that is lost.

@@ -95,6 +95,14 @@ fn push<T: Drop>(queue: &mut VecDeque<T>, item: T) -> Result<(), AllocError> {
     Ok(())
 }
 
+/// Brings the item at a place of a queue before the others, if there is one.
+fn bring_forward<T: Drop>(queue: &mut VecDeque<T>, place: usize) -> Result<(), AllocError> {
+    if let Some(item) = queue.remove(place) {
+        queue.push_front(item)?;
+    }
+    Ok(())
+}
+
 /// A machine, the packets in its lanes as the events that happened say, and how often each node asked about each
 /// line.
 #[derive(Drop)]
@@ -310,9 +318,7 @@ impl Walked {
         self.machine.bring_forward(kind, from, to, place);
         let lane = self.place(kind, from, to);
         let lane = self.lanes.get_mut(lane).ok_or("there is no such lane")?;
-        if let Some(packet) = lane.remove(usize::from(place)) {
-            lane.push_front(packet)?;
-        }
+        bring_forward(lane, usize::from(place))?;
         self.shows(kind, from, to)
     }
 

@@ -77,7 +77,8 @@ few_in_lane core place m line well tidy within inside = elim (cases_lt m core.si
       let q = is_about m line in
       let a = around (filter q) core.lanes place [] within in
       let all = has_few (line % core.size.nodes) (line_of (node_at core m).cache line) (packets_of core m line) (tidy m line lt inside) in
-      let parts = ap (λ (ls : List Letter). length ls) (packets_are core m line) ∙ length-append (flat_map (waits_in q) core.parts) (flat_map (filter q) core.lanes) in
+      let parts = ap (λ (ls : List Letter). length ls) (packets_are core m line)
+      ∙ length-append (flat_map (waits_in q) core.parts) (flat_map (filter q) core.lanes) in
       let lanes = ap (λ (ls : List Letter). length ls) a.now ∙ length-append a.before (filter q (lane_at core place) ++ a.after) in
       let lane = length-append (filter q (lane_at core place)) a.after in
       omega arith

@@ -2,7 +2,8 @@
 -- are some of all lanes, each at its own place.
 use Rattle.std.proofs.Common.{◌≡◌, ℕ, zero, suc, ◌+◌, ◌*◌, ◌<◌, ◌≤◌, List, [], ◌∷◌, ◌++◌, length, map, get_or, filter, take, refl, sym, ap, subst, ◌∙◌, arith}
 use Rattle.std.proofs.lemmas.List.{length-append, take-take, Elements.{All-weaker, recursion_from_All, filter-append}}
-use Rattle.std.proofs.lemmas.List.{FromFn.{get_or-map-range_with_len, length-map-range_with_len, sum_by-map-range_with_len_more}, Sums.{sum_by-cons, sum_by-take-le, sum_by_more}}
+use Rattle.std.proofs.lemmas.List.FromFn.{get_or-map-range_with_len, length-map-range_with_len, sum_by-map-range_with_len_more}
+use Rattle.std.proofs.lemmas.List.{Sums.{sum_by-cons, sum_by-take-le, sum_by_more}}
 use Rattle.std.specs.Prelude.{option_to_list}
 use Rattle.std.specs.List.{All, AllByRecursion, flat_map, range_with_len, sum_by}
 use Rattle.sci_history.proofs.Order.{all-append}
