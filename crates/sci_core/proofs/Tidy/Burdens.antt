@@ -135,7 +135,7 @@ all_counted nodes lines (letter ∷ rest) all =
 answer_one : (nodes lines : ℕ) (letter : Letter) → IsAnswerLetter nodes lines letter → IsOneOf nodes lines letter
 answer_one nodes lines letter is = grind arith
 
-flat_all : {X : Type 0} (P : Letter → Type 0) (f : X → List Letter) (xs : List X) (d : X) → ((i : ℕ) → i < length xs → AllByRecursion P (f (get_or xs i d)))
+pub flat_all : {X : Type 0} (P : Letter → Type 0) (f : X → List Letter) (xs : List X) (d : X) → ((i : ℕ) → i < length xs → AllByRecursion P (f (get_or xs i d)))
     → AllByRecursion P (flat_map f xs)
 flat_all P f [] d each = tt
 flat_all P f (x ∷ xs) d each = all-append P (f x) (flat_map f xs) (each 0 (omega arith)) (flat_all P f xs d (λ i below. each (suc i) (omega arith)))
