@@ -2,15 +2,15 @@
 use Rattle.std.proofs.Common.{◌≡◌, ◌≤◌, ◌<◌, ◌⊎◌, ℕ, Bool, true, false, if◌then◌else◌, arith, List, [], ◌∷◌, ◌++◌, length, get_or, set, Option, Some, None}
 use Rattle.std.proofs.{Common.{refl, sym, ap, subst, ◌∙◌, inl, inr}, lemmas.Bool.{cases_eq, cases_lt}}
 use Rattle.std.proofs.lemmas.{Grind.{get_or-set_at}, List.{get_or-set_other, length_push, set_past}}
-use Rattle.std.specs.{Prelude.{nat_lt, slice_get}, List.{AllByRecursion}}
+use Rattle.std.specs.Prelude.{nat_lt, slice_get}
 use Rattle.sci_words.specs.declared.event.Event.{Event}
 use Rattle.sci_cache.specs.Cache.{Letter}
 use Rattle.sci_core.specs.declared.lane.LaneKind.{LaneKind}
 use Rattle.sci_core.specs.Core.{Core, Sends, Takes, lane_at, lane_of, lane_place, node_at, node_of, sent_by, side, stepping, taken_as, taken_from}
 use Rattle.sci_core.specs.{Core.{with_lane, with_node}, Node.{NodeOf}}
-use Rattle.sci_turn.specs.Posts.{IsFront, IsMade, IsStill, IsTaken, MayTakeFront, OthersLead}
+use Rattle.sci_turn.specs.Posts.{IsFront, IsMade, IsTaken, MayTakeFront, post_at}
 use Rattle.sci_turn.proofs.{Stills.{still_itself}, Working.{stepped}}
-use Rattle.sci_locked.specs.Lent.{KeepsRoom, post_at}
+use Rattle.sci_locked.specs.Lent.{KeepsRoom}
 
 lane_set : (lanes : List (List Letter)) (place p : ℕ) (lane : List Letter)
     → (get_or (set lanes place lane) p [] ≡ get_or lanes p []) ⊎ ((p ≡ place) × (get_or (set lanes place lane) p [] ≡ lane))
@@ -80,14 +80,6 @@ front_of [] letter e = cc
 front_of (first ∷ rest) letter e = (rest, let same : first ≡ letter = cc in ap (λ (l : Letter). l ∷ rest) same)
 
 -- ---- a node that has the machine for itself
-
-alone_lead : (n : ℕ) (old : Core) (others : List Event) (new : Core) → AllByRecursion (λ e. node_of e ≡ n) others → OthersLead n old others new → new ≡ old
-alone_lead n old [] new own lead = sym lead
-alone_lead n old (e ∷ others) new own lead = absurd (lead.2 own.0)
-
--- if it makes no event, the machine is the same
-pub alone_still : (n m : ℕ) (old new : Core) → IsStill (post_at n old) (post_at m new) → new ≡ old
-alone_still n m old new still = alone_lead n old still.others new still.further still.lead
 
 -- it makes an event
 pub alone_sends : (n : ℕ) (old new : Core) (e : Event) → node_of e ≡ n → stepping old e ≡ Some new → new.size ≡ old.size

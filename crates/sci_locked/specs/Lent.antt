@@ -1,13 +1,9 @@
 -- A machine that is lent to one of its nodes.
-use Rattle.std.specs.Prelude.{◌<◌, ◌≤◌, ℕ, length, None}
+use Rattle.std.specs.Prelude.{◌<◌, ◌≤◌, ℕ, length}
 use Rattle.sci_words.specs.declared.limits.TheConstants.{LANE_CELLS}
 use Rattle.sci_core.specs.Core.{Core, lane_at}
 use Rattle.sci_policy.specs.{declared.progress.Progress.{Progress}, Policy.{PolicyOf}}
-use Rattle.sci_turn.specs.{Moves.{IsTurn}, Posts.{PostOf}}
-
--- the post of a node that has the whole machine for itself
-abbrev pub post_at : ℕ → Core → PostOf
-post_at n core = record { me = n; core = core; schedule = None }
+use Rattle.sci_turn.specs.{Moves.{IsTurn}, Posts.{post_at}}
 
 -- the events of a turn of node n that memory stopped
 pub record IsPartOfTurn (n : ℕ) (before : PolicyOf) (old : Core) (after : PolicyOf) (new : Core) : Type 0 where

@@ -20,7 +20,8 @@ impl<'a> Post for Lent<'a> {
     ghost use Rattle.std.specs.Prelude.{◌≡◌, []};
     ghost use Rattle.sci_core.specs.Core.{lane_of};
     ghost use Rattle.std.proofs.Common.{refl, arith, ◌∙◌};
-    ghost use Rattle.sci_locked.specs.Lent.{KeepsRoom, post_at};
+    ghost use Rattle.sci_turn.specs.Posts.{post_at};
+    ghost use Rattle.sci_locked.specs.Lent.{KeepsRoom};
 
     type Stop = AllocError;
 

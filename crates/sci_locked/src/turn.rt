@@ -3,8 +3,8 @@
 ghost use Rattle.std.specs.Prelude.{◌≡◌, ◌<◌, true, None, IfOk, IsErr};
 ghost use Rattle.sci_core.specs.Core.{node_at};
 ghost use Rattle.sci_policy.specs.{Rest.{MayIdle}, Turn.{MayPerform, is_idle}, Worker.{HasSameWork}};
-ghost use Rattle.sci_turn.specs.{Idle.{IsIdleTurn}, Moves.{IsTurn}, Whole.{IsWholeTurn}};
-ghost use Rattle.sci_locked.specs.Lent.{IsPartOfTurn, KeepsRoom, post_at};
+ghost use Rattle.sci_turn.specs.{Idle.{IsIdleTurn}, Moves.{IsTurn}, Posts.{post_at}, Whole.{IsWholeTurn}};
+ghost use Rattle.sci_locked.specs.Lent.{IsPartOfTurn, KeepsRoom};
 
 use crate::post::Lent;
 use sci_core::Machine;

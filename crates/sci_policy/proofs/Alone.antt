@@ -48,7 +48,7 @@ waits_for_one home line (letter ∷ packets) has none awaits = cc
 
 -- ---- any machine
 
-beyond_out : (core : Core) (n line : ℕ) → IsReached core → n < core.size.nodes → core.size.lines ≤ line → waits (state_on (node_at core n) line) ≡ true → ⊥
+pub beyond_out : (core : Core) (n line : ℕ) → IsReached core → n < core.size.nodes → core.size.lines ≤ line → waits (state_on (node_at core n) line) ≡ true → ⊥
 beyond_out core n line reached some past awaits =
     let all = ((reached_well core reached).each_part n some).each in
     let none : line_of (node_at core n).cache line ≡ untouched = get_or_past (node_at core n).cache.lines line untouched (omega arith) in

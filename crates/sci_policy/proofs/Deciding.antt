@@ -33,7 +33,7 @@ pub none_seen : {A B : Type 0} (seen : Option A → Option B) → seen None ≡ 
 none_seen seen blind None waiting e none = sym e ∙ blind
 none_seen seen blind (Some x) waiting e none = cc
 
-kept_if : (keep refuse : Bool) → (if keep then decision.Keep else if refuse then decision.Refuse else decision.Serve) ≡ decision.Keep → keep ≡ true
+pub kept_if : (keep refuse : Bool) → (if keep then decision.Keep else if refuse then decision.Refuse else decision.Serve) ≡ decision.Keep → keep ≡ true
 kept_if true refuse e = refl
 kept_if false true e = cc
 kept_if false false e = cc

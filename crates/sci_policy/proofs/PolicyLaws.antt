@@ -1,19 +1,19 @@
--- Laws of what the policy wants, of its draining lines, and of the requests that it keeps.
+-- Laws of what the policy wants, of its draining and its due lines, and of the requests that it keeps.
 use Rattle.std.proofs.Common.{◌≡◌, ◌≢◌, ℕ, ◌+◌, ◌<◌, ◌==◌, ◌&&◌, ◌||◌, not, Bool, true, false, if◌then◌else◌, Option, Some, None, set, List, refl, sym}
-use Rattle.std.proofs.Common.{subst, eq-eqb, get_or-set_other, inl, inr, ◌∙◌}
+use Rattle.std.proofs.Common.{ap, subst, eq-eqb, get_or-set_other, inl, inr, ◌∙◌}
 use Rattle.std.proofs.lemmas.Bool.{and_parts, cases_eq, cases_lt, or_cases}
 use Rattle.std.specs.Prelude.{IfSome, IsOk, IsSome, nat_lt}
 use Rattle.sci_words.specs.declared.{limits.TheConstants.{MAX_LINES}, event.AskKind.{AskKind}}
 use Rattle.sci_packets.specs.declared.body.Body.{Body, TheVariants.{Cread}}
 use Rattle.sci_cache.specs.State.{CacheState, Joining, FreshJoining, Head, FreshHead, Telling, is_out}
 use Rattle.sci_cache.specs.{Asking.{Asked, asking}, Cache.{CacheOf, Letter, cache_asked, has_slot}}
-use Rattle.sci_cache.specs.{Kinds.{has_sharers, joins}, Line.{ask_or_fault}}
+use Rattle.sci_cache.specs.{Kinds.{has_fresh_sharers, has_sharers, joins}, Line.{ask_or_fault}}
 use Rattle.sci_core.specs.Node.{NodeOf, lines_of, node_asking}
 use Rattle.sci_core.proofs.Step.Asks.{may_ask}
 use Rattle.sci_policy.specs.declared.{policy.TheConstants.{PATIENCE}, want.Want.{Want, TheVariants.{Perform, Ask}}}
-use Rattle.sci_policy.specs.Lines.{can_drain, state_on}
+use Rattle.sci_policy.specs.Lines.{can_be_due, can_drain, state_on}
 use Rattle.sci_policy.specs.Policy.{IsEnabledWant, PolicyOf, asks_home_to_change, awaits_home, draining_at_last, due_at_last, has, held_back, is_busy_now}
-use Rattle.sci_policy.specs.Policy.{is_cread, kept_by, next_policy, next_wanted, noted, refused_by, ruled, set_of, still_draining, ticked}
+use Rattle.sci_policy.specs.Policy.{is_cread, kept_by, next_policy, next_wanted, noted, refused_by, ruled, set_of, still_draining, still_due, ticked}
 use Rattle.sci_policy.proofs.{Found.{least_some}, Marks.{in_set, past_set}, Wants.{wanted_enabled}}
 use Rattle.sci_words.specs.declared.event.AskKind.TheVariants as kind
 
@@ -89,9 +89,15 @@ last_drains policy node line h = elim (or_cases (still_draining policy node line
   | inr shared ↦ sharers_drain (state_on node line) shared
 ]
 
+-- the policy after one call more, if patience lasts or has ended
+abbrev pub ticked_if : PolicyOf → NodeOf → Bool → PolicyOf
+ticked_if policy node b =
+    if b
+    then record policy { draining = set_of (still_draining policy node); due = set_of (still_due policy node); patience = policy.patience + 1 }
+    else record policy { draining = set_of (draining_at_last policy node); due = set_of (due_at_last policy node); patience = 0 }
+
 ticked_by : (policy : PolicyOf) (node : NodeOf) (b : Bool)
-    → CanDrain node (if b then record policy { draining = set_of (still_draining policy node); patience = policy.patience + 1 } else record policy
-    { draining = set_of (draining_at_last policy node); due = set_of (due_at_last policy node); patience = 0 }).draining
+    → CanDrain node (ticked_if policy node b).draining
 ticked_by policy node true = set_drains node (still_draining policy node) (still_drains policy node)
 ticked_by policy node false = set_drains node (draining_at_last policy node) (last_drains policy node)
 
@@ -104,23 +110,64 @@ marked_too node marks line drains before = λ other marked. (elim (cases_eq othe
   | inr ne ↦ before other (sym (get_or-set_other marks line other true false ne) ∙ marked)
 ])
 
-if_draining : (policy due : PolicyOf) (node : NodeOf) (b : Bool) → CanDrain node policy.draining → CanDrain node due.draining
-    → CanDrain node (if b then due else policy).draining
-if_draining policy due node true before after = after
-if_draining policy due node false before after = before
-
 noted_drains : (policy : PolicyOf) (node : NodeOf) (want : Option Want) → IfSome want (IsEnabledWant node) → CanDrain node policy.draining
-    → CanDrain node (noted policy node want).draining
+    → CanDrain node (noted policy want).draining
 noted_drains policy node None enabled before = before
 noted_drains policy node (Some (Perform line)) enabled before = before
 noted_drains policy node (Some (Ask line kind.Purge)) enabled before = marked_too node policy.draining line (purge_enabled node line enabled) before
-noted_drains policy node (Some (Ask line kind.Claim)) enabled before = if_draining policy _ node _ before before
 noted_drains policy node (Some (Ask line _)) enabled before = before
 
 pub draining_purges : (policy : PolicyOf) (node : NodeOf) (line : ℕ) → has (next_policy policy node).draining line ≡ true
     → can_drain (state_on node line) ≡ true
 draining_purges policy node = noted_drains (ticked policy node) node (next_wanted policy node) (wanted_enabled (ticked policy node) node)
     (ticked_drains policy node)
+
+-- ---- due lines
+
+-- what is wanted changes no mark of a due line
+noted_due : (policy : PolicyOf) (want : Option Want) → (noted policy want).due ≡ policy.due
+noted_due policy None = refl
+noted_due policy (Some (Perform line)) = refl
+noted_due policy (Some (Ask line kind.Purge)) = refl
+noted_due policy (Some (Ask line _)) = refl
+
+sharers_due : (state : CacheState) → has_fresh_sharers state ≡ true → can_be_due state ≡ true
+sharers_due (FreshHead (Some f) c) h = refl
+sharers_due _ h = cc
+
+in_due : (node : NodeOf) (test : ℕ → Bool) (line : ℕ) → (test line ≡ true → can_be_due (state_on node line) ≡ true) → has (set_of test) line ≡ true
+    → can_be_due (state_on node line) ≡ true
+in_due node test line due marked = elim (cases_lt line MAX_LINES) [
+  | inl small ↦ due (sym (in_set test line small) ∙ marked)
+  | inr past ↦ (let none = past_set test line past in cc)
+]
+
+ticked_due : (policy : PolicyOf) (node : NodeOf) (line : ℕ) (b : Bool) → has (ticked_if policy node b).due line ≡ true
+    → can_be_due (state_on node line) ≡ true
+ticked_due policy node line true = in_due node (still_due policy node) line (λ still. (and_parts (has policy.due line) _ still).1)
+ticked_due policy node line false = in_due node (due_at_last policy node) line
+    (λ last. elim (or_cases (still_due policy node line) (has_fresh_sharers (state_on node line)) last) [
+      | inl still ↦ (and_parts (has policy.due line) _ still).1
+      | inr shared ↦ sharers_due (state_on node line) shared
+    ])
+
+pub due_claims : (policy : PolicyOf) (node : NodeOf) (line : ℕ) → has (next_policy policy node).due line ≡ true → can_be_due (state_on node line) ≡ true
+due_claims policy node line marked =
+    let ticks = subst (λ (marks : List Bool). has marks line ≡ true) (noted_due (ticked policy node) (next_wanted policy node)) marked in
+    ticked_due policy node line (nat_lt (policy.patience + 1) PATIENCE) ticks
+
+ticked_stays : (policy : PolicyOf) (node : NodeOf) (line : ℕ) (b : Bool) → line < MAX_LINES → still_due policy node line ≡ true
+    → has (ticked_if policy node b).due line ≡ true
+ticked_stays policy node line true small still = in_set (still_due policy node) line small ∙ still
+ticked_stays policy node line false small still =
+    in_set (due_at_last policy node) line small ∙ ap (λ (b : Bool). b || has_fresh_sharers (state_on node line)) still
+
+pub due_stays : (policy : PolicyOf) (node : NodeOf) (line : ℕ) → line < MAX_LINES → has policy.due line ≡ true → can_be_due (state_on node line) ≡ true
+    → has (next_policy policy node).due line ≡ true
+due_stays policy node line small due claims =
+    let still : still_due policy node line ≡ true = rw (due, claims) refl in
+    subst (λ (marks : List Bool). has marks line ≡ true) (sym (noted_due (ticked policy node) (next_wanted policy node)))
+    (ticked_stays policy node line (nat_lt (policy.patience + 1) PATIENCE) small still)
 
 -- ---- requests that are kept
 

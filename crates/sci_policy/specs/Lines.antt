@@ -2,7 +2,7 @@
 use Rattle.std.specs.Prelude.{ℕ, nat_le, Bool, true, false, ◌&&◌, if◌then◌else◌, List, [], ◌∷◌, filter, Option, Some, None, is_some}
 use Rattle.std.specs.List.{find, range_with_len}
 use Rattle.sci_words.specs.{declared.event.AskKind.{AskKind}, Operation.{is_maker}}
-use Rattle.sci_cache.specs.State.{CacheState, Joining, FreshJoining, Head, FreshHead, Below, Purging, Telling}
+use Rattle.sci_cache.specs.State.{CacheState, Joining, FreshJoining, Head, FreshHead, Below, Purging, Claiming, Telling}
 use Rattle.sci_cache.specs.Cache.{line_of}
 use Rattle.sci_core.specs.{declared.pending.Pending.{Pending}, Node.{NodeOf, lines_of, pending_on}}
 use Rattle.sci_words.specs.declared.event.AskKind.TheVariants as kind
@@ -14,6 +14,12 @@ abbrev pub can_drain : CacheState → Bool
 can_drain (Head (Some f) c) = true
 can_drain (Purging q c) = true
 can_drain _ = false
+
+-- a line that can be due: it claims, or is the head of a fresh list with a next entry
+abbrev pub can_be_due : CacheState → Bool
+can_be_due (FreshHead (Some f) c) = true
+can_be_due (Claiming f c) = true
+can_be_due _ = false
 
 abbrev pub is_head : CacheState → Bool
 is_head (Head f c) = true

@@ -12,7 +12,7 @@ use Rattle.sci_core.specs.Node.{NodeOf, node_performing, node_asking}
 use Rattle.sci_policy.specs.declared.{policy.TheConstants.{PATIENCE}, decision.Decision.{Decision}}
 use Rattle.sci_policy.specs.declared.{decision.Decision.TheVariants.{Keep, Refuse, Serve}, want.Want.{Want}}
 use Rattle.sci_policy.specs.declared.want.Want.TheVariants.{Perform, Ask}
-use Rattle.sci_policy.specs.Lines.{can_drain, is_head, own_ask, state_on, has_pending, has_maker, least, some_line, oldest}
+use Rattle.sci_policy.specs.Lines.{can_be_due, can_drain, is_head, own_ask, state_on, has_pending, has_maker, least, some_line, oldest}
 use Rattle.sci_words.specs.declared.event.AskKind.TheVariants as kind
 
 -- ---- what is remembered
@@ -20,7 +20,7 @@ use Rattle.sci_words.specs.declared.event.AskKind.TheVariants as kind
 pub record PolicyOf : Type 0 where
   -- for each line whether it is draining: until its list is purged it grants no Cread
   pub draining : List Bool
-  -- for each line whether it is due: it is to be claimed, for others than its own operations
+  -- for each line whether it is due: it is to be claimed, for others than its own operations, until it was
   pub due : List Bool
   -- how often it was asked what comes next, since something could be performed or patience ended
   pub patience : ℕ
@@ -45,18 +45,22 @@ opening_policy = record { draining = replicate MAX_LINES false; due = replicate 
 abbrev pub still_draining : PolicyOf → NodeOf → ℕ → Bool
 still_draining policy node line = has policy.draining line && can_drain (state_on node line)
 
+-- a line stays due while it is a fresh list's head with a next entry, or claims
+abbrev pub still_due : PolicyOf → NodeOf → ℕ → Bool
+still_due policy node line = has policy.due line && can_be_due (state_on node line)
+
 -- when patience ends, each head of a list with a next entry is draining too, or due
 abbrev pub draining_at_last : PolicyOf → NodeOf → ℕ → Bool
 draining_at_last policy node line = still_draining policy node line || has_sharers (state_on node line)
 
 abbrev pub due_at_last : PolicyOf → NodeOf → ℕ → Bool
-due_at_last policy node line = has policy.due line || has_fresh_sharers (state_on node line)
+due_at_last policy node line = still_due policy node line || has_fresh_sharers (state_on node line)
 
 -- one call more
 abbrev pub ticked : PolicyOf → NodeOf → PolicyOf
 ticked policy node =
     if nat_lt (policy.patience + 1) PATIENCE
-    then record policy { draining = set_of (still_draining policy node); patience = policy.patience + 1 }
+    then record policy { draining = set_of (still_draining policy node); due = set_of (still_due policy node); patience = policy.patience + 1 }
     else record policy { draining = set_of (draining_at_last policy node); due = set_of (due_at_last policy node); patience = 0 }
 
 -- ---- the rules, in their order
@@ -150,15 +154,10 @@ wanted policy node = held_back (some_line node (λ line. joins (state_on node li
 
 -- ---- what a want leaves behind
 
-abbrev pub noted_ask : PolicyOf → NodeOf → ℕ → AskKind → PolicyOf
-noted_ask policy node line kind.Purge = record policy { draining = slice_set policy.draining line true }
-noted_ask policy node line kind.Claim = if has_fresh_sharers (state_on node line) then record policy { due = slice_set policy.due line false } else policy
-noted_ask policy node line _ = policy
-
-abbrev pub noted : PolicyOf → NodeOf → Option Want → PolicyOf
-noted policy node None = policy
-noted policy node (Some (Perform line)) = record policy { patience = 0 }
-noted policy node (Some (Ask line kind)) = noted_ask policy node line kind
+abbrev pub noted : PolicyOf → Option Want → PolicyOf
+noted policy (Some (Perform line)) = record policy { patience = 0 }
+noted policy (Some (Ask line kind.Purge)) = record policy { draining = slice_set policy.draining line true }
+noted policy _ = policy
 
 -- what the policy wants next, after one call more
 abbrev pub next_wanted : PolicyOf → NodeOf → Option Want
@@ -166,7 +165,7 @@ next_wanted policy node = wanted (ticked policy node) node
 
 -- and the policy then
 abbrev pub next_policy : PolicyOf → NodeOf → PolicyOf
-next_policy policy node = noted (ticked policy node) node (next_wanted policy node)
+next_policy policy node = noted (ticked policy node) (next_wanted policy node)
 
 -- ---- requests of others
 

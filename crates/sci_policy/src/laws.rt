@@ -1,12 +1,12 @@
 //! Laws of the policy, each the contract of a function that does nothing. They hold on every node, reached or not.
 
 ghost use Rattle.std.specs.Prelude.{◌≡◌, ◌≢◌, ◌<◌, ◌≤◌, ℕ, Bool, Some, IfSome, false, true};
-ghost use Rattle.sci_words.specs.declared.event.AskKind.{AskKind, TheVariants.{Claim, Clear, Wback}};
+ghost use Rattle.sci_words.specs.declared.{limits.TheConstants.{MAX_LINES}, event.AskKind.{AskKind, TheVariants.{Claim, Clear, Wback}}};
 ghost use Rattle.sci_packets.specs.declared.body.Body.TheVariants.{Cread};
 ghost use Rattle.sci_cache.specs.{Cache.{Letter}, Kinds.{joins}};
 ghost use Rattle.sci_core.specs.Node.{NodeOf, lines_of};
 ghost use Rattle.sci_policy.specs.declared.want.Want.TheVariants.{Ask};
-ghost use Rattle.sci_policy.specs.Lines.{can_drain, has_pending, least, oldest, serial_on, state_on};
+ghost use Rattle.sci_policy.specs.Lines.{can_be_due, can_drain, has_pending, least, oldest, serial_on, state_on};
 ghost use Rattle.sci_policy.specs.Policy.{PolicyOf, awaits_home, has, kept_by, next_policy, next_wanted};
 
 /// The least line of which something is true is one of them, and stands before all others.
@@ -44,6 +44,22 @@ pub fn draining_lines_can_purge()
     ensures { (policy : PolicyOf) (node : NodeOf) (line : ℕ)
         → has (next_policy policy node).draining line ≡ true
         → can_drain (state_on node line) ≡ true }
+{}
+
+/// A due line claims its list, or is the head of a fresh list with a next entry, which it can claim.
+pub fn due_lines_can_claim()
+    ensures { (policy : PolicyOf) (node : NodeOf) (line : ℕ)
+        → has (next_policy policy node).due line ≡ true
+        → can_be_due (state_on node line) ≡ true }
+{}
+
+/// A due line stays due while it is the head of a fresh list with a next entry, or claims. So a Claim that finds its lane
+/// full is wanted again, before anything that the node's operations want.
+pub fn due_lines_stay_due()
+    ensures { (policy : PolicyOf) (node : NodeOf) (line : ℕ)
+        → line < MAX_LINES → has policy.due line ≡ true
+        → can_be_due (state_on node line) ≡ true
+        → has (next_policy policy node).due line ≡ true }
 {}
 
 /// A request that is kept is a Cread of another node.

@@ -1,9 +1,9 @@
 //! The sets of lines that a policy remembers.
 
-ghost use Rattle.std.specs.Prelude.{◌≡◌, ◌<◌, ◌||◌, ℕ, false, replicate, slice_set};
+ghost use Rattle.std.specs.Prelude.{◌≡◌, ◌<◌, ◌&&◌, ◌||◌, ℕ, Bool, false, replicate, slice_set};
 ghost use Rattle.sci_words.specs.declared.limits.TheConstants.{MAX_LINES};
 ghost use Rattle.sci_cache.specs.LineSet.{is_in};
-ghost use Rattle.sci_policy.specs.Policy.{has as has_line, set_of};
+ghost use Rattle.sci_policy.specs.{Policy.{has as has_line, set_of}, Scan.{IsTest}};
 
 use sci_cache::LineSet;
 use sci_words::MAX_LINES;
@@ -58,6 +58,21 @@ impl LineMarks {
         LineMarks {
             set: self.set.union(other),
         }
+    }
+
+    /// The lines of the set that pass a test. It looks at no other line.
+    pub(crate) fn filter<F: Fn(u8) -> bool>(&self, test: F) -> LineMarks
+        requires { (line : ℕ) → line < MAX_LINES → F.pre test line }
+        ensures { (tested : ℕ → Bool) → IsTest MAX_LINES (F.post test) tested →
+            result ≡ set_of (λ line. has_line self.now line && tested line) }
+    {
+        let mut found = LineMarks::new();
+        let mut from = 0;
+        'lines: while let Some(line) = self.set.next_from(from) {
+            found.put(line, test(line));
+            from = line + 1;
+        }
+        found
     }
 
     /// The lines of the set.

@@ -2,9 +2,9 @@
 
 ghost use Rattle.std.specs.Prelude.{◌≡◌, ◌<◌, ◌&&◌, ℕ, Bool, true, false, None, Some, IfSome, option_map};
 ghost use Rattle.sci_cache.specs.{LineSet.{is_in}, Held.{state_of}, State.{Out, is_out as is_out_in}};
-ghost use Rattle.sci_cache.specs.Kinds.{has_fresh_sharers as has_fresh_sharers_in, is_of};
+ghost use Rattle.sci_cache.specs.Kinds.{is_of};
 ghost use Rattle.sci_policy.specs.Policy.{awaits_home as awaits_home_in, is_busy_now as is_busy_now_in};
-ghost use Rattle.sci_policy.specs.Lines.{can_drain as can_drain_in, has_maker as has_maker_on, is_head as is_head_in};
+ghost use Rattle.sci_policy.specs.Lines.{can_be_due as can_be_due_in, can_drain as can_drain_in, has_maker as has_maker_on, is_head as is_head_in};
 ghost use Rattle.sci_policy.specs.Lines.{least, oldest as oldest_with, own_ask as own_ask_in, state_on};
 ghost use Rattle.sci_policy.specs.Scan.{IsTest, is_older_than};
 ghost use Rattle.sci_core.specs.Node.{lines_of};
@@ -25,12 +25,13 @@ pub(crate) fn held_on(node: &Node, line: u8) -> Option<&Held>
     }
 }
 
-/// Whether a line is the head of a fresh list with a next entry.
-pub(crate) fn has_fresh_sharers(node: &Node, line: u8) -> bool
-    ensures { result ≡ has_fresh_sharers_in (state_on node.now line) }
+/// Whether a line claims its list, or is the head of a fresh list with a next entry.
+pub(crate) fn can_be_due(node: &Node, line: u8) -> bool
+    ensures { result ≡ can_be_due_in (state_on node.now line) }
 {
     match held_on(node, line) {
         Some(Held::FreshHead(head)) => head.forward.is_some(),
+        Some(Held::Claiming(_)) => true,
         _ => false,
     }
 }

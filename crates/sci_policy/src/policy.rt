@@ -8,9 +8,7 @@ ghost use Rattle.sci_cache.specs.{Cache.{letter_of}, LineSet.{is_in}, State.{Out
 
 use crate::decision::Decision;
 use crate::line_marks::LineMarks;
-use crate::lines::{
-    awaits_home, can_drain, has_fresh_sharers, has_maker, is_busy_now, is_head, least_of,
-};
+use crate::lines::{awaits_home, can_be_due, can_drain, has_maker, is_busy_now, is_head, least_of};
 use crate::rules::{perform_wanted, ruled};
 use crate::want::Want;
 use sci_cache::{LineKind, LineSet};
@@ -50,7 +48,7 @@ impl Policy {
     ghost use Rattle.sci_core.specs.Reached.{IsReachedNode};
     ghost use Rattle.sci_policy.specs.Policy.{IsEnabledWant, PolicyOf, decided, first_sender, has as has_line, kept_by, next_policy, next_wanted, noted};
     ghost use Rattle.sci_policy.specs.Policy.{opening_policy, perform_wanted as perform_wanted_by, refused_by, still_draining, draining_at_last};
-    ghost use Rattle.sci_policy.specs.{Policy.{due_at_last, set_of, ticked, turned, wanted}, Rest.{MayRest}};
+    ghost use Rattle.sci_policy.specs.{Policy.{due_at_last, set_of, still_due, ticked, turned, wanted}, Rest.{MayRest}};
 
     /// The policy of a node that has done nothing: no line is draining or due, no turn was counted, and no request was
     /// served.
@@ -76,7 +74,7 @@ impl Policy {
     {
         self.tick(node);
         let want = self.wanted(node);
-        self.note(node, want);
+        self.note(want);
         want
     }
 
@@ -86,6 +84,7 @@ impl Policy {
     {
         if self.patience + 1 < PATIENCE {
             self.draining = self.still_draining(node);
+            self.due = self.still_due(node);
             self.patience += 1;
         } else {
             self.draining = self.draining_at_last(node);
@@ -94,18 +93,18 @@ impl Policy {
         }
     }
 
-    /// The lines that go on draining. It looks at no line that isn't draining.
+    /// The lines that go on draining.
     fn still_draining(&self, node: &Node) -> LineMarks
         ensures { result ≡ set_of (still_draining self.now node.now) }
     {
-        let draining = self.draining.lines();
-        let mut lines = LineMarks::new();
-        let mut from = 0;
-        'draining: while let Some(line) = draining.next_from(from) {
-            lines.put(line, can_drain(node, line));
-            from = line + 1;
-        }
-        lines
+        self.draining.filter(|line| can_drain(node, line))
+    }
+
+    /// The lines that stay due.
+    fn still_due(&self, node: &Node) -> LineMarks
+        ensures { result ≡ set_of (still_due self.now node.now) }
+    {
+        self.due.filter(|line| can_be_due(node, line))
     }
 
     /// The lines that are draining when patience has ended.
@@ -120,7 +119,8 @@ impl Policy {
     fn due_at_last(&self, node: &Node) -> LineMarks
         ensures { result ≡ set_of (due_at_last self.now node.now) }
     {
-        self.due.union(node.lines_of(LineKind::HasFreshSharers))
+        self.still_due(node)
+            .union(node.lines_of(LineKind::HasFreshSharers))
     }
 
     /// What the rules want.
@@ -145,15 +145,12 @@ impl Policy {
     }
 
     /// Remembers what it wants.
-    fn note(&mut self, node: &Node, want: Option<Want>)
-        ensures { self.new ≡ noted self.old node.now want }
+    fn note(&mut self, want: Option<Want>)
+        ensures { self.new ≡ noted self.old want }
     {
         match want {
             Some(Want::Perform(_)) => self.patience = 0,
             Some(Want::Ask(line, AskKind::Purge)) => self.draining.put(line, true),
-            Some(Want::Ask(line, AskKind::Claim)) if has_fresh_sharers(node, line) => {
-                self.due.put(line, false);
-            }
             _ => {}
         }
     }

@@ -3,6 +3,7 @@
 
 use crate::busy::Busy;
 use crate::locked::Locked;
+use crate::nodes::Nodes;
 use crate::running::Running;
 use sci_chance::Random;
 use sci_words::{Act, LockOp, Op};
@@ -120,6 +121,78 @@ fn random_orders_end(rt: HostRuntime) -> Result<(), Fail> {
     Ok(())
 }
 
+/// Four nodes read one line, and then the next one in the opposite order. So nodes 0 and 1 are at the ends of both lists.
+const READS: &str = "
+    1+0 2 1 2 1 2+0 2 1 2 2 1 2 2 1 2 3+0 2 2 3 2 2 3 2 2 3 0+0 2 3 0 2 3 0 2 3 0
+    0+1 3 0 3 0 3+1 3 0 3 3 0 3 3 0 3 2+1 3 3 2 3 3 2 3 3 2 1+1 3 2 1 3 2 1 3 2 1
+";
+
+/// Nodes 2 and 3 read other lines, for which they leave those lists, both at once. So the last member of each list still
+/// takes a node that is gone for the one before it, and can't leave by itself.
+const LEAVES: &str = "
+    2+0 3+8 0 3 1 2 1 2 3 0 0 2 3 0 0 2 3 0 0
+    3+9 2+1 1 2 0 3 0 2 3 1 1 2 3 1 1 2 3 1 1
+    2+2 3+10 0 3 1 2 1 2 3 2 3 2 3 2 3
+    3+11 2+3 1 2 0 3 0 2 3 2 3 2 3 2 3
+";
+
+/// Nodes go as a text says. A word is a node, or with `+K` behind it a node that reads the line `K` after `first`.
+fn go_through<N: Nodes + Drop>(busy: &mut Busy<N>, text: &str, first: u8) -> Result<(), Fail> {
+    for word in text.split_whitespace() {
+        let node = match word.split_once('+') {
+            Some((node, after)) => {
+                let node = node.parse::<u8>()?;
+                let line = first.saturating_add(after.parse::<u8>()?);
+                busy.add(node, on(line, Act::Load))?;
+                node
+            }
+            None => word.parse::<u8>()?,
+        };
+        busy.go(node)?;
+    }
+    Ok(())
+}
+
+/// An order in which each of these nodes goes this often.
+fn runs_of(alloc: Global, runs: &[(u8, u8)]) -> Result<Vec<u8>, AllocError> {
+    let mut order = Vec::new(alloc);
+    for (node, times) in runs {
+        for _time in 0..*times {
+            order.push(*node)?;
+        }
+    }
+    Ok(order)
+}
+
+/// Nodes 0 and 1 lead four fresh lists each, and each wants to write on the lines of the other, where it is the last member
+/// and can't leave. So each has to claim its lists for the other. But whenever its patience ends, its own requests to
+/// leave fill the lane to the home.
+#[test]
+fn due_lines_are_claimed_at_last(rt: HostRuntime) -> Result<(), Fail> {
+    let nodes = Locked::of(&rt, rt.alloc(), (4, 32, 8), 100)?;
+    let mut busy = Busy::new(rt.alloc(), nodes, 4, 32)?;
+    for first in [2, 6, 10, 14] {
+        go_through(&mut busy, READS, first)?;
+    }
+    for first in [16, 20] {
+        go_through(&mut busy, LEAVES, first)?;
+    }
+    for first in [2u8, 6, 10, 14] {
+        for (node, line) in [(0, first.saturating_add(1)), (1, first)] {
+            busy.add(node, on(line, WRITE))?;
+            busy.go(node)?;
+        }
+    }
+    busy.go_all(&runs_of(rt.alloc(), &[(2, 1), (0, 31), (3, 1), (1, 34)])?)?;
+    let order = runs_of(rt.alloc(), &[(2, 1), (0, 61), (3, 1), (1, 61)])?;
+    busy.end(rt.alloc(), &order)
+}
+
+/// An operation on word 0 of a line.
+fn on(line: u8, act: Act) -> Op {
+    Op { line, word: 0, act }
+}
+
 /// A random operation on one of this many lines.
 fn any_op(random: &mut Random, lines: u8) -> Op {
     let line = random.below(lines);
@@ -197,12 +270,7 @@ fn adders(rt: &impl Wait, alloc: Global, nodes: u8) -> Result<(u32, u64), Fail> 
     for node in 0..nodes {
         order.push(node)?;
         for _time in 0..50 {
-            let op = Op {
-                line: 0,
-                word: 0,
-                act: ADD,
-            };
-            busy.add(node, op)?;
+            busy.add(node, on(0, ADD))?;
         }
     }
     let rounds = busy.rounds(&order, 1_000_000)?;

@@ -7,3 +7,4 @@ pub mod Idling
 pub mod Working
 pub mod Steps
 pub mod Wholes
+pub mod AlonePosts

@@ -141,7 +141,7 @@ next_place nodes first place =
     let same : first + 1 + place ≡ first + suc place = omega arith in
     mod-add-mod (first + 1) nodes place ∙ ap (λ (k : ℕ). k % nodes) same
 
-of_circle : (P : ℕ → Type 0) (nodes count first place : ℕ) → first < nodes → place < count → AllByRecursion P (circle nodes first count)
+pub of_circle : (P : ℕ → Type 0) (nodes count first place : ℕ) → first < nodes → place < count → AllByRecursion P (circle nodes first count)
     → P ((first + place) % nodes)
 of_circle P nodes zero first place below few all = absurd (omega arith)
 of_circle P nodes (suc count) first zero below few all = subst P (sym (first_place nodes first below)) all.0
@@ -162,7 +162,7 @@ below_if : (b : Bool) (j nodes : ℕ) → 1 ≤ nodes → nat_lt (j + 1) nodes �
 below_if true j nodes some is = ltb-true (j + 1) nodes is
 below_if false j nodes some is = omega arith
 
-first_below : (nodes : ℕ) (served : Option ℕ) → 1 ≤ nodes → after_served nodes served < nodes
+pub first_below : (nodes : ℕ) (served : Option ℕ) → 1 ≤ nodes → after_served nodes served < nodes
 first_below nodes None some = omega arith
 first_below nodes (Some j) some = below_if (nat_lt (j + 1) nodes) j nodes some refl
 

@@ -14,6 +14,10 @@ pub record PostOf : Type 0 where
   pub core : Core
   pub schedule : Option (List Event)
 
+-- the post of a node that has the whole machine for itself
+abbrev pub post_at : ℕ → Core → PostOf
+post_at n core = record { me = n; core = core; schedule = None }
+
 abbrev pub node_in : PostOf → NodeOf
 node_in post = node_at post.core post.me
 

@@ -1,9 +1,7 @@
 use Rattle.std.proofs.Common.{◌≡◌, ℕ, refl, sym, subst, rules}
 use Rattle.sci_core.specs.Core.{Core}
-use Rattle.sci_turn.specs.{Posts.{IsPost}, Whole.{IsWholeTurn}}
-use Rattle.sci_turn.proofs.{Idling.{may_idle}, Working.{post_after}}
-use Rattle.sci_locked.specs.Lent.{post_at}
-use Rattle.sci_locked.proofs.Lanes.{alone_still}
+use Rattle.sci_turn.specs.{Posts.{IsPost, post_at}, Whole.{IsWholeTurn}}
+use Rattle.sci_turn.proofs.{AlonePosts.{alone_still}, Idling.{may_idle}, Working.{post_after}}
 use Rattle.sci_locked.proofs.turn.turn_on.Goals as goal
 
 pub returns-clause-turn : goal.returns-clause-turn

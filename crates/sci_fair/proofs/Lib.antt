@@ -1,0 +1,9 @@
+pub mod Taking
+pub mod Stuck
+pub mod Opens
+pub mod Looks
+pub mod Vain
+pub mod Followers
+pub mod RankTables
+pub mod Suits
+pub mod RankSteps

@@ -1,0 +1,5 @@
+pub mod Lanes
+pub mod Looks
+pub mod Stuck
+pub mod Vain
+pub mod Rank

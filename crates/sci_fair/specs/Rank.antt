@@ -1,0 +1,109 @@
+-- The rank of a node's line. It falls at each real change that a turn makes of the line, and stays at each try that fails.
+use Rattle.std.specs.Prelude.{◌≡◌, ℕ, Bool, true, false, ◌&&◌, ◌||◌, nat_le, Option, Some, None, option_map}
+use Rattle.sci_words.specs.{declared.event.AskKind.{AskKind}, Operation.{is_maker}}
+use Rattle.sci_cache.specs.State.{CacheState, Out, Asking, Joining, FreshJoining, Head, FreshHead, Below, Purging, Claiming, Clearing, Returning, Rolling}
+use Rattle.sci_cache.specs.State.{Telling, Fading}
+use Rattle.sci_packets.specs.declared.body.Body.{Body}
+use Rattle.sci_policy.specs.{Lines.{is_head}, Policy.{is_cread}}
+use Rattle.sci_core.specs.{declared.pending.Pending.{Pending}, Node.{NodeOf, pending_on}}
+use Rattle.sci_words.specs.declared.event.AskKind.TheVariants as kind
+
+-- what is pending on a line: nothing, or an operation, of which it is said whether it is a maker
+abbrev pub work_in : Option Pending → Option Bool
+work_in = option_map (λ pending. is_maker pending.op)
+
+abbrev pub work_on : NodeOf → ℕ → Option Bool
+work_on node line = work_in (pending_on node line)
+
+-- ---- ranks: the states of one rank are those between which a line goes at tries that fail
+
+-- with nothing pending, the line leaves its list; an Issue lowers the rank from 40 and more to at most 9
+abbrev pub rank_idle : CacheState → ℕ
+rank_idle Out = 40
+rank_idle (Telling r w sent) = 41
+rank_idle Fading = 41
+rank_idle (Below f b c) = 42
+rank_idle (Rolling f b c) = 42
+rank_idle (Head f c) = 43
+rank_idle (Purging q c) = 43
+rank_idle (Returning c) = 43
+rank_idle (FreshHead f c) = 44
+rank_idle (Claiming f c) = 44
+rank_idle (Clearing c) = 44
+rank_idle (Joining p sent) = 45
+rank_idle (FreshJoining p sent c) = 45
+rank_idle Asking = 46
+
+-- with a load pending, the line comes to contents
+abbrev pub rank_loading : CacheState → ℕ
+rank_loading (Below f b c) = 0
+rank_loading (Head f c) = 1
+rank_loading (FreshHead f c) = 1
+rank_loading (Purging q c) = 2
+rank_loading (Claiming f c) = 2
+rank_loading (Joining p sent) = 2
+rank_loading (FreshJoining p sent c) = 2
+rank_loading Asking = 3
+rank_loading Out = 4
+rank_loading (Telling r w sent) = 5
+rank_loading Fading = 5
+rank_loading (Rolling f b c) = 6
+rank_loading (Returning c) = 6
+rank_loading (Clearing c) = 6
+
+-- with a maker pending, the line becomes the head of a list that may write
+abbrev pub rank_making : CacheState → ℕ
+rank_making (Head f c) = 0
+rank_making (Purging q c) = 0
+rank_making (Joining p sent) = 1
+rank_making Asking = 2
+rank_making Out = 3
+rank_making (Telling r w sent) = 4
+rank_making Fading = 4
+rank_making (Returning c) = 5
+rank_making (Below f b c) = 6
+rank_making (Rolling f b c) = 6
+rank_making (FreshHead f c) = 7
+rank_making (Claiming f c) = 7
+rank_making (Clearing c) = 8
+rank_making (FreshJoining p sent c) = 9
+
+abbrev pub rank : Option Bool → CacheState → ℕ
+rank None state = rank_idle state
+rank (Some false) state = rank_loading state
+rank (Some true) state = rank_making state
+
+-- ---- what changes a rank
+
+-- whether what is pending can be performed in this state
+abbrev pub can_perform : Option Bool → CacheState → Bool
+can_perform (Some false) (Head f c) = true
+can_perform (Some false) (FreshHead f c) = true
+can_perform (Some false) (Below f b c) = true
+can_perform (Some true) (Head None c) = true
+can_perform _ _ = false
+
+-- three changes that raise the rank: a read that is refused; a maker's read that is answered by fresh contents; and a load
+-- purged that could be performed
+abbrev pub is_excepted : Option Bool → CacheState → CacheState → Bool
+is_excepted work Asking Out = true
+is_excepted (Some true) Asking (FreshHead f c) = true
+is_excepted (Some true) Asking (FreshJoining p sent c) = true
+is_excepted (Some false) (Below f b c) Out = true
+is_excepted _ _ _ = false
+
+-- the rank doesn't rise from one state to the next, but by one of these changes
+abbrev pub never_rises : Option Bool → CacheState → CacheState → Bool
+never_rises work old new = nat_le (rank work new) (rank work old) || is_excepted work old new
+
+-- what is asked suits what is pending: no line is read for nothing, and no list is given back while a maker waits
+abbrev pub suits : Option Bool → AskKind → Bool
+suits None kind.Mread = false
+suits None kind.Fread = false
+suits (Some true) kind.Clear = false
+suits _ _ = true
+
+-- while a maker is pending, a request is no Cread for a head: such a one is refused
+abbrev pub IsHeldFor : Option Bool → CacheState → Body → Type 0
+IsHeldFor (Some true) s request = (is_cread request && is_head s) ≡ false
+IsHeldFor work s request = Unit {0}

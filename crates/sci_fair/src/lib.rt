@@ -1,0 +1,5 @@
+//! That turns go on: laws of machines whose nodes take turns, each the contract of a function that does nothing.
+#![tactic(auto)]
+
+pub mod rank;
+pub mod turns;

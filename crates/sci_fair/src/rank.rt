@@ -1,0 +1,50 @@
+//! The rank of each node's line never rises in turns, so what is real change between two Performs is bounded.
+
+ghost use Rattle.std.specs.Prelude.{◌≡◌, ◌<◌, ℕ, Bool, true, false, Option, None, Some, IfSome};
+ghost use Rattle.sci_words.specs.declared.{event.{AskKind.{AskKind}, Event.{Event}}, stamped.Stamped.{Stamped}};
+ghost use Rattle.sci_packets.specs.declared.body.Body.{Body};
+ghost use Rattle.sci_cache.specs.{Accepting.{accepting}, Asking.{asking}, Serving.{serving}, State.{CacheState, Purging}};
+ghost use Rattle.sci_core.specs.{Core.{Core, node_at, stepping}, Node.{NodeOf, pending_on}, Reached.{IsReached, IsReachedNode}};
+ghost use Rattle.sci_core.specs.{Shape.{follows, state_at}, Sharing.{answer_to}};
+ghost use Rattle.sci_policy.specs.{declared.want.Want.TheVariants.{Ask}, Lines.{state_on}, Policy.{PolicyOf, next_wanted}};
+ghost use Rattle.sci_turn.specs.Moves.{IsOwn};
+ghost use Rattle.sci_fair.specs.Rank.{IsHeldFor, can_perform, never_rises, suits, work_on};
+
+/// While a Purge is under way to a node, the node's line is Below or Rolling. So it never answers the Purge as busy.
+pub fn purges_find_followers()
+    ensures { (core : Core) (line k q : ℕ) (c : Stamped) → IsReached core → line < core.size.lines
+        → state_at core line k ≡ Purging q c → answer_to core k line ≡ None
+        → follows (state_at core line q) ≡ true }
+{}
+
+/// The tables never raise the rank, whatever is pending: to accept; to serve, if a Cread for the head of a pending maker is
+/// refused; and to ask what suits what is pending, where it can't be performed.
+pub fn tables_never_raise_the_rank()
+    ensures accept { (work : Option Bool) (state : CacheState) (answer : Body)
+        → IfSome (accepting state answer) (λ next. never_rises work state next ≡ true) }
+    ensures serve { (work : Option Bool) (state : CacheState) (n : ℕ) (request : Body)
+        → IsHeldFor work state request
+        → IfSome (serving state n request) (λ served. never_rises work state served.0 ≡ true) }
+    ensures ask { (work : Option Bool) (state : CacheState) (kind : AskKind)
+        → suits work kind ≡ true → can_perform work state ≡ false
+        → IfSome (asking state kind) (λ asked. never_rises work state asked.next ≡ true) }
+{}
+
+/// What a policy asks for at a node of a reached state suits what is pending on the line, and that can't be performed.
+pub fn asks_suit_what_is_pending()
+    ensures { (policy : PolicyOf) (n : ℕ) (node : NodeOf) (line : ℕ) (kind : AskKind)
+        → IsReachedNode n node → next_wanted policy node ≡ Some (Ask line kind)
+        → (suits (work_on node line) kind ≡ true)
+        × (can_perform (work_on node line) (state_on node line) ≡ false) }
+{}
+
+/// Each event of a turn leaves what is pending at each node, and raises the rank of none of its lines, but for the three
+/// changes of `is_excepted`.
+pub fn turns_never_raise_the_rank()
+    ensures { (core new : Core) (n : ℕ) (before after : PolicyOf) (e : Event)
+        → IsReached core → n < core.size.nodes
+        → IsOwn n before core e after → stepping core e ≡ Some new → (m line : ℕ)
+        → (pending_on (node_at new m) line ≡ pending_on (node_at core m) line)
+        × (never_rises (work_on (node_at core m) line)
+        (state_on (node_at core m) line) (state_on (node_at new m) line) ≡ true) }
+{}

@@ -1,0 +1,46 @@
+//! While something is pending, turns don't stop making events.
+
+ghost use Rattle.std.specs.Prelude.{◌≡◌, ◌<◌, ◌≤◌, ◌==◌, ℕ, List, None, Some, count_by};
+ghost use Rattle.sci_words.specs.declared.event.Event.{Event};
+ghost use Rattle.sci_core.specs.declared.lane.LaneKind.TheVariants.{Requests};
+ghost use Rattle.sci_core.specs.Core.{Core, lane_of, node_at, opening, stepping};
+ghost use Rattle.sci_core.specs.{Node.{pending_on}, Reached.{IsReached}, Size.{Size}};
+ghost use Rattle.sci_policy.specs.declared.{policy.TheConstants.{PATIENCE}, progress.Progress.{Progress}};
+ghost use Rattle.sci_policy.specs.Policy.{PolicyOf, turned};
+ghost use Rattle.sci_turn.specs.{Moves.{IsOwn}, Posts.{PostOf, post_at}, Whole.{IsWholeTurn}};
+ghost use Rattle.sci_fair.specs.{Lanes.{AreOpen, IsWork}, Looks.{HasLooked}, Stuck.{IsStuck}, Vain.{AreInVain}};
+
+/// In a machine that works by turns, no request that changes a list at its home stands behind a Cread: in none that
+/// opens, and after each event of a turn, each Issue and each Perform, if it was so before.
+pub fn turns_keep_lanes_open()
+    ensures first { (size : Size) → AreOpen (opening size) }
+    ensures turns { (core new : Core) (before after : PolicyOf) (n : ℕ) (e : Event)
+        → IsReached core → AreOpen core → n < core.size.nodes
+        → IsOwn n before core e after → stepping core e ≡ Some new → AreOpen new }
+    ensures works { (core new : Core) (e : Event) → IsReached core → AreOpen core
+        → IsWork e → stepping core e ≡ Some new → AreOpen new }
+{}
+
+/// A whole turn of a node that has the machine for itself looks at the lane of requests from each node. It finds the lane
+/// as it was when the turn began, and takes its front as the policy decides, or keeps it, or an answer waits.
+pub fn turns_look_at_each_lane()
+    ensures { (n j : ℕ) (before after : PolicyOf) (old : Core) (new : PostOf) (progress : Progress)
+        → IsReached old → n < old.size.nodes → j < old.size.nodes
+        → IsWholeTurn before (post_at n old) after new progress
+        → HasLooked n j (turned before).turns (lane_of old Requests j n) }
+{}
+
+/// If no node finds anything to do in its turn, not even in one in which it lets requests go, then nothing is pending.
+pub fn no_machine_is_stuck()
+    ensures { (core : Core) → IsReached core → AreOpen core → IsStuck core
+        → (n line : ℕ) → n < core.size.nodes → pending_on (node_at core n) line ≡ None }
+{}
+
+/// If nodes take turns in vain, one after another in any order, until each has taken 64, then nothing is pending. So while
+/// something is pending, some event is made before each node has taken 64 turns.
+pub fn turns_are_not_in_vain_for_ever()
+    ensures { (core : Core) (order : List ℕ) (before after : ℕ → PolicyOf)
+        → IsReached core → AreOpen core → AreInVain core order before after
+        → ((n : ℕ) → n < core.size.nodes → PATIENCE ≤ count_by (λ m. m == n) order)
+        → (n line : ℕ) → n < core.size.nodes → pending_on (node_at core n) line ≡ None }
+{}
