@@ -2,7 +2,9 @@
 """Checks the pages of the repository, without building anything:
 
 - each link to a file or to a heading leads to one;
-- each name that a page about code has between backticks stands in the sources, and each file that it names is there;
+- each name that a page about code has between backticks stands in the sources, and each file that it names is there: in the
+  README of a crate, and below a heading that names crates, in these crates, in those that they stand on, and in those that the
+  paragraph names;
 - each run of lines of Rust in a page stands in the sources, one line after another, whatever the indentation; a line `..`
   stands for lines that are left out;
 - each crate has a README of at most 60 lines;
@@ -68,21 +70,61 @@ def wrong_code(path, sources):
                 yield f"no such code: {lines[0]}"
 
 
-def wrong_names(path, words, files):
-    """Names of the code, and of files, that stand nowhere."""
+class Sources:
+    """The names and the files of each crate, of those that it stands on, and of the rest of the repository."""
+
+    def __init__(self, files):
+        lines = re.findall(r"^(\w+)[^:#\n]*:(.*)$", read("crates.txt"), re.MULTILINE)
+        self.below = {crate: deps.split() for crate, deps in lines}
+        self.files = {crate: [it for it in files if it.startswith(f"crates/{crate}/")] for crate in self.below}
+        self.files[""] = [it for it in files if not it.startswith("crates/")]
+        self.words = {crate: self.words_of(of) for crate, of in self.files.items()}
+
+    @staticmethod
+    def words_of(files):
+        code = [read(it) for it in files if it.endswith((".rt", ".antt")) or it == "crates.txt"]
+        return set(re.findall(r"\w+", " ".join([*code, *files])))
+
+    def all_below(self, crates):
+        """These crates and all that they stand on; every crate if there are none."""
+        found, new = {""}, list(crates or self.below)
+        while new:
+            crate = new.pop()
+            if crate in self.below and crate not in found:
+                found.add(crate)
+                new += self.below[crate]
+        return found
+
+
+def paragraphs(path):
+    """Each paragraph of a page about code, with the crates to which its section belongs."""
     text = re.sub(r"^```.*?^```", "", read(path), flags=re.MULTILINE | re.DOTALL)
-    for quoted in sorted(set(re.findall(r"`([^`]+)`", text))):
-        if re.search(r"\.(antt|rt|py|txt)$", quoted):
-            if not any(fnmatch(it, quoted) or fnmatch(it, "*/" + quoted) for it in files):
-                yield f"no such file: {quoted}"
-            continue
-        if quoted.startswith(("rt ", "make ")):
-            continue
-        for name in re.findall(r"[A-Za-z]\w*", quoted):
-            is_front = quoted.endswith((name + "..", name + "*")) and any(it.startswith(name) for it in words)
-            if not is_front and name not in words | OTHER:
-                yield f"no such name: {quoted}"
-                break
+    own = re.findall(r"^crates/(\w+)/", path)
+    of_section = own
+    for part in re.split(r"\n\s*\n|\n(?=[#|-])", text):
+        if part.startswith("## "):
+            of_section = own or re.findall(r"`(sci\w+)`", part)
+        yield part, [*of_section, *(re.findall(r"`(sci\w+)`", part) if of_section else [])]
+
+
+def wrong_names(path, sources):
+    """Names of the code, and of files, that don't stand where their paragraph says."""
+    for text, crates in paragraphs(path):
+        where = sources.all_below(crates)
+        files = [it for crate in where for it in sources.files[crate]]
+        words = set().union(OTHER, *(sources.words[crate] for crate in where))
+        for quoted in sorted(set(re.findall(r"`([^`]+)`", text))):
+            if re.search(r"\.(antt|rt|py|txt)$", quoted):
+                if not any(fnmatch(it, quoted) or fnmatch(it, "*/" + quoted) for it in files):
+                    yield f"no such file: {quoted}"
+                continue
+            if quoted.startswith(("rt ", "make ")):
+                continue
+            for name in re.findall(r"[A-Za-z]\w*", quoted):
+                is_front = quoted.endswith((name + "..", name + "*")) and any(it.startswith(name) for it in words)
+                if not is_front and name not in words:
+                    yield f"no such name: {quoted}"
+                    break
 
 
 def wide_lines(path):
@@ -111,15 +153,14 @@ def wrong_edit(path):
 def main():
     files = list(files_of_repository())
     sources = "\n" + "\n".join(it.strip() for path in files if path.endswith(".rt") for it in read(path).splitlines()) + "\n"
-    code = [read(it) for it in files if it.startswith("crates/") and it.endswith((".rt", ".antt")) or it == "crates.txt"]
-    words = set(re.findall(r"\w+", " ".join([*code, *files])))
+    crates = Sources(files)
     wrong = {"version": list(wrong_versions())}
     wrong["width"] = [f"{path}: {it}" for path in files if path.endswith(".antt") for it in wide_lines(path)]
     wrong["edits"] = [f"{path}: {it}" for path in files if path.endswith(".edit") for it in wrong_edit(path)]
     for path in (it for it in files if it.endswith(".md")):
         wrong[path] = [*wrong_links(path), *wrong_code(path, sources)]
         if path.startswith("crates/") or path in ABOUT_CODE:
-            wrong[path] += wrong_names(path, words, files)
+            wrong[path] += wrong_names(path, crates)
         if path.startswith("crates/") and read(path).count("\n") > MOST_LINES:
             wrong[path].append(f"more than {MOST_LINES} lines")
     for crate in sorted({it.split("/")[1] for it in files if re.match(r"crates/\w+/src/", it)}):

@@ -1,7 +1,8 @@
 -- The laws of a network that keeps no order.
 use Rattle.std.proofs.Common.{◌≡◌, ℕ, ◌<◌, ◌≤◌, ◌==◌, ◌&&◌, Bool, true, false, List, [], ◌∷◌, ◌++◌, length, filter, drop, set, cond}
 use Rattle.std.proofs.Common.{Some, None, zero, suc, refl, sym, ap, subst, ◌∙◌}
-use Rattle.std.proofs.{lemmas.{Bool.{eq-eqb}, List.{get_or-set_same}, List.Elements.{All-head, All-tail, All-weaker}}, Math.Seq.{drop-append_seam, take-append_seam}}
+use Rattle.std.proofs.lemmas.{Bool.{eq-eqb}, List.{get_or-set_same}, List.Elements.{All-head, All-tail, All-weaker}}
+use Rattle.std.proofs.Math.Seq.{drop-append_seam, take-append_seam}
 use Rattle.std.specs.{Prelude.{IsSome, option_map, slice_get}, List.{All}}
 use Rattle.sci_words.specs.declared.{event.{AskKind.{AskKind}}, operation.Op.{Op}}
 use Rattle.sci_history.specs.declared.entry.Entry.{Entry}
@@ -116,7 +117,8 @@ takes_any core taking from n before rest letter next reached f lt here takes =
     let mid = overtaken core place (length before) in
     let front = fronted core kind from n before rest letter (any_well core reached) f lt here in
     let step = stepping_taking mid taking from n lt f
-    ∙ front_taken mid n place (node_taking taking (node_at mid n)) (lane_of mid kind from n) letter (Some next) (ap (λ (l : List Letter). slice_get l 0) front) takes in
+    ∙ front_taken mid n place (node_taking taking (node_at mid n)) (lane_of mid kind from n) letter (Some next)
+    (ap (λ (l : List Letter). slice_get l 0) front) takes in
     let short : drop 1 (lane_of mid kind from n) ≡ before ++ rest = ap (drop 1) front in
     let lanes : set mid.lanes place (drop 1 (lane_of mid kind from n)) ≡ set core.lanes place (before ++ rest) =
     ap (set mid.lanes place) short ∙ set_again core.lanes place (brought (length before) (lane_at core place)) (before ++ rest) in

@@ -479,7 +479,8 @@ move_turns : (core : Core) (move : Move) (line : ℕ) (waiting then_ : List ℕ)
 move_turns core (Happens e) line waiting then_ reached next inside are now = step_turns core e line waiting then_ reached inside are now
 move_turns core (Overtakes place k) line waiting then_ reached next inside are now =
     turned_so core (overtaken core place k) line waiting then_ [] reached next inside refl refl
-    (λ c ns is. stood_turned core (overtaken core place k) line c ns (overtaken_line core place k line (any_well core reached) (any_tidy core reached) inside) is)
+    (λ c ns is. stood_turned core (overtaken core place k) line c ns
+    (overtaken_line core place k line (any_well core reached) (any_tidy core reached) inside) is)
     are now
 
 -- from any state on

@@ -138,7 +138,8 @@ move_turn core (Happens e) n well one has = step_turn core e n well one has
 move_turn core (Overtakes place k) n well one has = has
 
 moves_turn : (core : Core) (moves : List Move) (n : ℕ) → IsWellFormed core
-    → ((place : ℕ) → HasOnePending (node_at (moved_from core (take place moves)) n)) → LogsInTurn (node_at core n) → LogsInTurn (node_at (moved_from core moves) n)
+    → ((place : ℕ) → HasOnePending (node_at (moved_from core (take place moves)) n)) → LogsInTurn (node_at core n)
+    → LogsInTurn (node_at (moved_from core moves) n)
 moves_turn core [] n well one has = has
 moves_turn core (move ∷ moves) n well one has =
     moves_turn (moved core move) moves n (move_well core move well).well (λ place. one (suc place)) (move_turn core move n well (one zero) has)
