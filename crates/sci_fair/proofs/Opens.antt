@@ -14,7 +14,7 @@ use Rattle.sci_core.specs.declared.lane.LaneKind.{LaneKind, TheVariants.{Request
 use Rattle.sci_core.specs.Core.{Core, Side, Idle, Changes, Sends, Takes, changes, lane_at, lane_of, lane_place, node_at, node_of, opening, performs, sends}
 use Rattle.sci_core.specs.Core.{sent_by, side, step_by, stepping, with_node}
 use Rattle.sci_core.specs.Node.{NodeOf, asked_by, lines_of, node_asking, node_issuing, node_performing, node_replying}
-use Rattle.sci_core.specs.{Reached.{IsReached}, Sharing.{is_about, packets_of}, Size.{Size}}
+use Rattle.sci_core.specs.{Draining.{IsDrained}, Reached.{IsReached}, Sharing.{is_about, packets_of}, Size.{Size}}
 use Rattle.sci_core.specs.{Tidy.{HasItsPackets, IsSentIn}, WellFormed.{IsInLane}}
 use Rattle.sci_core.proofs.Basics.{FlatMaps.{around}, Lists.{at_set}, Options.{if_below, of_some}}
 use Rattle.sci_core.proofs.{Settling.Drains.{some_node}, Step.{Places.{place_from, place_requests}, Steps.{lane_below}}}
@@ -296,3 +296,6 @@ work_open core new e reached opened work steps = step_open core new e reached op
 
 pub opening_open : (size : Size) → AreOpen (opening size)
 opening_open size place = subst IsOpen (sym (none_there (2 * size.nodes * size.nodes) place)) tt
+
+pub drained_open : (core : Core) → IsDrained core → AreOpen core
+drained_open core drained place = subst IsOpen (sym (drained.lanes place)) tt

@@ -4,16 +4,17 @@ ghost use Rattle.std.specs.Prelude.{◌≡◌, ◌<◌, ◌≤◌, ◌==◌, ℕ
 ghost use Rattle.sci_words.specs.declared.event.Event.{Event};
 ghost use Rattle.sci_core.specs.declared.lane.LaneKind.TheVariants.{Requests};
 ghost use Rattle.sci_core.specs.Core.{Core, lane_of, node_at, opening, stepping};
-ghost use Rattle.sci_core.specs.{Node.{pending_on}, Reached.{IsReached}, Size.{Size}};
+ghost use Rattle.sci_core.specs.{Draining.{IsDrained}, Node.{pending_on}, Reached.{IsReached}, Size.{Size}};
 ghost use Rattle.sci_policy.specs.declared.{policy.TheConstants.{PATIENCE}, progress.Progress.{Progress}};
 ghost use Rattle.sci_policy.specs.Policy.{PolicyOf, turned};
 ghost use Rattle.sci_turn.specs.{Moves.{IsOwn}, Posts.{PostOf, post_at}, Whole.{IsWholeTurn}};
 ghost use Rattle.sci_fair.specs.{Lanes.{AreOpen, IsWork}, Looks.{HasLooked}, Stuck.{IsStuck}, Vain.{AreInVain}};
 
-/// In a machine that works by turns, no request that changes a list at its home stands behind a Cread: in none that
-/// opens, and after each event of a turn, each Issue and each Perform, if it was so before.
+/// In a machine that works by turns, no request that changes a list at its home stands behind a Cread. So it is in one that
+/// opens, and in one where nothing is under way. And it stays so with each event of a turn, each Issue and each Perform.
 pub fn turns_keep_lanes_open()
     ensures first { (size : Size) → AreOpen (opening size) }
+    ensures drained { (core : Core) → IsDrained core → AreOpen core }
     ensures turns { (core new : Core) (before after : PolicyOf) (n : ℕ) (e : Event)
         → IsReached core → AreOpen core → n < core.size.nodes
         → IsOwn n before core e after → stepping core e ≡ Some new → AreOpen new }

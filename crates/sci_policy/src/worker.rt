@@ -8,6 +8,11 @@ use std::alloc::AllocError;
 
 /// A worker does a processor's operations. It keeps its own pending operations and its log, and numbers what it submits
 /// from 0. No call waits for another thread.
+///
+/// Submit, then perform what can be performed, and then take a turn, again and again, as a round of `sci_drive` does. A
+/// caller that submits between a Perform and the turn after it can starve other nodes. If it stores to one line again and
+/// again, a store is pending there in every turn, and the node lets no other have the line. And a caller has to perform
+/// what a turn calls ready: until then the node asks for nothing.
 pub trait Worker {
     ghost use Rattle.std.specs.Prelude.{◌≡◌, ◌++◌, true, List, [], ◌∷◌, Some, None, IfOk, IfErr, IfSome, IsErr};
     ghost use Rattle.sci_core.specs.{Node.{NodeOf, node_performing}, Work.{IsIssued, IsLogged}};
