@@ -1,7 +1,6 @@
 -- Every event that moves a packet on lowers the weight by one, and while it is above 0 one is enabled.
 use Rattle.std.proofs.Common.{◌≡◌, ℕ, suc, ◌+◌, ◌-◌, ◌*◌, ◌/◌, ◌%◌, ◌<◌, ◌≤◌, ◌&&◌, Bool, true, false, if◌then◌else◌, List, [], ◌∷◌, ◌++◌, length, get_or, take}
-use Rattle.std.proofs.Common.{drop}
-use Rattle.std.proofs.Common.{Option, Some, None, refl, sym, ap, subst, ◌∙◌, zero, arith, inl, inr}
+use Rattle.std.proofs.Common.{drop, Option, Some, None, refl, sym, ap, subst, ◌∙◌, zero, arith, inl, inr}
 use Rattle.std.proofs.lemmas.{Bool.{cases_lt}, List.{set_past, take-append-drop, Sums.{sum_by-append, sum_by-cons, sum_by-set, sum_by_push}}}
 use Rattle.std.proofs.Math.Nat.{div-add-mod, div-lt_iff_lt-mul, mod-lt, mul_comm}
 use Rattle.std.specs.{Prelude.{◌⊎◌, IfSome, IsSome, is_some, option_map, slice_get, unwrap_or}, List.{AllByRecursion, sum_by}}
