@@ -15,7 +15,7 @@ PREFIX = /usr/local
 # Builds the program and runs its stored example.
 run:
 	@$(NEED_RT)
-	@if [ -f crates/scimem/src/main.rt ]; then cd crates/scimem && rt run -- $$(cat args) < stdin; else echo "scimem isn't built yet: there is nothing to run"; fi
+	@cd crates/scimem && rt run -- $$(cat args) < stdin
 
 # The gate: every proof from nothing, the edits that must fail, and the tests; then the programs that it built, on the
 # stored cases, the examples and charts; then programs and tests with memory, reads and writes refused. The last line is

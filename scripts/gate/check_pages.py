@@ -2,9 +2,9 @@
 """Checks the pages of the repository, without building anything:
 
 - each link to a file or to a heading leads to one;
-- each name that a page about code has between backticks stands in the sources, and each file that it names is there: in the
-  README of a crate, and below a heading that names crates, in these crates, in those that they stand on, and in those that the
-  paragraph names;
+- each name that a page about code has between backticks stands in the sources, and each file that it names is there. In the
+  README of a crate, and below a heading that names crates, a file is in these crates or in those that the paragraph names, and
+  a name is in these or in those that they stand on;
 - each run of lines of Rust in a page stands in the sources, one line after another, whatever the indentation; a line `..`
   stands for lines that are left out;
 - each crate has a README of at most 60 lines;
@@ -104,15 +104,14 @@ def paragraphs(path):
     for part in re.split(r"\n\s*\n|\n(?=[#|-])", text):
         if part.startswith("## "):
             of_section = own or re.findall(r"`(sci\w+)`", part)
-        yield part, [*of_section, *(re.findall(r"`(sci\w+)`", part) if of_section else [])]
+        yield part, [*of_section, *(re.findall(r"\b(sci\w+)\b", part) if of_section else [])]
 
 
 def wrong_names(path, sources):
     """Names of the code, and of files, that don't stand where their paragraph says."""
     for text, crates in paragraphs(path):
-        where = sources.all_below(crates)
-        files = [it for crate in where for it in sources.files[crate]]
-        words = set().union(OTHER, *(sources.words[crate] for crate in where))
+        files = [it for crate in [*(crates or sources.below), ""] for it in sources.files.get(crate, [])]
+        words = set().union(OTHER, *(sources.words[crate] for crate in sources.all_below(crates)))
         for quoted in sorted(set(re.findall(r"`([^`]+)`", text))):
             if re.search(r"\.(antt|rt|py|txt)$", quoted):
                 if not any(fnmatch(it, quoted) or fnmatch(it, "*/" + quoted) for it in files):
