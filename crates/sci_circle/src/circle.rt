@@ -7,8 +7,8 @@ ghost use Rattle.sci_station.specs.Station.{node_in};
 
 use crate::runner::Runner;
 use sci_station::Fabric;
-use sci_text::Script;
-use sci_threads::{new_stations_are_fresh, operations_by_node};
+use sci_text::{Script, operations_by_node};
+use sci_threads::new_stations_are_fresh;
 use sci_words::{Extent, MAX_OPERATIONS, Op};
 use std::alloc::{AllocError, Global};
 use std::io;

@@ -7,4 +7,5 @@ pub mod History
 pub mod Settling
 pub mod FirstCome
 pub mod ReachedLaws
+pub mod Schedules
 pub mod NetworkLaws

@@ -145,6 +145,11 @@ run_from core events = fold step core events
 abbrev pub run : Size → List Event → Core
 run size events = run_from (opening size) events
 
+-- each of these further events of a schedule is enabled in the state where it comes
+abbrev pub AreEnabled : Size → List Event → List Event → Type 0
+AreEnabled size known [] = Unit {0}
+AreEnabled size known (e ∷ more) = IsEnabled (run size known) e × AreEnabled size (known ++ e ∷ []) more
+
 -- what the events of a list give from a state on, each in the state to which those before it lead
 abbrev pub along : {X : Type 0} → (Core → Event → List X) → Core → List Event → List X
 along f core [] = []

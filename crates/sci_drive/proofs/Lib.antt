@@ -3,3 +3,4 @@ pub mod Drives
 pub mod InOrder
 pub mod GateRests
 pub mod DriverRounds
+pub mod Fresh

@@ -3,3 +3,4 @@ pub mod Driving
 pub mod Resting
 pub mod Rounds
 pub mod Script
+pub mod ScriptLogs

@@ -9,13 +9,13 @@ use lib.ListN.{get_elem?}
 use Rattle.atomic_table.specs.Table.{State, Me, step, keeps, Allows}
 use Rattle.atomic_table.proofs.Lists.{set_here}
 use Rattle.sci_packets.specs.declared.packet.Packet.{Packet}
-use Rattle.sci_core.specs.{Size.{Size}, Node.{NodeOf}, Core.{Core, lane_at, run}, Reached.{IsReached}}
+use Rattle.sci_core.specs.{Size.{Size}, Node.{NodeOf}, Core.{AreEnabled, Core, lane_at, run}, Reached.{IsReached}}
 use Rattle.sci_words.specs.declared.event.Event.{Event}
 use Rattle.sci_cache.specs.Cache.{Letter, letter_of}
 use Rattle.sci_core.proofs.Step.Stepping.{if_false}
 use Rattle.sci_lanes.specs.declared.view.{Outbound.{Outbound}, Inbound.{Inbound}, Part.{Part}, View.{View}}
 use Rattle.sci_lanes.specs.Cells.{cell_place, lane_count, sender_of, receiver_of, word_at}
-use Rattle.sci_lanes.specs.Shown.{AreEnabled, Fits, ShowsLane, Whole, nodes_of, me_of, single, informed, outbound_at, inbound_at, IsKnown, Shows, IsKept}
+use Rattle.sci_lanes.specs.Shown.{Fits, ShowsLane, Whole, nodes_of, me_of, single, informed, outbound_at, inbound_at, IsKnown, Shows, IsKept}
 use Rattle.sci_lanes.specs.Knowing.{has_sent_more, is_sending, is_receiving, looked_out, looked_in, looked, with_lane_known}
 use Rattle.sci_lanes.specs.{Telling.{IsShown, IsSameNode, Tells, size_in}, Plays.{lane_in, number_in, index_in, Looks}}
 use Rattle.sci_lanes.proofs.{TableWords.{same_cell}, LaneSteps.{first_full, out_looked, in_looked, sender_finds_empty}}

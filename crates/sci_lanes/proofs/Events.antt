@@ -12,15 +12,16 @@ use Rattle.sci_packets.proofs.Whole.{one_by_words}
 use Rattle.sci_cache.specs.Cache.{Letter, letter_of}
 use Rattle.sci_core.specs.{Size.{Size}, declared.lane.LaneKind.{LaneKind, TheVariants.{Requests, Answers}}}
 use Rattle.sci_core.specs.Node.{NodeOf, no_node, node_accepting, node_refusing, node_serving}
-use Rattle.sci_core.specs.Core.{Core, node_at, with_node, with_lane, lane_at, lane_of, lane_place, side, node_of, sent_by, taken_from, IsEnabled}
+use Rattle.sci_core.specs.Core.{AreEnabled, Core, node_at, with_node, with_lane, lane_at, lane_of, lane_place, side, node_of, sent_by, taken_from, IsEnabled}
 use Rattle.sci_core.specs.Core.{stepping, step as machine_step, opening, run, Side, Takes, changes, performs, sends}
 use Rattle.sci_core.specs.Reached.{IsReached}
 use Rattle.sci_core.proofs.Step.Places.{place_below, place_from, place_to}
 use Rattle.sci_core.proofs.Step.Stepping.{stepping_changed, stepping_sent, stepping_takes}
 use Rattle.sci_core.proofs.WellFormed.WellFormedSteps.{reached_well, reached_stepping}
+use Rattle.sci_core.proofs.Schedules.{enabled_more, run_further}
 use Rattle.sci_lanes.specs.declared.view.{Outbound.{Outbound}, Inbound.{Inbound}, Part.{Part}}
 use Rattle.sci_lanes.specs.Cells.{cell_place, own_place, lane_count, sender_of, receiver_of, word_at}
-use Rattle.sci_lanes.specs.Shown.{AreEnabled, Fits, ShowsLane, Whole, nodes_of, me_of, single, informed, outbound_at, inbound_at, IsKnown, IsKept}
+use Rattle.sci_lanes.specs.Shown.{Fits, ShowsLane, Whole, nodes_of, me_of, single, informed, outbound_at, inbound_at, IsKnown, IsKept}
 use Rattle.sci_lanes.specs.Knowing.{published_out, published, freed_in, freed, with_node_known}
 use Rattle.sci_lanes.specs.Telling.{IsMade, IsSending, IsTaken, IsTaking, IsBeating, lane_taken}
 use Rattle.sci_lanes.specs.Plays.{Publishes, Frees, Beats}
@@ -61,17 +62,6 @@ side_here x seat part event k own = ap (λ (n : ℕ). side (node_at x.core n) ev
 -- ---- schedules
 
 -- a schedule goes on by an event that is enabled
-pub run_further : (size : Size) (schedule : List Event) (old new : Core) (e : Event) → run size schedule ≡ old → stepping old e ≡ Some new
-    → run size (schedule ++ e ∷ []) ≡ new
-run_further size schedule old new e leads steps =
-    fold_push machine_step (opening size) schedule e ∙ (ap (λ (k : Core). machine_step k e) leads ∙ ap (λ (o : Option Core). unwrap_or o old) steps)
-
-pub enabled_more : (size : Size) (known xs : List Event) (e : Event) → AreEnabled size known xs → IsEnabled (run size (known ++ xs)) e
-    → AreEnabled size known (xs ++ e ∷ [])
-enabled_more size known [] e all one = (subst (λ (es : List Event). IsEnabled (run size es) e) (append-nil known) one, tt)
-enabled_more size known (x ∷ xs) e all one =
-    (all.0, enabled_more size (known ++ x ∷ []) xs e all.1 (subst (λ (es : List Event). IsEnabled (run size es) e) (sym (append_assoc known (x ∷ []) xs)) one))
-
 one_enabled : (size : Size) (schedule : List Event) (old new : Core) (e : Event) → AreEnabled size [] schedule → run size schedule ≡ old
     → stepping old e ≡ Some new → AreEnabled size [] (schedule ++ e ∷ [])
 one_enabled size schedule old new e all leads steps =

@@ -5,11 +5,11 @@ use mathlib.Core.Option.{some}
 use lib.ListN.{get_elem?}
 use Rattle.sci_packets.specs.declared.packet.Packet.{Packet}
 use Rattle.sci_cache.specs.Cache.{Letter, letter_of}
-use Rattle.sci_core.specs.{Core.{lane_at}, Reached.{IsReached}, WellFormed.{IsPart}}
+use Rattle.sci_core.specs.{Core.{AreEnabled, lane_at}, Reached.{IsReached}, WellFormed.{IsPart}}
 use Rattle.sci_core.proofs.WellFormed.WellFormedSteps.{reached_well}
 use Rattle.sci_lanes.specs.declared.view.{Outbound.{Outbound}, Inbound.{Inbound}, Part.{Part}, View.{View}}
 use Rattle.sci_lanes.specs.Cells.{word_at}
-use Rattle.sci_lanes.specs.Shown.{AreEnabled, Fits, ShowsLane, Whole, me_of, single, inbound_at, IsKnown, Shows}
+use Rattle.sci_lanes.specs.Shown.{Fits, ShowsLane, Whole, me_of, single, inbound_at, IsKnown, Shows}
 use Rattle.sci_lanes.specs.Telling.{IsFront, IsShown, size_in, state_of}
 
 -- a lane has as many packets as its cells show

@@ -7,12 +7,12 @@ use Rattle.sci_words.specs.declared.{extent.Extent.{Extent}, limits.TheConstants
 use Rattle.sci_history.specs.{declared.entry.Entry.{Entry}, Placed.{log_of}}
 use Rattle.sci_cache.specs.Cache.{Letter}
 use Rattle.sci_core.specs.{Size.{Size, IsSize, size_of}, Node.{NodeOf, no_node}}
-use Rattle.sci_core.specs.{Core.{Core, core_of, node_at, lane_at, run}, Reached.{IsReached}, Outcome.{logs_of}}
+use Rattle.sci_core.specs.{Core.{AreEnabled, Core, core_of, node_at, lane_at, run}, Reached.{IsReached}, Outcome.{logs_of}}
 use Rattle.sci_core.specs.Sharing.{last_of}
 use Rattle.sci_core.proofs.WellFormed.WellFormedSteps.{is_size, reached_well}
 use Rattle.sci_core.proofs.ReachedLaws.{log_at, log_beyond, schedule_log}
 use Rattle.sci_lanes.specs.{declared.view.Part.{Part}, Cells.{lane_count, receiver_of, word_count}}
-use Rattle.sci_lanes.specs.{Shown.{AreEnabled, Fits, nodes_of, me_of, IsKnown, IsSeen}, Telling.{no_part, size_in}}
+use Rattle.sci_lanes.specs.{Shown.{Fits, nodes_of, me_of, IsKnown, IsSeen}, Telling.{no_part, size_in}}
 use Rattle.sci_lanes.specs.Ends.{EndOf, LanesOf}
 use Rattle.sci_lanes.specs.Gathering.{IsOf, AreAll, AreGathered, AreJoined, AreKept, AreLanes, AreMadeBy, HasNodes, HaveInboxTurns, HaveLogs, IsLedTo}
 use Rattle.sci_lanes.specs.Gathering.{IsStateOf, IsReadOff, TakesFrom}

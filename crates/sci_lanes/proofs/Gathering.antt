@@ -6,9 +6,9 @@ use mathlib.Core.Option.{some, none, some-injective}
 use lib.ListN.{get_elem?, length-append}
 use Rattle.atomic_table.specs.Table.{Joins, Allows, State, step, keeps}
 use Rattle.atomic_table.proofs.Lists.{at_set, set_here}
-use Rattle.sci_core.specs.{Size.{Size}, Core.{run}}
+use Rattle.sci_core.specs.{Size.{Size}, Core.{AreEnabled, run}}
 use Rattle.sci_lanes.specs.{declared.view.View.{View}, Cells.{word_count}}
-use Rattle.sci_lanes.specs.Shown.{AreEnabled, Whole, nodes_of, IsKnown, HasRead, IsCovered, Shows, IsKept}
+use Rattle.sci_lanes.specs.Shown.{Whole, nodes_of, IsKnown, HasRead, IsCovered, Shows, IsKept}
 use Rattle.sci_lanes.specs.{Ends.{no_view}, Gathering.{Gathers, HasNodes, both_views, read_more}}
 use Rattle.sci_lanes.proofs.{TableWords.{one_more}, Keeping.{all_at, within}, Sharing.{joins, kept_owned}}
 

@@ -9,7 +9,8 @@ use Rattle.sci_packets.proofs.WordLaws.{few_words, first_word-above}
 use Rattle.sci_lanes.specs.{declared.view.{Outbound.{Outbound}, Inbound.{Inbound}}, Cells.{cell_place, word_at}}
 use Rattle.sci_lanes.specs.Shown.{Fits}
 use Rattle.sci_lanes.specs.Knowing.{looked_out, looked_in, filled_out, read_in, published_out, freed_in, found_first}
-use Rattle.sci_lanes.proofs.TableWords.{one_more, other_lane, other_cell, other_index, same_cell, stored_else, stored_here, at_end}
+use Rattle.sci_lanes.proofs.TableWords.{one_more, other_lane, other_cell, other_index, same_cell, stored_else, stored_here}
+use Rattle.sci_core.proofs.Basics.Options.{at_end}
 
 -- ---- other words in place of these
 

@@ -11,6 +11,7 @@ use Rattle.sci_cache.specs.{Cache.{Letter}, Line.{untouched}}
 use Rattle.sci_words.specs.declared.{extent.Extent.{Extent}, limits.TheConstants.{MAX_OPERATIONS}}
 use Rattle.sci_core.specs.{Size.{Size, size_of, IsMachineSize}, Node.{NodeOf, opening_node, no_node}}
 use Rattle.sci_core.specs.{Core.{node_at, lane_at, opening}, Reached.{IsReached}}
+use Rattle.sci_core.proofs.Schedules.{node_opened}
 use Rattle.sci_lanes.specs.{declared.view.{Part.{Part}, View.{View}}, Cells.{lane_count, word_count}}
 use Rattle.sci_lanes.specs.Shown.{Fits, Whole, me_of, no_outbound, no_inbound, single, opening_part, first_view, IsKnown, HasRead, IsKept}
 use Rattle.sci_lanes.specs.Telling.{IsShown, part_of, size_in}
@@ -19,9 +20,6 @@ use Rattle.sci_lanes.proofs.{Keeping.{read_none, seen_all}, Sharing.{splits}}
 
 reached_opening : (size : Size) → IsMachineSize size → IsReached (opening size)
 reached_opening size ok = record { size = ok; moves = []; leads = refl }
-
-pub node_opened : (size : Size) (n : ℕ) → n < size.nodes → node_at (opening size) n ≡ opening_node n size
-node_opened size n lt = get_or-map-range_with_len (λ m. opening_node m size) 0 size.nodes n n no_node lt (omega arith)
 
 pub replicated : {A : Type 0} (count k : ℕ) (a : A) → get_or (replicate count a) k a ≡ a
 replicated count k a = grind (arith, cases_lt, get_or-replicate, get_or_past, replicate, length-replicate)

@@ -43,13 +43,6 @@ stored_here words place value lt = get_or-set_same words place value 0 lt
 
 -- ---- a list with one element more
 
-pub at_end : {A : Type 0} (xs : List A) (x : A) (k : ℕ) (y : A) → slice_get (xs ++ x ∷ []) k ≡ Some y
-    → ((k < length xs) × (slice_get xs k ≡ Some y)) ⊎ ((k ≡ length xs) × (x ≡ y))
-at_end [] x zero y e = inr (refl, same_some x y e)
-at_end [] x (suc k) y e = cc
-at_end (z ∷ xs) x zero y e = inl (omega arith, e)
-at_end (z ∷ xs) x (suc k) y e = elim (at_end xs x k y e) [ inl h ↦ inl (omega (arith, h.0), h.1) | inr h ↦ inr (ap suc h.0, h.1) ]
-
 -- what holds of the words of a list, and of one more
 pub one_more : (f : ℕ → ℕ) (xs : List ℕ) (x : ℕ) → f (length xs) ≡ x → ((j : ℕ) → j < length xs → f j ≡ get_or xs j 0) → (j : ℕ)
     → j < length (xs ++ x ∷ []) → f j ≡ get_or (xs ++ x ∷ []) j 0

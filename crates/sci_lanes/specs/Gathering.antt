@@ -8,11 +8,11 @@ use Rattle.sci_words.specs.declared.{stamped.Stamped.{Stamped}, event.Event.{Eve
 use Rattle.sci_words.specs.declared.limits.TheConstants.{LANE_CELLS, MAX_NODES}
 use Rattle.sci_packets.specs.{declared.packet.Packet.{Packet}, Spelling.{IsPacket, words_of}}
 use Rattle.sci_cache.specs.Cache.{Letter, letter_of}
-use Rattle.sci_core.specs.{Size.{Size}, Node.{NodeOf, no_node}, Core.{Core, node_at, lane_at, run}, Done.{done}}
+use Rattle.sci_core.specs.{Size.{Size}, Node.{NodeOf, no_node}, Core.{AreEnabled, Core, node_at, lane_at, run}, Done.{done}}
 use Rattle.sci_core.specs.{Reached.{IsReached}, Outcome.{logs_of}, Sharing.{last_of}}
 use Rattle.sci_lanes.specs.declared.{gather.Room.{Room}, view.{Inbound.{Inbound}, Outbound.{Outbound}, Part.{Part}}}
 use Rattle.sci_lanes.specs.{declared.view.View.{View}, Cells.{lane_count, receiver_of, word_count}}
-use Rattle.sci_lanes.specs.Shown.{Fits, ShowsLane, Whole, nodes_of, me_of, inbound_at, AreEnabled, IsKnown, IsSeen, HasRead}
+use Rattle.sci_lanes.specs.Shown.{Fits, ShowsLane, Whole, nodes_of, me_of, inbound_at, IsKnown, IsSeen, HasRead}
 use Rattle.sci_lanes.specs.{Telling.{no_part, size_in}, Ends.{EndOf, LanesOf}}
 
 -- ---- the ends that are given

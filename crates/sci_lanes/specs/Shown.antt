@@ -7,7 +7,7 @@ use Rattle.atomic_table.specs.Table.{State}
 use Rattle.sci_words.specs.declared.{event.Event.{Event}, limits.TheConstants.{LANE_CELLS}}
 use Rattle.sci_packets.specs.{declared.packet.Packet.{Packet}, Spelling.{IsPacket, words_of}}
 use Rattle.sci_cache.specs.Cache.{Letter, letter_of}
-use Rattle.sci_core.specs.{Size.{Size}, Node.{opening_node}, Core.{Core, IsEnabled, node_at, node_of, lane_at, run}}
+use Rattle.sci_core.specs.{Size.{Size}, Node.{opening_node}, Core.{AreEnabled, Core, node_at, node_of, lane_at, run}}
 use Rattle.sci_core.specs.Reached.{IsReached}
 use Rattle.sci_lanes.specs.declared.view.{Outbound.{Outbound}, Inbound.{Inbound}, Part.{Part}, View.{View}}
 use Rattle.sci_lanes.specs.declared.cell.TheConstants.{CELL_WORDS}
@@ -88,11 +88,6 @@ pub record IsSeen (part : Part) (schedule : List Event) : Type 0 where
   pub others : List Event
   pub further : schedule ≡ part.schedule ++ others
   pub apart : AreOfOthers (me_of part) others
-
--- each of these further events of a schedule is enabled in the state where it comes
-abbrev pub AreEnabled : Size → List Event → List Event → Type 0
-AreEnabled size known [] = Unit {0}
-AreEnabled size known (e ∷ more) = IsEnabled (run size known) e × AreEnabled size (known ++ e ∷ []) more
 
 -- the part, with so much known of the schedule
 abbrev pub informed : List Event → Part → Part

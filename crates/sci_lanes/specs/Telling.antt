@@ -7,10 +7,10 @@ use Rattle.sci_packets.specs.{declared.packet.Packet.{Packet}, Spelling.{IsPacke
 use Rattle.sci_cache.specs.{Cache.{Letter, letter_of, line_of}, State.{waits}}
 use Rattle.sci_core.specs.{declared.lane.LaneKind.{LaneKind, TheVariants.{Requests, Answers}}, Size.{Size}}
 use Rattle.sci_core.specs.Node.{NodeOf, lines_of, no_node}
-use Rattle.sci_core.specs.Core.{Core, Sends, Takes, Changes, side, node_of, node_at, lane_at, lane_of, lane_place, run, stepping}
+use Rattle.sci_core.specs.Core.{AreEnabled, Core, Sends, Takes, Changes, side, node_of, node_at, lane_at, lane_of, lane_place, run, stepping}
 use Rattle.sci_core.specs.Reached.{IsReached}
 use Rattle.sci_lanes.specs.{declared.view.{Part.{Part}, View.{View}}, Cells.{lane_count, sender_of, receiver_of}}
-use Rattle.sci_lanes.specs.Shown.{outbound_at, inbound_at, me_of, single, informed, AreEnabled, AreOfOthers}
+use Rattle.sci_lanes.specs.Shown.{outbound_at, inbound_at, me_of, single, informed, AreOfOthers}
 
 -- the part of a view that has one alone
 abbrev pub no_part : Part

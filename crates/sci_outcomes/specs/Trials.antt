@@ -6,7 +6,8 @@ use Rattle.sci_history.specs.Sequential.{AreInProgramOrder, IsSequentiallyConsis
 use Rattle.sci_text.specs.{Script.{ScriptValue}, Schedule.{ScheduleValue}}
 use Rattle.sci_drive.specs.declared.driver.Issuing.{Issuing, TheVariants.{InOrder}}
 use Rattle.sci_runs.specs.{Played.{IsPlayed, IsTooLong}, Runs.{IsRunOf, last_behind, logs_behind}}
-use Rattle.sci_threads.specs.Shares.{AreLedTo, HaveWholeLogsOf, size_for}
+use Rattle.sci_drive.specs.ScriptLogs.{HaveWholeLogsOf, size_for}
+use Rattle.sci_threads.specs.Shares.{AreLedTo}
 use Rattle.sci_outcomes.specs.declared.{histogram.Row.{Row}, outcome.Sighting.{Sighting}, place.Place.{Place}}
 use Rattle.sci_outcomes.specs.declared.trials.Turns.{Turns, TheVariants.{Drawn, Threads}}
 use Rattle.sci_outcomes.specs.{Outcomes.{IsPlaceWithin, IsSeen, written_places}, Rows.{AreRowsOf}}

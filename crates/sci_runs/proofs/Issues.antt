@@ -15,7 +15,7 @@ use Rattle.sci_core.proofs.Step.NodeSides.{ServedAs, RefusedAs, serve_as, refuse
 use Rattle.sci_core.proofs.Step.Steps.{Stepped, By_issue, By_perform, By_ask, By_serve, By_refuse, By_reply, By_accept, stepping_stepped}
 use Rattle.sci_core.proofs.WellFormed.WellFormedSteps.{reached_well}
 use Rattle.sci_core.proofs.History.Works.{SameWork, accept_work, ask_work, serve_work}
-use Rattle.sci_lanes.proofs.TableWords.{at_end}
+use Rattle.sci_core.proofs.Basics.Options.{at_end}
 use Rattle.sci_drive.proofs.Drives.{same_some}
 use Rattle.sci_runs.proofs.NodeSteps.{issue_makes, perform_makes}
 use Rattle.sci_turn.proofs.Working.{other_stays}

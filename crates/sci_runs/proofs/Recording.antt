@@ -11,13 +11,12 @@ use Rattle.sci_cache.specs.Cache.{Letter}
 use Rattle.sci_text.specs.{Operation.{ActFits, LockFits}, Script.{IsWithin}}
 use Rattle.sci_text.specs.Schedule.{IsEventWithin, ScheduleValue, with_event}
 use Rattle.sci_core.specs.declared.lane.LaneKind.TheVariants.{Requests, Answers}
-use Rattle.sci_core.specs.Core.{Core, IsEnabled, node_at, opening, run, stepping, with_node, sent_by}
+use Rattle.sci_core.specs.Core.{AreEnabled, Core, IsEnabled, node_at, opening, run, stepping, with_node, sent_by}
 use Rattle.sci_core.specs.Node.{NodeOf, is_in_range, lines_of, may_issue, node_accepting, node_issued, node_refusing, node_serving}
 use Rattle.sci_core.specs.{Reached.{IsReached}, Size.{Size, size_of}}
 use Rattle.sci_core.proofs.{Settling.Drains.{some_node, some_sender}, Step.{Nodes.{some_below}, Sides.{steps_by_sides}}}
 use Rattle.sci_core.proofs.WellFormed.WellFormedSteps.{reached_well}
-use Rattle.sci_lanes.specs.Shown.{AreEnabled}
-use Rattle.sci_lanes.proofs.{Events.{enabled_more, run_further}, Opening.{node_opened}}
+use Rattle.sci_core.proofs.Schedules.{enabled_more, node_opened, run_further}
 use Rattle.sci_runs.proofs.{NodeSteps.{perform_makes}, Issues.{issues_on}, Limits.{opening_raised, stepping_raised}}
 use Rattle.sci_runs.specs.declared.fault.RunFault.{RunFault, TheVariants.{TooMany}}
 use Rattle.sci_runs.specs.Goings.{lost_by}

@@ -6,15 +6,15 @@ use Rattle.sci_words.specs.declared.{limits.TheConstants.{MAX_NODES, MAX_OPERATI
 use Rattle.sci_words.specs.declared.operation.Op.{Op}
 use Rattle.sci_history.specs.{declared.entry.Entry.{Entry}, Placed.{log_of}, Sequential.{IsInProgramOrder}}
 use Rattle.sci_text.specs.{Script.{ScriptValue}, Schedule.{IsSchedule, ScheduleValue}}
-use Rattle.sci_core.specs.{Core.{Core, node_at, run}, Node.{NodeOf}, Outcome.{logs_of}, Reached.{IsReached}}
+use Rattle.sci_core.specs.{Core.{AreEnabled, Core, node_at, run}, Node.{NodeOf}, Outcome.{logs_of}, Reached.{IsReached}}
 use Rattle.sci_core.specs.{Sharing.{last_of}, Size.{Size}}
 use Rattle.sci_core.proofs.ReachedLaws.{log_at}
-use Rattle.sci_lanes.specs.Shown.{AreEnabled}
 use Rattle.sci_drive.specs.{declared.driver.Issuing.{Issuing}, Driving.{DriverOf, IsAnswered, IsDriven}}
 use Rattle.sci_drive.specs.Script.{IsFrontOf, IsLogOf, IsWholeLogOf}
 use Rattle.sci_drive.proofs.Drives.{log_of as log_driven, whole_of}
-use Rattle.sci_threads.specs.Shares.{operations_of, size_for}
-use Rattle.sci_threads.proofs.RunStations.{in_order}
+use Rattle.sci_text.specs.Script.{operations_of}
+use Rattle.sci_drive.specs.ScriptLogs.{size_for}
+use Rattle.sci_core.proofs.History.InTurn.{in_order}
 use Rattle.sci_runs.specs.Players.{AreAtWork, IsAtWork, TableOf}
 use Rattle.sci_runs.specs.Recorded.{HasIssued, HasLed, IsKnown, IsOfSize, issues_at, raised}
 use Rattle.sci_runs.specs.Runs.{IsRunOf, last_behind, logs_behind}

@@ -6,13 +6,13 @@ use Rattle.std.specs.{Prelude.{◌⊎◌, IsErr, Result, slice_index_or}, declar
 use Rattle.sci_words.specs.declared.{event.Event.{Event}, extent.Extent.{Extent}, limits.TheConstants.{MAX_OPERATIONS}, operation.Op.{Op}}
 use Rattle.sci_text.specs.Script.{ScriptValue}
 use Rattle.sci_core.specs.{Core.{Core, node_at, opening}, Node.{NodeOf, opening_node}, Size.{Size, size_of}}
-use Rattle.sci_lanes.proofs.Opening.{node_opened}
+use Rattle.sci_core.proofs.Schedules.{node_opened}
 use Rattle.sci_policy.specs.{Deeds.{Deed}, Policy.{PolicyOf, opening_policy}}
 use Rattle.sci_drive.specs.declared.driver.{Round.{Round}, Issuing.{Issuing}}
 use Rattle.sci_drive.specs.Driving.{DriverOf, HasSubmittedNothing, IsDriven, IsInOrder, opening_driver}
 use Rattle.sci_drive.proofs.{Drives.{opens}, InOrder.{opens_in_order}}
-use Rattle.sci_threads.specs.Shares.{operations_of}
-use Rattle.sci_threads.proofs.RunStations.{opened_fresh, sized_for}
+use Rattle.sci_text.specs.Script.{operations_of}
+use Rattle.sci_drive.proofs.Fresh.{opened_fresh, sized_for}
 use Rattle.sci_runs.specs.{Deeds.{Does, Fills, FillsTurning}, Played.{Begins, FillsAt, GoesOpenly, IsRound, StaysBut}}
 use Rattle.sci_runs.specs.Players.{AreAtWork, IsAtWork, TableOf, moment_of}
 use Rattle.sci_runs.specs.Recorded.{RecorderOf, SparesOthers, course_of, with_limit}

@@ -6,7 +6,8 @@ use Rattle.sci_core.specs.{Core.{node_at}, Node.{NodeOf}}
 use Rattle.sci_policy.specs.Policy.{PolicyOf}
 use Rattle.sci_drive.specs.declared.driver.Issuing.{Issuing, TheVariants.{InOrder}}
 use Rattle.sci_drive.specs.Driving.{DriverOf, IsDriven, IsInOrder}
-use Rattle.sci_threads.specs.Shares.{operations_of, size_for}
+use Rattle.sci_text.specs.Script.{operations_of}
+use Rattle.sci_drive.specs.ScriptLogs.{size_for}
 use Rattle.sci_runs.specs.{Played.{Moment}, Recorded.{RecorderOf, with_limit}}
 
 -- the driver of node n has driven it through the node's operations of the script, as far as it has come

@@ -4,8 +4,7 @@ use Rattle.std.specs.List.{Contains, filter_map}
 use Rattle.sci_words.specs.declared.{event.Event.{Event}, operation.Op.{Op}, limits.TheConstants.{MAX_EVENTS, MAX_OPERATIONS}}
 use Rattle.sci_history.specs.declared.entry.Entry.{Entry}
 use Rattle.sci_text.specs.Schedule.{ScheduleValue}
-use Rattle.sci_core.specs.{Core.{Core, node_at, run}, Node.{NodeOf, pending_on}, Size.{Size}}
-use Rattle.sci_lanes.specs.Shown.{AreEnabled}
+use Rattle.sci_core.specs.{Core.{AreEnabled, Core, node_at, run}, Node.{NodeOf, pending_on}, Size.{Size}}
 use Rattle.sci_runs.specs.declared.fault.RunFault.{RunFault, TheVariants.{TooMany}}
 use Rattle.sci_words.specs.declared.event.Event.TheVariants as event
 

@@ -3,10 +3,10 @@ use Rattle.std.specs.Prelude.{◌≡◌, ◌<◌, ℕ, Bool, true, List, [], len
 use Rattle.sci_words.specs.declared.stamped.Stamped.{Stamped}
 use Rattle.sci_history.specs.{declared.entry.Entry.{Entry}, Sequential.{AreInProgramOrder}}
 use Rattle.sci_text.specs.{Script.{ScriptValue}, Schedule.{IsSchedule, ScheduleValue}}
-use Rattle.sci_core.specs.{Core.{run}, Outcome.{logs_of}, Sharing.{last_of}}
-use Rattle.sci_lanes.specs.Shown.{AreEnabled}
+use Rattle.sci_core.specs.{Core.{AreEnabled, run}, Outcome.{logs_of}, Sharing.{last_of}}
 use Rattle.sci_drive.specs.declared.driver.Issuing.{Issuing, TheVariants.{InOrder}}
-use Rattle.sci_threads.specs.Shares.{HaveFrontLogsOf, HaveLogsOf, HaveWholeLogsOf, operations_of, size_for}
+use Rattle.sci_text.specs.Script.{operations_of}
+use Rattle.sci_drive.specs.ScriptLogs.{HaveFrontLogsOf, HaveLogsOf, HaveWholeLogsOf, size_for}
 use Rattle.sci_runs.specs.Recorded.{IsOfSize, issues_at}
 
 -- the logs of the script's machine behind a schedule

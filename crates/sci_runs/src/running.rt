@@ -10,8 +10,7 @@ use crate::order::Order;
 use crate::table::Table;
 use sci_drive::Issuing;
 use sci_history::{Last, Logs};
-use sci_text::{Schedule, Script};
-use sci_threads::operations_by_node;
+use sci_text::{Schedule, Script, operations_by_node};
 use std::alloc::Global;
 
 /// How a script is run.

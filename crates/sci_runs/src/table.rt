@@ -74,7 +74,8 @@ impl<'a> Table<'a> {
     ghost use Rattle.sci_words.specs.declared.limits.TheConstants.{MAX_OPERATIONS};
     ghost use Rattle.sci_core.specs.Core.{run};
     ghost use Rattle.sci_runs.specs.declared.fault.RunFault.TheVariants.{Memory, TooMany};
-    ghost use Rattle.sci_threads.specs.Shares.{operations_of, size_for};
+    ghost use Rattle.sci_text.specs.Script.{operations_of};
+    ghost use Rattle.sci_drive.specs.ScriptLogs.{size_for};
     ghost use Rattle.sci_runs.specs.{Played.{Begins, FillsAt, HasNoRoom, IsRound, Played}, Players.{moment_of}};
     ghost use Rattle.sci_drive.specs.Driving.{IsAnswered};
     ghost use Rattle.sci_runs.specs.{Recorded.{raised}, Runs.{IsRunOf, last_behind, logs_behind}};

@@ -5,13 +5,14 @@ use Rattle.std.specs.Prelude.{IsSome, unwrap_or}
 use Rattle.sci_words.specs.declared.event.Event.{Event}
 use Rattle.sci_cache.specs.Cache.{Letter, letter_of}
 use Rattle.sci_core.specs.WellFormed.{IsWellFormed}
-use Rattle.sci_core.specs.{Core.{Core, Takes, lane_of, node_at, run, run_from, side, step, stepping}, Node.{NodeOf}}
+use Rattle.sci_core.specs.{Core.{AreEnabled, Core, Takes, lane_of, node_at, run, run_from, side, step, stepping}, Node.{NodeOf}}
 use Rattle.sci_core.specs.{Size.{Size}, declared.lane.LaneKind.{LaneKind}}
 use Rattle.sci_lanes.specs.declared.{view.Part.{Part}, cell.CellId.{CellId}}
-use Rattle.sci_lanes.specs.Shown.{AreEnabled, AreOfOthers, IsSeen, me_of}
+use Rattle.sci_lanes.specs.Shown.{AreOfOthers, IsSeen, me_of}
 use Rattle.sci_lanes.specs.Telling.{IsMade as WasMade, IsSameNode, IsShown, size_in, state_of, IsTaken as WasTaken, lane_taken}
 use Rattle.sci_lanes.specs.Ends.{EndOf, MayFree, lane_at_cell, nodes_in}
-use Rattle.sci_lanes.proofs.{Events.{run_further, taken_lane}, Calls.{one_spelled}, Seats.{shown_nodes}}
+use Rattle.sci_core.proofs.Schedules.{run_further}
+use Rattle.sci_lanes.proofs.{Events.{taken_lane}, Calls.{one_spelled}, Seats.{shown_nodes}}
 use Rattle.sci_core.proofs.WellFormed.WellFormedSteps.{reached_well, run_well}
 use Rattle.sci_turn.specs.Posts.{IsMade, IsPost, IsStill, OthersLead, PostOf, node_in, IsFront, IsTaken, MayTakeFront}
 use Rattle.sci_turn.proofs.Working.{other_stays}

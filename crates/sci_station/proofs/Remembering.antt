@@ -17,7 +17,8 @@ use Rattle.sci_core.proofs.WellFormed.WellFormedSteps.{reached_stepping, reached
 use Rattle.sci_lanes.specs.{declared.{cell.CellId.{CellId}, view.{Inbound.{Inbound}, Part.{Part}}}, Cells.{lane_count}}
 use Rattle.sci_lanes.specs.{Ends.{EndOf, HasIssued, HasPerformed, lane_at_cell, nodes_in}, Shown.{inbound_at, me_of}}
 use Rattle.sci_lanes.specs.Telling.{IsSameNode, IsShown, state_of}
-use Rattle.sci_lanes.proofs.{Seats.{me_below, shown_nodes}, Opening.{lane_opened, node_opened}}
+use Rattle.sci_lanes.proofs.{Seats.{me_below, shown_nodes}, Opening.{lane_opened}}
+use Rattle.sci_core.proofs.Schedules.{node_opened}
 use Rattle.sci_turn.specs.Posts.{IsMade, IsPost, IsStill as IsStillPost, OthersLead, PostOf, nodes_in as nodes_at}
 use Rattle.sci_station.specs.{declared.receiving.Seen.{Seen}, Ends.{HasRead, HasSeen, IsStill, LeavesOthers}}
 use Rattle.sci_station.specs.Posts.{IsRead, KeptOf, Remembers, answers_to, is_kept, owed, packet_in, post_of}

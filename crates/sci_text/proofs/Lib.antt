@@ -25,4 +25,5 @@ pub mod LogShort
 pub mod LogMeets
 pub mod LogForms
 pub mod LogOneFault
+mod ScriptShares
 mod WholeNumbers

@@ -25,6 +25,10 @@ pub record IsWithin (nodes lines node : ℕ) (op : Op) : Type 0 where
 abbrev pub AreWithin : ℕ → ℕ → List (ℕ × Op) → Type 0
 AreWithin nodes lines operations = All (λ p. IsWithin nodes lines p.0 p.1) operations
 
+-- the operations of a node, in their order
+abbrev pub operations_of : ℕ → List (ℕ × Op) → List Op
+operations_of node operations = map (λ p. p.1) (filter (λ p. p.0 == node) operations)
+
 -- how many of the operations are the node's
 abbrev pub count_of : ℕ → List (ℕ × Op) → ℕ
 count_of node operations = count_by (λ p. p.0 == node) operations

@@ -25,6 +25,7 @@ mod script;
 mod script_laws;
 mod script_lines;
 mod script_reading;
+mod script_shares;
 mod tap;
 mod writing;
 
@@ -47,5 +48,6 @@ pub use script::{PushFault, Script};
 pub use script_laws::{no_fault, one_fault, one_script};
 pub use script_lines::script_of;
 pub use script_reading::read_script;
+pub use script_shares::operations_by_node;
 pub use tap::Tap;
 pub use writing::write_text;

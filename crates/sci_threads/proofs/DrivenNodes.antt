@@ -13,7 +13,8 @@ use Rattle.sci_drive.specs.{declared.driver.Issuing.{Issuing}, Calls.{AreCalls, 
 use Rattle.sci_drive.proofs.GateCalls.{calls_of, told_once}
 use Rattle.sci_station.specs.Station.{StationOf, end_in, opening_station}
 use Rattle.sci_threads.specs.{declared.share.Share.{Share}, Slices.{AreDrivenThrough, GoSlices, IsDrivenThrough, IsStationOf}}
-use Rattle.sci_threads.specs.Shares.{AllGoOn, AreLedTo, AreWell, GoesOn, HasEnded, IsOpened, IsWell, TakesTurns, operations_of, own_of}
+use Rattle.sci_text.specs.Script.{operations_of}
+use Rattle.sci_threads.specs.Shares.{AllGoOn, AreLedTo, AreWell, GoesOn, HasEnded, IsOpened, IsWell, TakesTurns, own_of}
 use Rattle.sci_threads.proofs.RunStations.{led_by, opened, opened_at, opened_long, own_is}
 
 same_ok : {E : Type 0} (r : Result Bool E) (x y : Bool) → r ≡ Ok x → r ≡ Ok y → x ≡ y

@@ -18,20 +18,14 @@ use Rattle.sci_lanes.specs.Gathering.{AreAll, AreOf, HaveLogs, IsLedTo, IsOf}
 use Rattle.sci_lanes.proofs.{Gathered.{logs_made}, Opening.{replicated}}
 use Rattle.sci_drive.specs.{Driving.{HasSubmittedNothing}, Script.{IsWholeLogOf}}
 use Rattle.sci_core.proofs.{WellFormed.WellFormedSteps.{reached_well}, ReachedLaws.{log_at, log_beyond, beyond_log}}
+use Rattle.sci_drive.proofs.Fresh.{opened_fresh, sized_for}
 use Rattle.sci_station.specs.{Ends.{IsSameEnd}, Station.{StationOf, end_in, node_in, opening_station}}
 use Rattle.sci_station.proofs.Belonging.{opened_of, same_of}
-use Rattle.sci_threads.specs.Shares.{AreLedTo, IsOfEachLog, IsOfEachLogOf, operations_of, own_of, size_for}
+use Rattle.sci_text.specs.Script.{operations_of}
+use Rattle.sci_drive.specs.ScriptLogs.{IsOfEachLog, IsOfEachLogOf, size_for}
+use Rattle.sci_threads.specs.Shares.{AreLedTo, own_of}
 
 -- ---- sizes
-
--- the machine of the size that a script has is the one that it is run on
-pub sized_for : (extent : Extent) (script : ScriptValue) → extent.nodes ≡ script.nodes → extent.lines ≡ script.lines → extent.slots ≡ script.slots
-    → size_of extent MAX_OPERATIONS ≡ size_for script
-sized_for extent script nodes lines slots =
-    ap (λ n. size n extent.lines extent.slots) nodes ∙ (ap (λ l. size script.nodes l extent.slots) lines ∙ ap (size script.nodes script.lines) slots)
-  where
-    size : ℕ → ℕ → ℕ → Size
-    size n l s = record { nodes = n; lines = l; slots = s; limit = MAX_OPERATIONS }
 
 -- what leads the one leads the other
 pub led_for : (extent : Extent) (script : ScriptValue) (core : Core) → extent.nodes ≡ script.nodes → extent.lines ≡ script.lines
@@ -51,12 +45,6 @@ all_in_front front (x ∷ xs) all none is = absurd (omega (arith, none))
 
 -- ---- the operations of each node
 
-pub few_own : (s : ScriptValue) (node : ℕ) → IsScript s → node < s.nodes → length (operations_of node s.operations) ≤ MAX_OPERATIONS
-few_own s node good lt =
-    let counted = length-filter (λ (p : ℕ × Op). p.0 == node) s.operations in
-    let long = length-map (filter (λ (p : ℕ × Op). p.0 == node) s.operations) (λ (p : ℕ × Op). p.1) in
-    omega (arith, good.counts node lt)
-
 -- the operations that stand under a node's number are the node's
 pub own_is : {Z : Type 0} (s : ScriptValue) (all : List (Vec Op Z)) (node : ℕ) → length all ≡ s.nodes
     → ((n : ℕ) (d : Vec Op Z) → n < s.nodes → (slice_index_or all n d).items ≡ operations_of n s.operations) → node < s.nodes
@@ -65,9 +53,6 @@ own_is s [] node long each lt = absurd (omega arith)
 own_is s (v ∷ all) node long each lt = get_or-map (λ own. own.items) (v ∷ all) node v [] (omega arith) ∙ each node v lt
 
 -- ---- the stations of a new fabric
-
-pub opened_fresh : (n : ℕ) (size : Size) → HasSubmittedNothing (opening_node n size)
-opened_fresh n size = record { issued = refl; pending = λ line. replicated size.lines line None; log = refl }
 
 module _ (table : TableId) (size : Size) (count : ℕ) where
   abbrev pub opened : List StationOf
@@ -149,20 +134,6 @@ logs_have Good operations ends logs count all have good node lt =
     let said = all_there (λ end. Good (operations (me_of end.part)) end.part.node.log) ends it.place it.end good it.there in
     let log = have it.place it.end it.there in
     subst (λ (n : ℕ). Good (operations n) (log_of logs n)) it.numbered (subst (λ (l : List Entry). Good (operations (me_of it.end.part)) l) (sym log) said)
-
-empty_in_order : IsInProgramOrder []
-empty_in_order i j d lt inside = absurd (omega arith)
-
--- if the log of each node stands in order, all logs do: no other has an entry
-pub in_order : (logs : List (List Entry)) (count : ℕ) (core : Core) → IsReached core → logs ≡ logs_of core → core.size.nodes ≡ count
-    → ((node : ℕ) → node < count → IsInProgramOrder (log_of logs node)) → AreInProgramOrder logs
-in_order logs count core reached is nodes each node = elim (cases_lt node count) [
-  | inl lt ↦ each node lt
-  | inr past ↦ subst (λ (all : List (List Entry)). IsInProgramOrder (log_of all node)) (sym is) (elim (cases_lt node MAX_NODES) [
-    | inl low ↦ subst IsInProgramOrder (sym (log_at core node low ∙ beyond_log core node (reached_well core reached) (omega arith))) empty_in_order
-    | inr high ↦ subst IsInProgramOrder (sym (log_beyond core node high)) empty_in_order
-  ])
-]
 
 -- what is so of the lists of operations that stand under the nodes' numbers, is so of the script
 pub of_script : {Z : Type 0} (Good : List Op → List Entry → Type 0) (s : ScriptValue) (operations : List (Vec Op Z)) (logs : List (List Entry))

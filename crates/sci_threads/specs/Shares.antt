@@ -13,33 +13,6 @@ use Rattle.sci_policy.specs.Deeds.{Deed}
 use Rattle.sci_station.specs.{Deeds.{Does}, Ends.{IsSameEnd}}
 use Rattle.sci_threads.specs.{declared.share.Share.{Share}, Slices.{GoSlices}}
 
--- the operations of a node, in their order
-abbrev pub operations_of : ℕ → List (ℕ × Op) → List Op
-operations_of node operations = map (λ p. p.1) (filter (λ p. p.0 == node) operations)
-
--- this is so of each node's operations and its log
-abbrev pub IsOfEachLog : (List Op → List Entry → Type 0) → ℕ → (ℕ → List Op) → List (List Entry) → Type 0
-IsOfEachLog Good nodes operations logs = (node : ℕ) → node < nodes → Good (operations node) (log_of logs node)
-
-abbrev pub IsOfEachLogOf : (List Op → List Entry → Type 0) → ScriptValue → List (List Entry) → Type 0
-IsOfEachLogOf Good script = IsOfEachLog Good script.nodes (λ node. operations_of node script.operations)
-
--- each node's log is of its operations: each entry has the operation that its serial names, and no serial stands twice
-abbrev pub HaveLogsOf : ScriptValue → List (List Entry) → Type 0
-HaveLogsOf script logs = IsOfEachLogOf IsLogOf script logs
-
--- and each operation has just one entry
-abbrev pub HaveWholeLogsOf : ScriptValue → List (List Entry) → Type 0
-HaveWholeLogsOf script logs = IsOfEachLogOf IsWholeLogOf script logs
-
--- the operations of each node's log are the first ones of its operations, in their order
-abbrev pub HaveFrontLogsOf : ScriptValue → List (List Entry) → Type 0
-HaveFrontLogsOf script logs = IsOfEachLogOf IsFrontOf script logs
-
--- the machine that a script is run on, whose nodes may each issue 65,536 operations
-abbrev pub size_for : ScriptValue → Size
-size_for script = record { nodes = script.nodes; lines = script.lines; slots = script.slots; limit = MAX_OPERATIONS }
-
 -- Logs and last contents of the state where one schedule leads a machine of this size. Each of its events is enabled when it
 -- comes, and each log has the entries that its node's own events make.
 pub record AreLedTo (size : Size) (logs : List (List Entry)) (last : List Stamped) : Type 0 where

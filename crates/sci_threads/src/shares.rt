@@ -7,13 +7,13 @@ ghost use Rattle.sci_drive.specs.Driving.{HasSubmittedNothing};
 ghost use Rattle.sci_station.specs.Station.{node_in};
 ghost use Rattle.sci_lanes.specs.Shown.{me_of};
 ghost use Rattle.sci_threads.specs.Shares.{AllGoOn, AreWell, GoesOn, HasAtMost, HasEnded, HaveFewer, IsOpened, IsWell};
-ghost use Rattle.sci_threads.specs.Shares.{operations_of, own_of};
+ghost use Rattle.sci_text.specs.Script.{operations_of};
+ghost use Rattle.sci_threads.specs.Shares.{own_of};
 
 use crate::share::Share;
 use crate::start::Start;
 use sci_drive::{Driver, Gate, Issuing, new_drivers_may_drive};
 use sci_station::Station;
-use sci_text::Script;
 use sci_words::{MAX_NODES, Op};
 use std::alloc::{AllocError, Global};
 use std::thread;
@@ -115,32 +115,6 @@ pub(crate) fn gathered<G: Drop>(
         stations.push(station)?;
     }
     Ok((stations, all))
-}
-
-/// The operations of each node, in their order. Refused if memory is.
-pub fn operations_by_node(alloc: Global, script: &Script) -> Result<Vec<Vec<Op>>, AllocError>
-    ensures nodes { IfOk result (λ all. length all.items ≡ script.now.nodes) }
-    ensures each { IfOk result (λ all. (node : ℕ) (d : _) → node < script.now.nodes →
-        (slice_index_or all.items node d).items ≡ operations_of node script.now.operations) }
-    ensures few { IfOk result (λ all. All
-        (λ own. length own.items ≤ MAX_OPERATIONS) all.items) }
-{
-    let nodes = script.extent().nodes;
-    let mut all = Vec::with_capacity(alloc, nodes as usize)?;
-    for node in 0..nodes {
-        // Counted first, so that no list grows beside the others.
-        let count = script
-            .operations()
-            .iter()
-            .filter(|own| own.0 == node)
-            .count();
-        all.push(Vec::with_capacity(alloc, count)?)?;
-    }
-    for (node, op) in script.operations() {
-        let own = &mut all[*node as usize];
-        own.push(*op)?;
-    }
-    Ok(all)
 }
 
 /// The shares of all nodes, of which none has done anything. Refused if memory is.

@@ -5,7 +5,8 @@ use Rattle.sci_history.specs.{declared.entry.Entry.{Entry}, Lawful.{Lawful}, Seq
 use Rattle.sci_core.specs.{Size.{Size}, Outcome.{logs_of}, Sharing.{last_of}}
 use Rattle.sci_text.specs.{Script.{ScriptValue, IsScript, script_text}, Log.{log_text}, LogValue.{AreLogs, IsLogs}}
 use Rattle.sci_text.proofs.LogLaws.{written_again}
-use Rattle.sci_threads.specs.Shares.{AreLedTo, HaveLogsOf, HaveWholeLogsOf, size_for}
+use Rattle.sci_drive.specs.ScriptLogs.{HaveLogsOf, HaveWholeLogsOf, size_for}
+use Rattle.sci_threads.specs.Shares.{AreLedTo}
 use Rattle.sci_command.specs.declared.outcome.Outcome.{Outcome, TheVariants.{Done}}
 use Rattle.scimem.specs.ThreadsAnswer.{IsThreadsOf}
 use Rattle.scimem.proofs.ReachedLogs.{reached_logs}

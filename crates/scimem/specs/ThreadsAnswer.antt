@@ -4,7 +4,7 @@ use Rattle.sci_words.specs.declared.stamped.Stamped.{Stamped}
 use Rattle.sci_history.specs.{declared.entry.Entry.{Entry}, Lawful.{Lawful}, Sequential.{IsSequentiallyConsistent}}
 use Rattle.sci_text.specs.{Script.{ScriptValue, IsScript, script_text}, FirstFault.{IsTold}}
 use Rattle.sci_text.specs.{ScriptFault.{IsScriptFault}, Log.{log_text}, LogValue.{IsLogs}}
-use Rattle.sci_threads.specs.Shares.{HaveLogsOf, HaveWholeLogsOf}
+use Rattle.sci_drive.specs.ScriptLogs.{HaveLogsOf, HaveWholeLogsOf}
 use Rattle.sci_command.specs.{Answer.{IsAnswerBy}, declared.outcome.Outcome.{Outcome, TheVariants.{Done}}}
 
 -- The input is the text of a script, and the text of logs is written that are lawful and sequentially consistent, and of

@@ -7,8 +7,8 @@ ghost use Rattle.scimem.specs.ThreadsAnswer.{IsThreadsAnswer};
 
 use sci_command::{Answer, Answered, Outcome};
 use sci_drive::Issuing;
-use sci_text::{Tap, logs_text, read_script};
-use sci_threads::{Plan, YieldingGate, operations_by_node, run_plan};
+use sci_text::{Tap, logs_text, operations_by_node, read_script};
+use sci_threads::{Plan, YieldingGate, run_plan};
 use std::alloc::Global;
 use std::io::Read;
 use std::sync::atomic::AtomicU64;

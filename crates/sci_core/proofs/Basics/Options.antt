@@ -1,7 +1,8 @@
 -- Optional values.
-use Rattle.std.proofs.Common.{◌≡◌, ℕ, zero, suc, ◌<◌, nat_lt, if◌then◌else◌, replicate, get_or, Option, Some, None, refl, subst}
+use Rattle.std.proofs.Common.{◌≡◌, ℕ, zero, suc, ◌<◌, nat_lt, if◌then◌else◌, List, [], ◌∷◌, ◌++◌, length, replicate, get_or, Option, Some, None}
+use Rattle.std.proofs.Common.{refl, ap, subst, arith, inl, inr}
 use Rattle.std.proofs.lemmas.Bool.{ltb-true}
-use Rattle.std.specs.{Prelude.{IfSome, IsSome, option_map}, Option.{option_or}}
+use Rattle.std.specs.{Prelude.{◌⊎◌, IfSome, IsSome, option_map, slice_get}, Option.{option_or}}
 use Rattle.sci_core.proofs.Basics.Lists.{if_cases}
 
 -- what holds of an optional value if it is there, holds of it
@@ -41,3 +42,11 @@ after_none (Some x) second e = cc
 pub found_first : {X : Type 0} (first second : Option X) (x : X) → first ≡ Some x → option_or first second ≡ Some x
 found_first None second x e = cc
 found_first (Some y) second x e = e
+
+-- an element of a list with one more at its end
+pub at_end : {A : Type 0} (xs : List A) (x : A) (k : ℕ) (y : A) → slice_get (xs ++ x ∷ []) k ≡ Some y
+    → ((k < length xs) × (slice_get xs k ≡ Some y)) ⊎ ((k ≡ length xs) × (x ≡ y))
+at_end [] x zero y e = inr (refl, same_some x y e)
+at_end [] x (suc k) y e = cc
+at_end (z ∷ xs) x zero y e = inl (omega arith, e)
+at_end (z ∷ xs) x (suc k) y e = elim (at_end xs x k y e) [ inl h ↦ inl (omega (arith, h.0), h.1) | inr h ↦ inr (ap suc h.0, h.1) ]

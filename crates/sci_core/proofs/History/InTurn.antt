@@ -5,20 +5,20 @@ use Rattle.std.proofs.lemmas.List.{get_or-set_same, get_or-set_other, Elements.{
 use Rattle.std.proofs.lemmas.List.Quantifiers.{all_pairs_push}
 use Rattle.std.specs.{Prelude.{IfSome, IsSome, unwrap_or}, List.{AllByRecursion}}
 use Rattle.sci_words.specs.declared.{event.Event.{Event}, operation.Op.{Op}, limits.TheConstants.{MAX_NODES}}
-use Rattle.sci_history.specs.{declared.entry.Entry.{Entry}, Sequential.{IsInProgramOrder, AreInProgramOrder}}
+use Rattle.sci_history.specs.{declared.entry.Entry.{Entry}, Placed.{log_of}, Sequential.{IsInProgramOrder, AreInProgramOrder}}
 use Rattle.sci_history.proofs.Order.{all_weaker, all-append}
 use Rattle.sci_cache.specs.Cache.{CacheOf}
 use Rattle.sci_core.specs.declared.pending.Pending.{Pending}
 use Rattle.sci_core.specs.Node.{NodeOf, opening_node, no_node, pending_on, entry_of, node_logged, may_issue, node_issued, node_issuing, node_performing}
 use Rattle.sci_core.specs.Node.{node_accepting, IsPendingOn, IsNode}
 use Rattle.sci_core.specs.{Core.{Core, node_at, with_node, stepping, step, opening, run}, Done.{performed}}
-use Rattle.sci_core.specs.{InTurn.{HasOnePending, IssuesInTurn}, Outcome.{logs_of}, Size.{Size, IsSize}}
+use Rattle.sci_core.specs.{InTurn.{HasOnePending, IssuesInTurn}, Outcome.{logs_of}, Reached.{IsReached}, Size.{Size, IsSize}}
 use Rattle.sci_core.specs.Network.{Happens, Move, MovesInTurn, Overtakes, moved, moved_from}
 use Rattle.sci_core.specs.WellFormed.{IsWellFormed}
 use Rattle.sci_core.proofs.Basics.{Lists.{if_either, at_place_set}, Options.{of_some, none_in}}
 use Rattle.sci_core.proofs.Step.{NodeSides.{PerformedAs, perform_as, serve_as, refuse_as, reply_as}, Nodes.{some_below}}
 use Rattle.sci_core.proofs.Step.Steps.{Stepped, By_issue, By_perform, By_ask, By_serve, By_refuse, By_reply, By_accept, stepping_stepped}
-use Rattle.sci_core.proofs.WellFormed.WellFormedSteps.{move_well, moved_happens, run_well, opened}
+use Rattle.sci_core.proofs.WellFormed.WellFormedSteps.{move_well, moved_happens, reached_well, run_well, opened}
 use Rattle.sci_core.proofs.{ReachedLaws.{log_at, log_beyond, beyond_log}, Shape.ShapeRuns.{each_mapped}}
 use Rattle.sci_core.proofs.History.Works.{SameWork, ask_work, serve_work, accept_work}
 
@@ -147,7 +147,7 @@ moves_turn core (move ∷ moves) n well one has =
 none_below : (j : ℕ) → j < 0 → ⊥
 none_below j lt = omega arith
 
-empty_in_order : IsInProgramOrder []
+pub empty_in_order : IsInProgramOrder []
 empty_in_order i j d lt inside = absurd (none_below j inside)
 
 opening_turn : (me : ℕ) (size : Size) → LogsInTurn (opening_node me size)
@@ -189,3 +189,14 @@ schedules_in_turn size schedule sizes each node =
       ])
       | inr past ↦ subst IsInProgramOrder (sym (log_beyond core node past)) empty_in_order
     ]
+
+-- if the log of each node stands in order, all logs do: no other has an entry
+pub in_order : (logs : List (List Entry)) (count : ℕ) (core : Core) → IsReached core → logs ≡ logs_of core → core.size.nodes ≡ count
+    → ((node : ℕ) → node < count → IsInProgramOrder (log_of logs node)) → AreInProgramOrder logs
+in_order logs count core reached is nodes each node = elim (cases_lt node count) [
+  | inl lt ↦ each node lt
+  | inr past ↦ subst (λ (all : List (List Entry)). IsInProgramOrder (log_of all node)) (sym is) (elim (cases_lt node MAX_NODES) [
+    | inl low ↦ subst IsInProgramOrder (sym (log_at core node low ∙ beyond_log core node (reached_well core reached) (omega arith))) empty_in_order
+    | inr high ↦ subst IsInProgramOrder (sym (log_beyond core node high)) empty_in_order
+  ])
+]

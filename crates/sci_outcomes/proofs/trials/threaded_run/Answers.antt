@@ -1,7 +1,7 @@
 use Rattle.std.proofs.Common.{ℕ, All, List, sym, ap, subst, ◌∙◌}
 use Rattle.sci_history.specs.{Audit.{AreWithin}, Sequential.{AreInProgramOrder}}
 use Rattle.sci_core.specs.Size.{Size}
-use Rattle.sci_threads.specs.Shares.{HaveWholeLogsOf}
+use Rattle.sci_drive.specs.ScriptLogs.{HaveWholeLogsOf}
 use Rattle.sci_threads.proofs.RunStations.{led_by}
 use Rattle.sci_outcomes.specs.{declared.place.Place.{Place}, Outcomes.{IsPlaceWithin, IsSeen}}
 use Rattle.sci_outcomes.proofs.trials.threaded_run.Goals as goal

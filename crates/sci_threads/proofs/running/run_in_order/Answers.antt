@@ -1,7 +1,7 @@
 use Rattle.std.proofs.Common.{refl, sym, subst}
 use Rattle.sci_history.specs.Sequential.{AreInProgramOrder}
 use Rattle.sci_drive.specs.declared.driver.Issuing.TheVariants.{InOrder}
-use Rattle.sci_threads.specs.Shares.{HaveFrontLogsOf, HaveLogsOf, HaveWholeLogsOf}
+use Rattle.sci_drive.specs.ScriptLogs.{HaveFrontLogsOf, HaveLogsOf, HaveWholeLogsOf}
 use Rattle.sci_threads.proofs.{DrivenNodes.{led_and_driven}, RunStations.{led_by}}
 use Rattle.sci_threads.proofs.running.run_in_order.Goals as goal
 

@@ -1,6 +1,6 @@
 use Rattle.std.proofs.Common.{sym, subst}
 use Rattle.sci_drive.specs.declared.driver.Issuing.TheVariants.{Ahead}
-use Rattle.sci_threads.specs.Shares.{HaveLogsOf, HaveWholeLogsOf}
+use Rattle.sci_drive.specs.ScriptLogs.{HaveLogsOf, HaveWholeLogsOf}
 use Rattle.sci_threads.proofs.{DrivenNodes.{led_and_driven}, RunStations.{led_by}}
 use Rattle.sci_threads.proofs.running.run_nodes.Goals as goal
 

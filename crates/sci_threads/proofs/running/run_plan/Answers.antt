@@ -7,10 +7,12 @@ use Rattle.sci_lanes.specs.{Ends.{EndOf}, Shown.{me_of}, Gathering.{AreAll, AreO
 use Rattle.sci_drive.specs.{Driving.{HasSubmittedNothing}, Script.{IsFrontOf, IsLogOf, IsWholeLogOf}}
 use Rattle.sci_station.specs.{Ends.{IsSameEnd}, Station.{StationOf, end_in, node_in}}
 use Rattle.sci_lanes.proofs.Gathered.{node_log}
-use Rattle.sci_threads.proofs.RunStations.{came_back, each_end, in_order, logs_have, opened_long, opened_known, opened_all_fresh, whole_if}
+use Rattle.sci_core.proofs.History.InTurn.{in_order}
+use Rattle.sci_threads.proofs.RunStations.{came_back, each_end, logs_have, opened_long, opened_known, opened_all_fresh, whole_if}
 use Rattle.sci_threads.proofs.{DrivenNodes.{all_driven}, RunStations.{written_back}, Going.{HasRun, all_run}}
 use Rattle.sci_threads.proofs.running.run_plan.Goals.{In-Ok, In_ok-stations}
-use Rattle.sci_threads.specs.{declared.share.Share.{Share}, Shares.{AllGoOn, HasAtMost, IsOfEachLog, IsWell, own_of}}
+use Rattle.sci_drive.specs.ScriptLogs.{IsOfEachLog}
+use Rattle.sci_threads.specs.{declared.share.Share.{Share}, Shares.{AllGoOn, HasAtMost, IsWell, own_of}}
 use Rattle.sci_threads.proofs.running.run_plan.Goals as goal
 
 pub shares-requires : goal.shares-requires

@@ -6,9 +6,12 @@ use Rattle.sci_history.specs.declared.entry.Entry.{Entry}
 use Rattle.sci_core.specs.{Outcome.{logs_of}, Size.{Size}}
 use Rattle.sci_lanes.specs.Gathering.{IsLedTo}
 use Rattle.sci_drive.specs.Script.{IsFrontOf, IsLogOf, IsWholeLogOf}
-use Rattle.sci_threads.proofs.{DrivenNodes.{by_script}, RunStations.{of_script, sized_for}}
+use Rattle.sci_threads.proofs.{DrivenNodes.{by_script}, RunStations.{of_script}}
+use Rattle.sci_drive.proofs.Fresh.{sized_for}
 use Rattle.sci_threads.proofs.running.run_to_machine.Goals.{After-run_plan}
-use Rattle.sci_threads.specs.{Shares.{IsOfEachLog, IsOfEachLogOf, operations_of, own_of}, Slices.{AreDrivenThrough}}
+use Rattle.sci_text.specs.Script.{operations_of}
+use Rattle.sci_drive.specs.ScriptLogs.{IsOfEachLog, IsOfEachLogOf}
+use Rattle.sci_threads.specs.{Shares.{own_of}, Slices.{AreDrivenThrough}}
 use Rattle.sci_threads.proofs.running.run_to_machine.Goals as goal
 
 pub run_plan-requires-clause-gates : goal.run_plan-requires-clause-gates

@@ -6,7 +6,8 @@ use Rattle.sci_core.specs.Outcome.{logs_of}
 use Rattle.sci_drive.specs.Script.{IsLogOf, IsWholeLogOf}
 use Rattle.sci_text.specs.{Tap.{has_failed, tapped}, FirstFault.{IsTold}, Log.{log_text}, Script.{script_text}}
 use Rattle.sci_text.specs.ScriptFault.{IsScriptFault}
-use Rattle.sci_threads.specs.Shares.{HaveLogsOf, HaveWholeLogsOf, operations_of}
+use Rattle.sci_text.specs.Script.{operations_of}
+use Rattle.sci_drive.specs.ScriptLogs.{HaveLogsOf, HaveWholeLogsOf}
 use Rattle.sci_threads.proofs.RunStations.{led_by, led_for, of_script}
 use Rattle.sci_command.proofs.Answers.{answer_made}
 use Rattle.scimem.specs.ThreadsAnswer.{IsThreadsOf}

@@ -1,11 +1,10 @@
 use Rattle.std.proofs.Common.{◌≡◌, ◌≤◌, ◌<◌, ℕ, List, length, take, sym, ap, subst, ◌∙◌, arith}
 use Rattle.std.proofs.lemmas.List.{take_all}
 use Rattle.sci_words.specs.declared.{limits.TheConstants.{MAX_OPERATIONS}, operation.Op.{Op}}
-use Rattle.sci_threads.specs.Shares.{operations_of}
-use Rattle.sci_threads.proofs.RunStations.{few_own}
-use Rattle.sci_threads.proofs.shares.operations_by_node.Goals as goal
+use Rattle.sci_text.specs.Script.{operations_of}
+use Rattle.sci_text.proofs.ScriptShares.{few_own}
+use Rattle.sci_text.proofs.script_shares.operations_by_node.Goals as goal
 
--- src/shares.rt:99:1
 pub returns-clause-few : goal.returns-clause-few
 returns-clause-few c = λ k d lt.
     let inv = c.loop-node-2.invariant in

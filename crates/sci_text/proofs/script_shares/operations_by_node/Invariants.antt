@@ -1,7 +1,7 @@
 use Rattle.std.proofs.Common.{◌≡◌, ◌<◌, ℕ, All, [], length, take}
 use Rattle.std.specs.Prelude.{slice_index_or}
-use Rattle.sci_threads.specs.Shares.{operations_of}
-use Rattle.sci_threads.proofs.shares.operations_by_node.Given as goal
+use Rattle.sci_text.specs.Script.{operations_of}
+use Rattle.sci_text.proofs.script_shares.operations_by_node.Given as goal
 
 abbrev pub invariant-loop-node : goal.invariant-loop-node
 invariant-loop-node l = (length l.all.items ≡ l.node-counter) × All (λ own. own.items ≡ []) l.all.items
