@@ -17,7 +17,8 @@ use Rattle.sci_policy.specs.Policy.{PolicyOf, first_sender, turned}
 use Rattle.sci_policy.proofs.Circles.{comes_by}
 use Rattle.sci_turn.specs.Posts.{IsMade, PostOf, nodes_in, post_at}
 use Rattle.sci_turn.specs.{Moves.{Stage, stage, taken_next}}
-use Rattle.sci_turn.specs.Whole.{Accepts, AcceptsFrom, FindsNoAnswer, FindsNoRequest, InTurn, IsWholeTurn, Makes, MakesNone, Replies, Takes as TakesNext, TakesFrom}
+use Rattle.sci_turn.specs.Whole.{Accepts, AcceptsFrom, FindsNoAnswer, FindsNoRequest, InTurn, IsWholeTurn, Makes, MakesNone, Replies}
+use Rattle.sci_turn.specs.Whole.{Takes as TakesNext, TakesFrom}
 use Rattle.sci_turn.specs.Whole.{UpTo, no_progress}
 use Rattle.sci_turn.proofs.{AlonePosts.{IsAlone, made_alone, still_alone}, Wholes.{first_below, of_circle}, Working.{stepped}}
 use Rattle.sci_fair.{specs.Looks.{HasLooked}, proofs.Taking.{took}}
@@ -218,7 +219,8 @@ turn_looks n j before after old new progress reached t f whole =
     let turns = (turned before).turns in
     let lane = lane_of old Requests j n in
     let begun = stage (turned before) (post_at n old) no_progress in
-    let first : IsSo n j nodes turns lane begun = record { is = record { me = refl; alone = refl }; reached = reached; all = refl; here = refl; counted = refl } in
+    let first : IsSo n j nodes turns lane begun =
+    record { is = record { me = refl; alone = refl }; reached = reached; all = refl; here = refl; counted = refl } in
     let second = replies_so n j nodes turns lane begun whole.replied f t first whole.replies in
     let third = in_turn_so AcceptsFrom (IsSo n j nodes turns lane)
     (λ from a b so steps. up_to_so 4 (Accepts from) (FindsNoAnswer from) (IsSo n j nodes turns lane)

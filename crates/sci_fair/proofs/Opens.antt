@@ -1,6 +1,6 @@
 -- In a machine that works by turns, behind a Cread stands no request that changes a list at its home. Where a policy wants such
 -- a request, no line of its node joins, so the node has no Cread under way. What a lane gains elsewhere is no such request.
-use Rattle.std.proofs.Common.{◌≡◌, ◌<◌, ◌*◌, ◌%◌, ◌⊎◌, ℕ, zero, suc, Bool, true, false, not, ◌&&◌, cond, List, [], ◌∷◌, ◌++◌, filter, get_or, set}
+use Rattle.std.proofs.Common.{◌≡◌, ◌<◌, ◌*◌, ◌%◌, ◌⊎◌, ℕ, zero, suc, Bool, true, false, not, ◌&&◌, cond, arith, List, [], ◌∷◌, ◌++◌, filter, get_or, set}
 use Rattle.std.proofs.Common.{Option, Some, None, refl, sym, ap, subst, ◌∙◌, inl, inr, replicate, rules}
 use Rattle.std.proofs.lemmas.{Bool.{cases_Bool, cases_lt}, List.{get_or_past, Elements.{All-weaker, filter-append, recursion_from_All}}}
 use Rattle.std.specs.{Prelude.{IfSome, option_to_list}, List.{AllByRecursion, flat_map}}
@@ -8,7 +8,7 @@ use Rattle.sci_history.proofs.Order.{all-append}
 use Rattle.sci_words.specs.declared.event.{AskKind.{AskKind}, Event.{Event}}
 use Rattle.sci_history.specs.declared.entry.Entry.{Entry}
 use Rattle.sci_packets.specs.{declared.body.Body.{Body}, Table.{is_request}}
-use Rattle.sci_cache.specs.State.{CacheState, Out, Asking, Joining, FreshJoining, Head, FreshHead, Purging, Claiming, Clearing, Returning, Rolling, Telling, Fading, is_out}
+use Rattle.sci_cache.specs.State.{CacheState, is_out}
 use Rattle.sci_cache.specs.{Asking.{Asked, asking}, Kinds.{joins}, Line.{LineState, ask_or_fault, untouched}, Cache.{Letter, cache_asked, has_slot, line_of}}
 use Rattle.sci_core.specs.declared.lane.LaneKind.{LaneKind, TheVariants.{Requests, Answers}}
 use Rattle.sci_core.specs.Core.{Core, Side, Idle, Changes, Sends, Takes, changes, lane_at, lane_of, lane_place, node_at, node_of, opening, performs, sends}
@@ -66,24 +66,8 @@ all_if : {X : Type 0} (P : X → Type 0) (b : Bool) (x : X) (xs : List X) → Al
 all_if P true x xs all = all.1
 all_if P false x xs all = all
 
-not_cread : (b c : Body) → b ≡ c → is_cread c ≡ false → is_cread b ≡ true → ⊥
-not_cread b c is none cread = let clash : true ≡ false = sym cread ∙ (ap is_cread is ∙ none) in cc
-
 cread_joins : (home : ℕ) (state : CacheState) (letter : Letter) → IsSentIn home state letter → is_cread letter.body ≡ true → joins state ≡ true
-cread_joins home (Joining p true) letter sent cread = refl
-cread_joins home (FreshJoining p true c) letter sent cread = refl
-cread_joins home Asking letter sent cread = elim sent.0 [
-  | inl is ↦ absurd (not_cread letter.body body.Mread is refl cread)
-  | inr is ↦ absurd (not_cread letter.body body.Fread is refl cread)
-]
-cread_joins home (Purging q c) letter sent cread = absurd (not_cread letter.body body.Purge sent.0 refl cread)
-cread_joins home (Claiming f c) letter sent cread = absurd (not_cread letter.body body.Claim sent.0 refl cread)
-cread_joins home (Clearing c) letter sent cread = absurd (not_cread letter.body body.Clear sent.0 refl cread)
-cread_joins home (Returning c) letter sent cread = absurd (not_cread letter.body (body.Wback c) sent.0 refl cread)
-cread_joins home (Rolling f b c) letter sent cread = absurd (not_cread letter.body (body.Roll f) sent refl cread)
-cread_joins home (Telling r w true) letter sent cread = absurd (not_cread letter.body (body.Setback w) sent.0 refl cread)
-cread_joins home Fading letter sent cread = absurd (not_cread letter.body (body.Roll sent.0) sent.1 refl cread)
-cread_joins home _ letter sent cread = elim sent [ ]
+cread_joins home state letter sent cread = grind arith
 
 cread_asks : (b : Body) → is_cread b ≡ true → is_request b ≡ true
 cread_asks body.Cread e = refl
@@ -134,22 +118,15 @@ lane_none core n to reached some t idle =
     packets_none (line % core.size.nodes) (line_of (node_at core n).cache line) (packets_of core n line) (reached_tidy core reached n line some inside)
     (idle line) in
     let lanes = (filtered_parts P (is_about n line) waiting _ packets).1 in
-    let later = (filtered_parts P (is_about n line) among.before _ (subst (λ (ls : List Letter). AllByRecursion P (filter (is_about n line) ls)) among.now lanes)).1 in
+    let parted = subst (λ (ls : List Letter). AllByRecursion P (filter (is_about n line) ls)) among.now lanes in
+    let later = (filtered_parts P (is_about n line) among.before _ parted).1 in
     (filtered_parts P (is_about n line) (lane_at core place) among.after later).0)
 
 -- ---- what an ask sends
 
-asking_changes : (state : CacheState) (k : AskKind) (line : ℕ) → IfSome (asking state k) (λ (a : Asked). changes_list a.request ≡ asks_home_to_change (Ask line k))
-asking_changes Out kind.Mread line = refl
-asking_changes Out kind.Fread line = refl
-asking_changes (Joining p false) kind.Cread line = refl
-asking_changes (FreshJoining p false c) kind.Cread line = refl
-asking_changes (Head (Some q) c) kind.Purge line = refl
-asking_changes (Head None c) kind.Wback line = refl
-asking_changes (FreshHead None c) kind.Claim line = refl
-asking_changes (FreshHead (Some f) c) kind.Claim line = refl
-asking_changes (FreshHead None c) kind.Clear line = refl
-asking_changes _ _ line = search rules
+asking_changes : (state : CacheState) (k : AskKind) (line : ℕ)
+    → IfSome (asking state k) (λ (a : Asked). changes_list a.request ≡ asks_home_to_change (Ask line k))
+asking_changes state k line = search rules
 
 made_changes : (node : NodeOf) (line : ℕ) (lacks changes : Bool) (made : Option Asked) → IfSome made (λ (a : Asked). changes_list a.request ≡ changes)
     → IfSome (asked_by node (cache_asked node.cache line (ask_or_fault made lacks))) (λ (sent : NodeOf × Letter). changes_list sent.1.body ≡ changes)
@@ -172,7 +149,8 @@ wanted_plain policy node joining line kind.Clear below joined wants = absurd ((j
 wanted_plain policy node joining line kind.Wback below joined wants = absurd ((joins_first policy node joining line kind.Wback below joined wants).2 refl)
 wanted_plain policy node joining line _ below joined wants = refl
 
-joins_inside : (core : Core) (n line : ℕ) → IsReached core → n < core.size.nodes → joins (state_on (node_at core n) line) ≡ true → line < lines_of (node_at core n)
+joins_inside : (core : Core) (n line : ℕ) → IsReached core → n < core.size.nodes → joins (state_on (node_at core n) line) ≡ true
+    → line < lines_of (node_at core n)
 joins_inside core n line reached some joined = elim (cases_lt line (lines_of (node_at core n))) [
   | inl below ↦ below
   | inr past ↦ (let none : joins (state_on (node_at core n) line) ≡ false =

@@ -85,7 +85,8 @@ accepted_kept : (node next : NodeOf) (answer : Letter) → AcceptedAs node answe
 accepted_kept node next answer does =
     let lower = of_some (λ (s : CacheState). never_rises (work_on node answer.line) (state_on node answer.line) s ≡ true) _ does.state does.accepts
     (accepting_keeps (work_on node answer.line) (state_on node answer.line) answer.body) in
-    subst (RankKept node) does.then_ (record { work = λ line. refl; rank = line_kept node answer.line (line_in (line_of node.cache answer.line) does.state) lower })
+    subst (RankKept node) does.then_
+    (record { work = λ line. refl; rank = line_kept node answer.line (line_in (line_of node.cache answer.line) does.state) lower })
 
 made_kept : (node : NodeOf) (line : ℕ) (lacks : Bool) (made : Option Asked)
     → IfSome made (λ (a : Asked). never_rises (work_on node line) (state_on node line) a.next ≡ true)
@@ -135,18 +136,21 @@ event_kept core new n before after (event.Serve from i) reached some own steps =
     let serves = serves_it before (node_at core n) from n front.letter (is_some (node_at core n).waiting) decides in
     all_kept core new n front.next reached some (λ k. ap (λ (c : Core). node_at c k) (sym front.made))
     (served_kept (node_at core n) front.next front.letter (serve_held before (node_at core n) front.letter serves)
-    (of_some (ServedAs (node_at core n) front.letter) (node_serving (node_at core n) front.letter) front.next front.takes (serve_as (node_at core n) front.letter)))
+    (of_some (ServedAs (node_at core n) front.letter) (node_serving (node_at core n) front.letter) front.next front.takes
+    (serve_as (node_at core n) front.letter)))
 event_kept core new n before after (event.Refuse from i) reached some own steps =
     let front = took core new n from Requests (node_refusing (node_at core n))
     (stepped core new n (event.Refuse from i) (side (node_at core n) (event.Refuse from i)) some own.kind.own refl steps) in
-    let does = of_some (RefusedAs (node_at core n) front.letter) (node_refusing (node_at core n) front.letter) front.next front.takes (refuse_as (node_at core n) front.letter) in
+    let does = of_some (RefusedAs (node_at core n) front.letter) (node_refusing (node_at core n) front.letter) front.next front.takes
+    (refuse_as (node_at core n) front.letter) in
     all_kept core new n front.next reached some (λ k. ap (λ (c : Core). node_at c k) (sym front.made)) (subst (RankKept (node_at core n)) does.then_
     (record { work = λ line. refl; rank = λ line. same_state (work_on (node_at core n) line) (state_on (node_at core n) line) }))
 event_kept core new n before after (event.Accept from i) reached some own steps =
     let front = took core new n from Answers (node_accepting (node_at core n))
     (stepped core new n (event.Accept from i) (side (node_at core n) (event.Accept from i)) some own.kind.own refl steps) in
     all_kept core new n front.next reached some (λ k. ap (λ (c : Core). node_at c k) (sym front.made)) (accepted_kept (node_at core n) front.next front.letter
-    (of_some (AcceptedAs (node_at core n) front.letter) (node_accepting (node_at core n) front.letter) front.next front.takes (accept_as (node_at core n) front.letter)))
+    (of_some (AcceptedAs (node_at core n) front.letter) (node_accepting (node_at core n) front.letter) front.next front.takes
+    (accept_as (node_at core n) front.letter)))
 event_kept core new n before after (event.Reply i) reached some own steps =
     let out = sent_out core new n Answers (node_replying (node_at core n))
     (stepped core new n (event.Reply i) (side (node_at core n) (event.Reply i)) some own.kind.own refl steps) in

@@ -8,7 +8,7 @@ use Rattle.std.specs.{Prelude.{IfSome, IsSome, is_some, option_to_list, slice_ge
 use Rattle.sci_history.proofs.Order.{all-append, all-filter}
 use Rattle.sci_words.specs.declared.event.AskKind.{AskKind}
 use Rattle.sci_packets.specs.{declared.body.Body.TheVariants.{Cread}, Table.{is_request}}
-use Rattle.sci_cache.specs.State.{CacheState, Claiming, Clearing, Returning, waits}
+use Rattle.sci_cache.specs.State.{CacheState, waits}
 use Rattle.sci_cache.specs.{Line.{LineState}, Cache.{Letter, line_of}}
 use Rattle.sci_core.specs.declared.lane.LaneKind.{LaneKind, TheVariants.{Requests, Answers}}
 use Rattle.sci_core.specs.{Core.{Core, lane_at, lane_of, lane_place, node_at}, Node.{NodeOf, no_node, node_asking, pending_on}}
@@ -118,16 +118,11 @@ plain_way core reached opened stuck =
 -- ---- so no list awaits its home
 
 awaits_waits : (state : CacheState) → awaits_home state ≡ true → waits state ≡ true
-awaits_waits (Claiming f c) e = refl
-awaits_waits (Clearing c) e = refl
-awaits_waits (Returning c) e = refl
-awaits_waits _ e = cc
+awaits_waits state e = grind arith
 
-no_change_sent : (home : ℕ) (state : CacheState) (letter : Letter) → awaits_home state ≡ true → IsSentIn home state letter → changes_list letter.body ≡ false → ⊥
-no_change_sent home (Claiming f c) letter awaits sent none = let so : true ≡ false = sym (ap changes_list sent.0) ∙ none in cc
-no_change_sent home (Clearing c) letter awaits sent none = let so : true ≡ false = sym (ap changes_list sent.0) ∙ none in cc
-no_change_sent home (Returning c) letter awaits sent none = let so : true ≡ false = sym (ap changes_list sent.0) ∙ none in cc
-no_change_sent home _ letter awaits sent none = cc
+no_change_sent : (home : ℕ) (state : CacheState) (letter : Letter) → awaits_home state ≡ true → IsSentIn home state letter
+    → changes_list letter.body ≡ false → ⊥
+no_change_sent home state letter awaits sent none = grind arith
 
 plain_packets : (home : ℕ) (line : LineState) (packets : List Letter) → HasItsPackets home line packets → AllByRecursion IsPlain packets
     → awaits_home line.state ≡ true → ⊥

@@ -20,7 +20,8 @@ was_here P n core new was =
     let still = still_alone n (post_at n core) was.mid (record { me = refl; alone = refl }) was.before in
     subst (λ (c : Core). P c n) still.same (subst (P was.mid.core) still.is.me was.so)
 
-idle_at : (n : ℕ) (core : Core) (before after : PolicyOf) → IsIdleTurn before (post_at n core) after (post_at n core) → (turned before).turns ≡ 0 → FindsNothing core n
+idle_at : (n : ℕ) (core : Core) (before after : PolicyOf) → IsIdleTurn before (post_at n core) after (post_at n core) → (turned before).turns ≡ 0
+    → FindsNothing core n
 idle_at n core before after idle let_go = record {
   policy = turned before;
   let_go = let_go;
