@@ -1,6 +1,6 @@
 -- In a machine that works by turns, behind a Cread stands no request that changes a list at its home. Where a policy wants such
 -- a request, no line of its node joins, so the node has no Cread under way. What a lane gains elsewhere is no such request.
-use Rattle.std.proofs.Common.{◌≡◌, ◌<◌, ◌*◌, ◌%◌, ◌⊎◌, ℕ, zero, suc, Bool, true, false, not, ◌&&◌, cond, arith, List, [], ◌∷◌, ◌++◌, filter, get_or, set}
+use Rattle.std.proofs.Common.{◌≡◌, ◌<◌, ◌*◌, ◌%◌, ◌⊎◌, ℕ, zero, suc, Bool, true, false, cond, arith, List, [], ◌∷◌, ◌++◌, filter, get_or, set}
 use Rattle.std.proofs.Common.{Option, Some, None, refl, sym, ap, subst, ◌∙◌, inl, inr, replicate, rules}
 use Rattle.std.proofs.lemmas.{Bool.{cases_Bool, cases_lt}, List.{get_or_past, Elements.{All-weaker, filter-append, recursion_from_All}}}
 use Rattle.std.specs.{Prelude.{IfSome, option_to_list}, List.{AllByRecursion, flat_map}}
@@ -8,8 +8,8 @@ use Rattle.sci_history.proofs.Order.{all-append}
 use Rattle.sci_words.specs.declared.event.{AskKind.{AskKind}, Event.{Event}}
 use Rattle.sci_history.specs.declared.entry.Entry.{Entry}
 use Rattle.sci_packets.specs.{declared.body.Body.{Body}, Table.{is_request}}
-use Rattle.sci_cache.specs.State.{CacheState, is_out}
-use Rattle.sci_cache.specs.{Asking.{Asked, asking}, Kinds.{joins}, Line.{LineState, ask_or_fault, untouched}, Cache.{Letter, cache_asked, has_slot, line_of}}
+use Rattle.sci_cache.specs.State.{CacheState}
+use Rattle.sci_cache.specs.{Asking.{Asked, asking}, Kinds.{joins}, Line.{LineState, ask_or_fault, untouched}, Cache.{Letter, cache_asked, line_of}}
 use Rattle.sci_core.specs.declared.lane.LaneKind.{LaneKind, TheVariants.{Requests, Answers}}
 use Rattle.sci_core.specs.Core.{Core, Side, Idle, Changes, Sends, Takes, changes, lane_at, lane_of, lane_place, node_at, node_of, opening, performs, sends}
 use Rattle.sci_core.specs.Core.{sent_by, side, step_by, stepping, with_node}
@@ -24,7 +24,7 @@ use Rattle.sci_policy.specs.declared.want.Want.{TheVariants.{Ask}}
 use Rattle.sci_policy.specs.{Lines.{state_on}, Policy.{PolicyOf, asks_home_to_change, is_cread, next_wanted}}
 use Rattle.sci_policy.proofs.{PolicyLaws.{joins_first}, Targets.{asked_target}}
 use Rattle.sci_turn.{specs.Moves.{IsOwn}, proofs.Working.{stepped}}
-use Rattle.sci_fair.{specs.Lanes.{AreOpen, IsOpen, IsWork, changes_list}, proofs.Taking.{took}}
+use Rattle.sci_fair.{specs.Lanes.{AreOpen, IsOpen, IsWork, changes_list}}
 use Rattle.sci_packets.specs.declared.body.Body.TheVariants as body
 use Rattle.sci_words.specs.declared.event.AskKind.TheVariants as kind
 use Rattle.sci_words.specs.declared.event.Event.TheVariants as event
@@ -79,12 +79,7 @@ none_of false never = refl
 
 packets_none : (home : ℕ) (line : LineState) (packets : List Letter) → HasItsPackets home line packets → joins line.state ≡ false → NoCread packets
 packets_none home line [] has idle = tt
-packets_none home line (letter ∷ []) has idle = (
-  none_of (is_cread letter.body) (λ cread.
-      let joined = cread_joins home line.state letter (has.sent (cread_asks letter.body cread)) cread in
-      let clash : true ≡ false = sym joined ∙ idle in cc),
-  tt,
-)
+packets_none home line (letter ∷ []) has idle = grind (arith, none_of, cread_joins, cread_asks)
 packets_none home line (letter ∷ another ∷ packets) has idle = elim has [ ]
 
 -- if none of what a lane has about each line is a Cread, none in it is
@@ -136,10 +131,7 @@ made_changes node line false changes (Some asked) is = is
 
 asked_changes : (node : NodeOf) (line : ℕ) (k : AskKind)
     → IfSome (node_asking node line k) (λ (sent : NodeOf × Letter). changes_list sent.1.body ≡ asks_home_to_change (Ask line k))
-asked_changes node line k =
-    if_below line (lines_of node) (λ (sent : NodeOf × Letter). changes_list sent.1.body ≡ asks_home_to_change (Ask line k)) _ (λ below.
-    made_changes node line (is_out (state_on node line) && not (has_slot node.cache)) (asks_home_to_change (Ask line k)) (asking (state_on node line) k)
-    (asking_changes (state_on node line) k line))
+asked_changes node line k = grind (arith, if_below, made_changes, asking_changes)
 
 -- what is wanted while a line joins changes no list at its home
 wanted_plain : (policy : PolicyOf) (node : NodeOf) (joining line : ℕ) (k : AskKind) → joining < lines_of node → joins (state_on node joining) ≡ true
@@ -200,11 +192,7 @@ side_open core new n (Sends kind next letter) opened fits is =
     let place = lane_place core.size.nodes kind n letter.target in
     lane_changed core new place (lane_at core place ++ letter ∷ []) opened (ap (λ (c : Core). c.lanes) (sym made))
     (open_push (lane_at core place) letter (opened place) fits)
-side_open core new n (Takes kind from taking) opened fits is =
-    let front = took core new n from kind taking is in
-    let place = lane_place core.size.nodes kind from n in
-    lane_changed core new place front.rest opened (ap (λ (c : Core). c.lanes) (sym front.made))
-    (open_rest (lane_at core place) front.rest front.letter front.front (opened place))
+side_open core new n (Takes kind from taking) opened fits is = grind (arith, lane_changed, open_rest)
 
 sends_fit : (core : Core) (n : ℕ) (kind : LaneKind) (o : Option (NodeOf × Letter))
     → IfSome o (λ sent. (changes_list sent.1.body ≡ false) ⊎ NoCread (lane_of core kind n sent.1.target)) → SideFits core n (sends kind o)

@@ -41,9 +41,7 @@ own_suits None s = own_with None s
 own_suits (Some p) s = own_with (Some (is_maker p.op)) s
 
 ask_suits : (node : NodeOf) (line : ℕ) → IfSome (ask_of node line) (SuitsWant node)
-ask_suits node line =
-    mapped (Ask line) (own_ask (has_maker node line) (state_on node line)) (λ k. suits (work_on node line) k ≡ true) (SuitsWant node)
-    (own_suits (pending_on node line) (state_on node line)) (λ k suit. suit)
+ask_suits node line = grind (arith, mapped, own_suits)
 
 -- a line with an operation is read
 read_with : (b maker : Bool) → suits (Some b) (read_kind maker) ≡ true
