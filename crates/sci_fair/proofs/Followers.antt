@@ -1,5 +1,5 @@
 -- A Purge that is under way finds an entry that follows: the node that purges leads its list, and the next one follows.
-use Rattle.std.proofs.Common.{◌≡◌, ◌<◌, ℕ, Bool, true, false, List, [], ◌∷◌, Option, Some, None, refl, sym, ap, ◌∙◌, inl, inr}
+use Rattle.std.proofs.Common.{◌≡◌, ◌<◌, ℕ, Bool, true, List, [], ◌∷◌, Option, Some, None, refl, sym, ap, ◌∙◌, inl, inr, arith}
 use Rattle.sci_words.specs.declared.stamped.Stamped.{Stamped}
 use Rattle.sci_packets.specs.declared.body.Body.{Body}
 use Rattle.sci_home.specs.{declared.state.HomeState.{HomeState}}
@@ -43,8 +43,7 @@ shaped_next view (at.Home d) c ns x y is leads link =
     absurd (empty_among (link_in view) ns x is.list.linked (is.list.all x (Some y) link))
 shaped_next view (at.Fresh p d) c ns x y is leads link =
     led_next view c true (Some p) ns x y is.list.linked is.led.1 (is.list.all x (Some y) link) leads link
-shaped_next view (at.Gone p) c ns x y is leads link =
-    led_next view c false (Some p) ns x y is.list.linked is.led (is.list.all x (Some y) link) leads link
+shaped_next view (at.Gone p) c ns x y is leads link = grind (arith, led_next)
 
 follower_state : (state : CacheState) (answer : Option Body) → role_of state answer ≡ Some Following → follows state ≡ true
 follower_state (Below f b c) answer is = refl

@@ -17,7 +17,8 @@ use Rattle.sci_policy.specs.Policy.{PolicyOf, first_sender, turned}
 use Rattle.sci_policy.proofs.Circles.{comes_by}
 use Rattle.sci_turn.specs.Posts.{IsMade, PostOf, nodes_in, post_at}
 use Rattle.sci_turn.specs.{Moves.{Stage, stage, taken_next}}
-use Rattle.sci_turn.specs.Whole.{Accepts, AcceptsFrom, FindsNoAnswer, FindsNoRequest, InTurn, IsWholeTurn, Makes, MakesNone, Replies, Takes as TakesNext, TakesFrom}
+use Rattle.sci_turn.specs.Whole.{Accepts, AcceptsFrom, FindsNoAnswer, FindsNoRequest, InTurn, IsWholeTurn, Makes, MakesNone, Replies}
+use Rattle.sci_turn.specs.Whole.{Takes as TakesNext, TakesFrom}
 use Rattle.sci_turn.specs.Whole.{UpTo, no_progress}
 use Rattle.sci_turn.proofs.{AlonePosts.{IsAlone, made_alone, still_alone}, Wholes.{first_below, of_circle}, Working.{stepped}}
 use Rattle.sci_fair.{specs.Looks.{HasLooked}, proofs.Taking.{took}}
@@ -61,8 +62,7 @@ SparesFrom j (event.Accept from n) = Unit {0}
 SparesFrom j _ = ⊥
 
 answers_apart : (nodes from to j n : ℕ) → j < nodes → n < nodes → lane_place nodes Requests j n ≢ lane_place nodes Answers from to
-answers_apart nodes from to j n f t = λ same.
-    (let below = place_requests nodes j n f t in let past = place_answers nodes from to in absurd (omega arith))
+answers_apart nodes from to j n f t = grind (arith, place_requests, place_answers)
 
 senders_apart : (nodes from j n : ℕ) → j < nodes → n < nodes → from < nodes → from ≢ j → lane_place nodes Requests j n ≢ lane_place nodes Requests from n
 senders_apart nodes from j n f t below other = λ same.
@@ -166,15 +166,7 @@ looked : (n j nodes turns : ℕ) (lane : List Letter) (old : Stage) (core : Core
     → (taken_next old.policy core j old.post.me ≡ None)
     ⊎ ((e : Event) × (next : Core) × (taken_next old.policy core j old.post.me ≡ Some e) × (stepping core e ≡ Some next))
     → HasLooked n j turns lane
-looked n j nodes turns lane old core so same did = record {
-  policy = old.policy;
-  core = core;
-  reached = subst IsReached (sym same) so.reached;
-  here = ap (λ (c : Core). lane_of c Requests j n) same ∙ so.here;
-  counted = so.counted;
-  did = subst (λ (m : ℕ). (taken_next old.policy core j m ≡ None)
-      ⊎ ((e : Event) × (next : Core) × (taken_next old.policy core j m ≡ Some e) × (stepping core e ≡ Some next))) so.is.me did;
-}
+looked n j nodes turns lane old core so same did = grind arith
 
 made_looked : (n j nodes turns : ℕ) (lane : List Letter) (old new : Stage) (e : Event) → IsSo n j nodes turns lane old → (made : IsMade old.post e new.post)
     → taken_next old.policy made.mid.core j old.post.me ≡ Some e → HasLooked n j turns lane
@@ -218,7 +210,8 @@ turn_looks n j before after old new progress reached t f whole =
     let turns = (turned before).turns in
     let lane = lane_of old Requests j n in
     let begun = stage (turned before) (post_at n old) no_progress in
-    let first : IsSo n j nodes turns lane begun = record { is = record { me = refl; alone = refl }; reached = reached; all = refl; here = refl; counted = refl } in
+    let first : IsSo n j nodes turns lane begun =
+    record { is = record { me = refl; alone = refl }; reached = reached; all = refl; here = refl; counted = refl } in
     let second = replies_so n j nodes turns lane begun whole.replied f t first whole.replies in
     let third = in_turn_so AcceptsFrom (IsSo n j nodes turns lane)
     (λ from a b so steps. up_to_so 4 (Accepts from) (FindsNoAnswer from) (IsSo n j nodes turns lane)

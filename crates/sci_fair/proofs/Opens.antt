@@ -1,6 +1,6 @@
 -- In a machine that works by turns, behind a Cread stands no request that changes a list at its home. Where a policy wants such
 -- a request, no line of its node joins, so the node has no Cread under way. What a lane gains elsewhere is no such request.
-use Rattle.std.proofs.Common.{◌≡◌, ◌<◌, ◌*◌, ◌%◌, ◌⊎◌, ℕ, zero, suc, Bool, true, false, not, ◌&&◌, cond, List, [], ◌∷◌, ◌++◌, filter, get_or, set}
+use Rattle.std.proofs.Common.{◌≡◌, ◌<◌, ◌*◌, ◌%◌, ◌⊎◌, ℕ, zero, suc, Bool, true, false, cond, arith, List, [], ◌∷◌, ◌++◌, filter, get_or, set}
 use Rattle.std.proofs.Common.{Option, Some, None, refl, sym, ap, subst, ◌∙◌, inl, inr, replicate, rules}
 use Rattle.std.proofs.lemmas.{Bool.{cases_Bool, cases_lt}, List.{get_or_past, Elements.{All-weaker, filter-append, recursion_from_All}}}
 use Rattle.std.specs.{Prelude.{IfSome, option_to_list}, List.{AllByRecursion, flat_map}}
@@ -8,8 +8,8 @@ use Rattle.sci_history.proofs.Order.{all-append}
 use Rattle.sci_words.specs.declared.event.{AskKind.{AskKind}, Event.{Event}}
 use Rattle.sci_history.specs.declared.entry.Entry.{Entry}
 use Rattle.sci_packets.specs.{declared.body.Body.{Body}, Table.{is_request}}
-use Rattle.sci_cache.specs.State.{CacheState, Out, Asking, Joining, FreshJoining, Head, FreshHead, Purging, Claiming, Clearing, Returning, Rolling, Telling, Fading, is_out}
-use Rattle.sci_cache.specs.{Asking.{Asked, asking}, Kinds.{joins}, Line.{LineState, ask_or_fault, untouched}, Cache.{Letter, cache_asked, has_slot, line_of}}
+use Rattle.sci_cache.specs.State.{CacheState}
+use Rattle.sci_cache.specs.{Asking.{Asked, asking}, Kinds.{joins}, Line.{LineState, ask_or_fault, untouched}, Cache.{Letter, cache_asked, line_of}}
 use Rattle.sci_core.specs.declared.lane.LaneKind.{LaneKind, TheVariants.{Requests, Answers}}
 use Rattle.sci_core.specs.Core.{Core, Side, Idle, Changes, Sends, Takes, changes, lane_at, lane_of, lane_place, node_at, node_of, opening, performs, sends}
 use Rattle.sci_core.specs.Core.{sent_by, side, step_by, stepping, with_node}
@@ -24,7 +24,7 @@ use Rattle.sci_policy.specs.declared.want.Want.{TheVariants.{Ask}}
 use Rattle.sci_policy.specs.{Lines.{state_on}, Policy.{PolicyOf, asks_home_to_change, is_cread, next_wanted}}
 use Rattle.sci_policy.proofs.{PolicyLaws.{joins_first}, Targets.{asked_target}}
 use Rattle.sci_turn.{specs.Moves.{IsOwn}, proofs.Working.{stepped}}
-use Rattle.sci_fair.{specs.Lanes.{AreOpen, IsOpen, IsWork, changes_list}, proofs.Taking.{took}}
+use Rattle.sci_fair.{specs.Lanes.{AreOpen, IsOpen, IsWork, changes_list}}
 use Rattle.sci_packets.specs.declared.body.Body.TheVariants as body
 use Rattle.sci_words.specs.declared.event.AskKind.TheVariants as kind
 use Rattle.sci_words.specs.declared.event.Event.TheVariants as event
@@ -66,24 +66,8 @@ all_if : {X : Type 0} (P : X → Type 0) (b : Bool) (x : X) (xs : List X) → Al
 all_if P true x xs all = all.1
 all_if P false x xs all = all
 
-not_cread : (b c : Body) → b ≡ c → is_cread c ≡ false → is_cread b ≡ true → ⊥
-not_cread b c is none cread = let clash : true ≡ false = sym cread ∙ (ap is_cread is ∙ none) in cc
-
 cread_joins : (home : ℕ) (state : CacheState) (letter : Letter) → IsSentIn home state letter → is_cread letter.body ≡ true → joins state ≡ true
-cread_joins home (Joining p true) letter sent cread = refl
-cread_joins home (FreshJoining p true c) letter sent cread = refl
-cread_joins home Asking letter sent cread = elim sent.0 [
-  | inl is ↦ absurd (not_cread letter.body body.Mread is refl cread)
-  | inr is ↦ absurd (not_cread letter.body body.Fread is refl cread)
-]
-cread_joins home (Purging q c) letter sent cread = absurd (not_cread letter.body body.Purge sent.0 refl cread)
-cread_joins home (Claiming f c) letter sent cread = absurd (not_cread letter.body body.Claim sent.0 refl cread)
-cread_joins home (Clearing c) letter sent cread = absurd (not_cread letter.body body.Clear sent.0 refl cread)
-cread_joins home (Returning c) letter sent cread = absurd (not_cread letter.body (body.Wback c) sent.0 refl cread)
-cread_joins home (Rolling f b c) letter sent cread = absurd (not_cread letter.body (body.Roll f) sent refl cread)
-cread_joins home (Telling r w true) letter sent cread = absurd (not_cread letter.body (body.Setback w) sent.0 refl cread)
-cread_joins home Fading letter sent cread = absurd (not_cread letter.body (body.Roll sent.0) sent.1 refl cread)
-cread_joins home _ letter sent cread = elim sent [ ]
+cread_joins home state letter sent cread = grind arith
 
 cread_asks : (b : Body) → is_cread b ≡ true → is_request b ≡ true
 cread_asks body.Cread e = refl
@@ -95,12 +79,7 @@ none_of false never = refl
 
 packets_none : (home : ℕ) (line : LineState) (packets : List Letter) → HasItsPackets home line packets → joins line.state ≡ false → NoCread packets
 packets_none home line [] has idle = tt
-packets_none home line (letter ∷ []) has idle = (
-  none_of (is_cread letter.body) (λ cread.
-      let joined = cread_joins home line.state letter (has.sent (cread_asks letter.body cread)) cread in
-      let clash : true ≡ false = sym joined ∙ idle in cc),
-  tt,
-)
+packets_none home line (letter ∷ []) has idle = grind (arith, none_of, cread_joins, cread_asks)
 packets_none home line (letter ∷ another ∷ packets) has idle = elim has [ ]
 
 -- if none of what a lane has about each line is a Cread, none in it is
@@ -134,22 +113,15 @@ lane_none core n to reached some t idle =
     packets_none (line % core.size.nodes) (line_of (node_at core n).cache line) (packets_of core n line) (reached_tidy core reached n line some inside)
     (idle line) in
     let lanes = (filtered_parts P (is_about n line) waiting _ packets).1 in
-    let later = (filtered_parts P (is_about n line) among.before _ (subst (λ (ls : List Letter). AllByRecursion P (filter (is_about n line) ls)) among.now lanes)).1 in
+    let parted = subst (λ (ls : List Letter). AllByRecursion P (filter (is_about n line) ls)) among.now lanes in
+    let later = (filtered_parts P (is_about n line) among.before _ parted).1 in
     (filtered_parts P (is_about n line) (lane_at core place) among.after later).0)
 
 -- ---- what an ask sends
 
-asking_changes : (state : CacheState) (k : AskKind) (line : ℕ) → IfSome (asking state k) (λ (a : Asked). changes_list a.request ≡ asks_home_to_change (Ask line k))
-asking_changes Out kind.Mread line = refl
-asking_changes Out kind.Fread line = refl
-asking_changes (Joining p false) kind.Cread line = refl
-asking_changes (FreshJoining p false c) kind.Cread line = refl
-asking_changes (Head (Some q) c) kind.Purge line = refl
-asking_changes (Head None c) kind.Wback line = refl
-asking_changes (FreshHead None c) kind.Claim line = refl
-asking_changes (FreshHead (Some f) c) kind.Claim line = refl
-asking_changes (FreshHead None c) kind.Clear line = refl
-asking_changes _ _ line = search rules
+asking_changes : (state : CacheState) (k : AskKind) (line : ℕ)
+    → IfSome (asking state k) (λ (a : Asked). changes_list a.request ≡ asks_home_to_change (Ask line k))
+asking_changes state k line = search rules
 
 made_changes : (node : NodeOf) (line : ℕ) (lacks changes : Bool) (made : Option Asked) → IfSome made (λ (a : Asked). changes_list a.request ≡ changes)
     → IfSome (asked_by node (cache_asked node.cache line (ask_or_fault made lacks))) (λ (sent : NodeOf × Letter). changes_list sent.1.body ≡ changes)
@@ -159,10 +131,7 @@ made_changes node line false changes (Some asked) is = is
 
 asked_changes : (node : NodeOf) (line : ℕ) (k : AskKind)
     → IfSome (node_asking node line k) (λ (sent : NodeOf × Letter). changes_list sent.1.body ≡ asks_home_to_change (Ask line k))
-asked_changes node line k =
-    if_below line (lines_of node) (λ (sent : NodeOf × Letter). changes_list sent.1.body ≡ asks_home_to_change (Ask line k)) _ (λ below.
-    made_changes node line (is_out (state_on node line) && not (has_slot node.cache)) (asks_home_to_change (Ask line k)) (asking (state_on node line) k)
-    (asking_changes (state_on node line) k line))
+asked_changes node line k = grind (arith, if_below, made_changes, asking_changes)
 
 -- what is wanted while a line joins changes no list at its home
 wanted_plain : (policy : PolicyOf) (node : NodeOf) (joining line : ℕ) (k : AskKind) → joining < lines_of node → joins (state_on node joining) ≡ true
@@ -172,7 +141,8 @@ wanted_plain policy node joining line kind.Clear below joined wants = absurd ((j
 wanted_plain policy node joining line kind.Wback below joined wants = absurd ((joins_first policy node joining line kind.Wback below joined wants).2 refl)
 wanted_plain policy node joining line _ below joined wants = refl
 
-joins_inside : (core : Core) (n line : ℕ) → IsReached core → n < core.size.nodes → joins (state_on (node_at core n) line) ≡ true → line < lines_of (node_at core n)
+joins_inside : (core : Core) (n line : ℕ) → IsReached core → n < core.size.nodes → joins (state_on (node_at core n) line) ≡ true
+    → line < lines_of (node_at core n)
 joins_inside core n line reached some joined = elim (cases_lt line (lines_of (node_at core n))) [
   | inl below ↦ below
   | inr past ↦ (let none : joins (state_on (node_at core n) line) ≡ false =
@@ -222,11 +192,7 @@ side_open core new n (Sends kind next letter) opened fits is =
     let place = lane_place core.size.nodes kind n letter.target in
     lane_changed core new place (lane_at core place ++ letter ∷ []) opened (ap (λ (c : Core). c.lanes) (sym made))
     (open_push (lane_at core place) letter (opened place) fits)
-side_open core new n (Takes kind from taking) opened fits is =
-    let front = took core new n from kind taking is in
-    let place = lane_place core.size.nodes kind from n in
-    lane_changed core new place front.rest opened (ap (λ (c : Core). c.lanes) (sym front.made))
-    (open_rest (lane_at core place) front.rest front.letter front.front (opened place))
+side_open core new n (Takes kind from taking) opened fits is = grind (arith, lane_changed, open_rest)
 
 sends_fit : (core : Core) (n : ℕ) (kind : LaneKind) (o : Option (NodeOf × Letter))
     → IfSome o (λ sent. (changes_list sent.1.body ≡ false) ⊎ NoCread (lane_of core kind n sent.1.target)) → SideFits core n (sends kind o)

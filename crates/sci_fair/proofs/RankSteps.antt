@@ -1,22 +1,22 @@
 -- No event of a turn raises the rank of any node's line, but for the exceptions. It changes one node by one row of a table.
-use Rattle.std.proofs.Common.{◌≡◌, ◌<◌, ℕ, Bool, true, false, not, ◌&&◌, ◌||◌, if◌then◌else◌, List, Option, Some, None, refl, sym, ap, subst}
+use Rattle.std.proofs.Common.{◌≡◌, ◌<◌, ℕ, Bool, true, false, ◌&&◌, ◌||◌, if◌then◌else◌, List, Option, Some, None, refl, sym, ap, subst, arith}
 use Rattle.std.proofs.Common.{◌∙◌, inl, inr, get_or-set_other}
 use Rattle.std.proofs.lemmas.Bool.{cases_eq}
 use Rattle.std.specs.Prelude.{IfSome, is_some, slice_get}
 use Rattle.sci_words.specs.{declared.event.{AskKind.{AskKind}, Event.{Event}}, Operation.{is_maker}}
 use Rattle.sci_packets.specs.declared.body.Body.{Body}
-use Rattle.sci_cache.specs.{State.{CacheState, is_out}, Asking.{Asked, asking}}
-use Rattle.sci_cache.specs.{Line.{LineState, ask_or_fault, line_asked, line_in, untouched}, Cache.{Letter, cache_asked, has_slot, line_of, with_line}}
+use Rattle.sci_cache.specs.{State.{CacheState}, Asking.{Asked}}
+use Rattle.sci_cache.specs.{Line.{LineState, ask_or_fault, line_in, untouched}, Cache.{Letter, cache_asked, line_of, with_line}}
 use Rattle.sci_core.specs.declared.{lane.LaneKind.{TheVariants.{Answers, Requests}}, pending.Pending.{Pending}}
 use Rattle.sci_core.specs.Core.{Core, node_at, side, stepping}
 use Rattle.sci_core.specs.Core.{with_node}
-use Rattle.sci_core.specs.Node.{NodeOf, asked_by, lines_of, no_node, node_accepting, node_asking, node_refusing, node_replying, node_serving, pending_on}
+use Rattle.sci_core.specs.Node.{NodeOf, asked_by, no_node, node_accepting, node_asking, node_refusing, node_replying, node_serving, pending_on}
 use Rattle.sci_core.specs.Reached.{IsReached}
 use Rattle.sci_core.proofs.Basics.{Lists.{at_place_set}, Options.{if_below, of_some}}
 use Rattle.sci_core.proofs.Step.NodeSides.{AcceptedAs, At_home, In_cache, RefusedAs, ServedAs, accept_as, refuse_as, reply_as, serve_as}
 use Rattle.sci_policy.specs.declared.{decision.Decision.{Decision}}
 use Rattle.sci_policy.specs.{Lines.{is_head, is_maker_of, state_on}, Turn.{decided_event}}
-use Rattle.sci_policy.specs.Policy.{PolicyOf, decided, is_cread, kept_by, refused_by, still_draining}
+use Rattle.sci_policy.specs.Policy.{PolicyOf, decided, is_cread}
 use Rattle.sci_turn.specs.Moves.{IsOwn, taking_event}
 use Rattle.sci_turn.proofs.Working.{own_node, stepped}
 use Rattle.sci_fair.specs.Rank.{IsHeldFor, never_rises, work_in, work_on}
@@ -66,9 +66,7 @@ held_by (Some p) cread drains s request is none = held_work (is_maker p.op) crea
 
 pub serve_held : (policy : PolicyOf) (node : NodeOf) (request : Letter) → decided policy node request ≡ decision.Serve
     → IsHeldFor (work_on node request.line) (state_on node request.line) request.body
-serve_held policy node request serves =
-    held_by (pending_on node request.line) (is_cread request.body) (still_draining policy node request.line) (state_on node request.line) request.body refl
-    (served_if (kept_by policy node request) (refused_by policy node request) serves)
+serve_held policy node request serves = grind (arith, held_by, served_if)
 
 -- ---- each side
 
@@ -82,25 +80,18 @@ served_kept node next request held (In_cache served is made) =
     subst (RankKept node) made (record { work = λ line. refl; rank = line_kept node request.line (line_in (line_of node.cache request.line) served.0) lower })
 
 accepted_kept : (node next : NodeOf) (answer : Letter) → AcceptedAs node answer next → RankKept node next
-accepted_kept node next answer does =
-    let lower = of_some (λ (s : CacheState). never_rises (work_on node answer.line) (state_on node answer.line) s ≡ true) _ does.state does.accepts
-    (accepting_keeps (work_on node answer.line) (state_on node answer.line) answer.body) in
-    subst (RankKept node) does.then_ (record { work = λ line. refl; rank = line_kept node answer.line (line_in (line_of node.cache answer.line) does.state) lower })
+accepted_kept node next answer does = grind (arith, of_some, accepting_keeps, line_kept)
 
 made_kept : (node : NodeOf) (line : ℕ) (lacks : Bool) (made : Option Asked)
     → IfSome made (λ (a : Asked). never_rises (work_on node line) (state_on node line) a.next ≡ true)
     → IfSome (asked_by node (cache_asked node.cache line (ask_or_fault made lacks))) (λ (sent : NodeOf × Letter). RankKept node sent.0)
 made_kept node line lacks None lower = tt
 made_kept node line true (Some asked) lower = tt
-made_kept node line false (Some asked) lower =
-    record { work = λ k. refl; rank = line_kept node line (line_asked (line_of node.cache line) asked) lower }
+made_kept node line false (Some asked) lower = grind (arith, line_kept)
 
 asked_kept : (node : NodeOf) (line : ℕ) (k : AskKind) → AskSuits node line k
     → IfSome (node_asking node line k) (λ (sent : NodeOf × Letter). RankKept node sent.0)
-asked_kept node line k suits =
-    if_below line (lines_of node) (λ (sent : NodeOf × Letter). RankKept node sent.0) _ (λ below.
-    made_kept node line (is_out (state_on node line) && not (has_slot node.cache)) (asking (state_on node line) k)
-    (asking_keeps (work_on node line) (state_on node line) k suits.asks suits.idle))
+asked_kept node line k suits = grind (arith, if_below, made_kept, asking_keeps)
 
 -- ---- each event
 
@@ -135,18 +126,21 @@ event_kept core new n before after (event.Serve from i) reached some own steps =
     let serves = serves_it before (node_at core n) from n front.letter (is_some (node_at core n).waiting) decides in
     all_kept core new n front.next reached some (λ k. ap (λ (c : Core). node_at c k) (sym front.made))
     (served_kept (node_at core n) front.next front.letter (serve_held before (node_at core n) front.letter serves)
-    (of_some (ServedAs (node_at core n) front.letter) (node_serving (node_at core n) front.letter) front.next front.takes (serve_as (node_at core n) front.letter)))
+    (of_some (ServedAs (node_at core n) front.letter) (node_serving (node_at core n) front.letter) front.next front.takes
+    (serve_as (node_at core n) front.letter)))
 event_kept core new n before after (event.Refuse from i) reached some own steps =
     let front = took core new n from Requests (node_refusing (node_at core n))
     (stepped core new n (event.Refuse from i) (side (node_at core n) (event.Refuse from i)) some own.kind.own refl steps) in
-    let does = of_some (RefusedAs (node_at core n) front.letter) (node_refusing (node_at core n) front.letter) front.next front.takes (refuse_as (node_at core n) front.letter) in
+    let does = of_some (RefusedAs (node_at core n) front.letter) (node_refusing (node_at core n) front.letter) front.next front.takes
+    (refuse_as (node_at core n) front.letter) in
     all_kept core new n front.next reached some (λ k. ap (λ (c : Core). node_at c k) (sym front.made)) (subst (RankKept (node_at core n)) does.then_
     (record { work = λ line. refl; rank = λ line. same_state (work_on (node_at core n) line) (state_on (node_at core n) line) }))
 event_kept core new n before after (event.Accept from i) reached some own steps =
     let front = took core new n from Answers (node_accepting (node_at core n))
     (stepped core new n (event.Accept from i) (side (node_at core n) (event.Accept from i)) some own.kind.own refl steps) in
     all_kept core new n front.next reached some (λ k. ap (λ (c : Core). node_at c k) (sym front.made)) (accepted_kept (node_at core n) front.next front.letter
-    (of_some (AcceptedAs (node_at core n) front.letter) (node_accepting (node_at core n) front.letter) front.next front.takes (accept_as (node_at core n) front.letter)))
+    (of_some (AcceptedAs (node_at core n) front.letter) (node_accepting (node_at core n) front.letter) front.next front.takes
+    (accept_as (node_at core n) front.letter)))
 event_kept core new n before after (event.Reply i) reached some own steps =
     let out = sent_out core new n Answers (node_replying (node_at core n))
     (stepped core new n (event.Reply i) (side (node_at core n) (event.Reply i)) some own.kind.own refl steps) in

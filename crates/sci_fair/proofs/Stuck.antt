@@ -1,14 +1,14 @@
 -- A machine in which no turn does anything has nothing pending. No answer is under way, so no answer waits, and each lane of
 -- requests begins with a Cread for a list that awaits its home. Lanes are open, so no request under way changes a list at its
 -- home. So no list awaits its home, and the lanes are empty. Then no line waits, and what the policy wants finds no full lane.
-use Rattle.std.proofs.Common.{◌≡◌, ◌≤◌, ◌<◌, ◌*◌, ◌%◌, ℕ, true, false, if◌then◌else◌, arith, List, [], ◌∷◌, length}
+use Rattle.std.proofs.Common.{◌≡◌, ◌≤◌, ◌<◌, ◌*◌, ◌%◌, ℕ, true, false, arith, List, [], ◌∷◌, length}
 use Rattle.std.proofs.Common.{Option, Some, None, refl, sym, ap, subst, ◌∙◌, inl, inr}
 use Rattle.std.proofs.lemmas.{Bool.{cases_lt}, List.{get_or_past, Elements.{All-weaker, recursion_from_All}}}
-use Rattle.std.specs.{Prelude.{IfSome, IsSome, is_some, option_to_list, slice_get}, List.{AllByRecursion, flat_map}}
+use Rattle.std.specs.{Prelude.{IfSome, IsSome, option_to_list, slice_get}, List.{AllByRecursion, flat_map}}
 use Rattle.sci_history.proofs.Order.{all-append, all-filter}
 use Rattle.sci_words.specs.declared.event.AskKind.{AskKind}
 use Rattle.sci_packets.specs.{declared.body.Body.TheVariants.{Cread}, Table.{is_request}}
-use Rattle.sci_cache.specs.State.{CacheState, Claiming, Clearing, Returning, waits}
+use Rattle.sci_cache.specs.State.{CacheState, waits}
 use Rattle.sci_cache.specs.{Line.{LineState}, Cache.{Letter, line_of}}
 use Rattle.sci_core.specs.declared.lane.LaneKind.{LaneKind, TheVariants.{Requests, Answers}}
 use Rattle.sci_core.specs.{Core.{Core, lane_at, lane_of, lane_place, node_at}, Node.{NodeOf, no_node, node_asking, pending_on}}
@@ -18,8 +18,8 @@ use Rattle.sci_core.proofs.{Basics.Options.{of_some, found}, Settling.{Drains.{p
 use Rattle.sci_core.proofs.{Tidy.{Burdens.{flat_all}, TidyRuns.{reached_tidy}}, WellFormed.WellFormedSteps.{reached_well}}
 use Rattle.sci_policy.specs.declared.want.Want.{Want, TheVariants.{Perform, Ask}}
 use Rattle.sci_policy.specs.Lines.{state_on}
-use Rattle.sci_policy.specs.Policy.{IsEnabledWant, PolicyOf, awaits_home, decided, is_cread, kept_by, next_wanted, refused_by, ticked}
-use Rattle.sci_policy.specs.{Rest.{Awaits, MayRest, NothingPending}, Turn.{decided_event}}
+use Rattle.sci_policy.specs.Policy.{IsEnabledWant, PolicyOf, awaits_home, is_cread, next_wanted, ticked}
+use Rattle.sci_policy.specs.{Rest.{Awaits, MayRest, NothingPending}}
 use Rattle.sci_policy.proofs.{Alone.{beyond_out}, AlwaysWants.{may_rest}, Deciding.{keep_of, kept_if}, PolicyLaws.{kept_awaits_home, kept_is_cread}}
 use Rattle.sci_policy.proofs.{Targets.{asked_target, waiting_target}, Wants.{wanted_enabled}}
 use Rattle.sci_turn.specs.{Idle.{IsHeldUp}, Moves.{taking_event}, Posts.{post_at}}
@@ -48,16 +48,7 @@ pub record IsKept (core : Core) (n : ℕ) (letter : Letter) : Type 0 where
 
 kept_front : (policy : PolicyOf) (core : Core) (from n : ℕ) (letter : Letter) → policy.turns ≡ 0 → (node_at core n).waiting ≡ None
     → taking_event policy (node_at core n) from n (Some letter) ≡ None → IsKept core n letter
-kept_front policy core from n letter let_go none takes =
-    let node = node_at core n in
-    let event : decided_event (decided policy node letter) from n ≡ None =
-    subst (λ (w : Option Letter). (if is_some w then None else decided_event (decided policy node letter) from n) ≡ None) none takes in
-    let keeps : kept_by policy node letter ≡ true =
-    kept_if (kept_by policy node letter) (refused_by policy node letter) (keep_of (decided policy node letter) from n event) in
-    record {
-      cread = (kept_is_cread policy node letter keeps).0;
-      awaits = kept_awaits_home policy node letter let_go keeps;
-    }
+kept_front policy core from n letter let_go none takes = grind (arith, kept_if, keep_of, kept_is_cread, kept_awaits_home)
 
 front_kept : (core : Core) → IsReached core → IsStuck core → (from n : ℕ) → from < core.size.nodes → n < core.size.nodes
     → (letter : Letter) (rest : List Letter) → lane_of core Requests from n ≡ letter ∷ rest → IsKept core n letter
@@ -118,16 +109,11 @@ plain_way core reached opened stuck =
 -- ---- so no list awaits its home
 
 awaits_waits : (state : CacheState) → awaits_home state ≡ true → waits state ≡ true
-awaits_waits (Claiming f c) e = refl
-awaits_waits (Clearing c) e = refl
-awaits_waits (Returning c) e = refl
-awaits_waits _ e = cc
+awaits_waits state e = grind arith
 
-no_change_sent : (home : ℕ) (state : CacheState) (letter : Letter) → awaits_home state ≡ true → IsSentIn home state letter → changes_list letter.body ≡ false → ⊥
-no_change_sent home (Claiming f c) letter awaits sent none = let so : true ≡ false = sym (ap changes_list sent.0) ∙ none in cc
-no_change_sent home (Clearing c) letter awaits sent none = let so : true ≡ false = sym (ap changes_list sent.0) ∙ none in cc
-no_change_sent home (Returning c) letter awaits sent none = let so : true ≡ false = sym (ap changes_list sent.0) ∙ none in cc
-no_change_sent home _ letter awaits sent none = cc
+no_change_sent : (home : ℕ) (state : CacheState) (letter : Letter) → awaits_home state ≡ true → IsSentIn home state letter
+    → changes_list letter.body ≡ false → ⊥
+no_change_sent home state letter awaits sent none = grind arith
 
 plain_packets : (home : ℕ) (line : LineState) (packets : List Letter) → HasItsPackets home line packets → AllByRecursion IsPlain packets
     → awaits_home line.state ≡ true → ⊥
@@ -176,10 +162,7 @@ drained core reached opened stuck =
 -- ---- so nothing is pending
 
 none_waits : (core : Core) (n line : ℕ) → IsReached core → IsDrained core → n < core.size.nodes → waits (state_on (node_at core n) line) ≡ true → ⊥
-none_waits core n line reached nothing some awaits = elim (cases_lt line core.size.lines) [
-  | inl inside ↦ (let clash : true ≡ false = sym awaits ∙ idle core line n reached nothing inside in cc)
-  | inr past ↦ beyond_out core n line reached some past awaits
-]
+none_waits core n line reached nothing some awaits = grind (arith, cases_lt, idle, beyond_out)
 
 rests : (core : Core) (n line : ℕ) → IsReached core → IsDrained core → n < core.size.nodes → MayRest (node_at core n) → pending_on (node_at core n) line ≡ None
 rests core n line reached nothing some (NothingPending none) = none line

@@ -1,169 +1,100 @@
 -- What a policy asks for suits what is pending on its line, and that can't be performed.
-use Rattle.std.proofs.Common.{◌≡◌, ◌<◌, ◌&&◌, ◌⊎◌, ℕ, Bool, true, false, if◌then◌else◌, Option, Some, None, refl, sym, ap, subst, ◌∙◌, inl, inr, arith}
+use Rattle.std.proofs.Common.{◌≡◌, ◌<◌, ◌⊎◌, ℕ, Bool, true, false, if◌then◌else◌, Option, Some, None, refl, sym, ap, subst, ◌∙◌, inl, inr, arith, rules}
 use Rattle.std.proofs.lemmas.Bool.{and_parts, cases_Bool, cases_lt}
-use Rattle.std.proofs.lemmas.{List.{get_or_past}, Option.{option_and_then_some}}
-use Rattle.std.specs.{Prelude.{IsSome, is_some, option_map}, Option.{option_or, option_and_then}}
+use Rattle.std.proofs.lemmas.{List.{get_or_past}}
+use Rattle.std.specs.{Prelude.{IfSome, IsSome, is_some, option_map, unwrap_or}, Option.{option_or, option_and_then}}
 use Rattle.sci_words.specs.{declared.{event.AskKind.{AskKind}, operation.Op.{Op}}, Operation.{is_maker}}
 use Rattle.sci_words.specs.declared.stamped.Stamped.{Stamped}
-use Rattle.sci_cache.specs.State.{CacheState, Out, Joining, FreshJoining, Head, FreshHead, Below, Telling}
-use Rattle.sci_cache.specs.{Cache.{has_slot}, Line.{LineState, untouched}, Performing.{Performed, performing}}
+use Rattle.sci_cache.specs.State.{CacheState, Out, Head, FreshHead, Below}
+use Rattle.sci_cache.specs.{Cache.{has_slot}, Kinds.{joins}, Line.{LineState, untouched}, Performing.{Performed, performing}}
 use Rattle.sci_core.specs.declared.pending.Pending.{Pending}
 use Rattle.sci_core.specs.Node.{IsPendingOn, NodeOf, lines_of, node_performing, pending_on, performing_pending}
 use Rattle.sci_core.specs.Reached.{IsReachedNode}
 use Rattle.sci_core.proofs.{Basics.Options.{of_some}, History.Pendings.{sole_performs}}
 use Rattle.sci_core.proofs.WellFormed.WellFormedSteps.{any_part, reachable_node}
 use Rattle.sci_policy.specs.declared.want.Want.{Want, TheVariants.{Perform, Ask}}
-use Rattle.sci_policy.specs.Lines.{has_maker, has_pending, is_maker_of, oldest, own_ask, state_on}
-use Rattle.sci_policy.specs.Policy.{PolicyOf, ask_of, asked_in, asks_home_to_change, due_wanted, held_back, next_wanted, operation_asks}
+use Rattle.sci_policy.specs.Lines.{has_maker, has_pending, is_maker_of, oldest, own_ask, some_line, state_on}
+use Rattle.sci_policy.specs.Policy.{PolicyOf, ask_of, asked_in, contents_wanted, due_wanted, held_back, lacks_slot, next_wanted, operation_asks}
 use Rattle.sci_policy.specs.Policy.{perform_wanted, purge_wanted, read_kind, ruled, send_wanted, slot_for, slot_wanted, ticked}
-use Rattle.sci_policy.proofs.Found.{oldest_fits, oldest_some}
+use Rattle.sci_policy.proofs.{Found.{oldest_fits, oldest_some}, Wants.{and_then, either, held_enabled, mapped}}
 use Rattle.sci_fair.specs.Rank.{suits, can_perform, work_in, work_on}
 use Rattle.sci_words.specs.declared.event.AskKind.TheVariants as kind
 
--- ---- options
+-- ---- what suits
 
-or_is : {A : Type 0} (a b : Option A) (y : A) → option_or a b ≡ Some y → (a ≡ Some y) ⊎ ((a ≡ None) × (b ≡ Some y))
-or_is None b y is = inr (refl, is)
-or_is (Some x) b y is = inl is
+purge_suits : (work : Option Bool) → suits work kind.Purge ≡ true
+purge_suits work = search rules
 
-mapped_is : {A B P : Type 0} (f : A → B) (o : Option A) (y : B) → option_map f o ≡ Some y → ((x : A) → o ≡ Some x → f x ≡ y → P) → P
-mapped_is f None y is gives = cc
-mapped_is f (Some x) y is gives = gives x refl (let same : f x ≡ y = cc in same)
+claim_suits : (work : Option Bool) → suits work kind.Claim ≡ true
+claim_suits work = search rules
+
+-- what is wanted suits what is pending on its line
+abbrev SuitsWant : NodeOf → Want → Type 0
+SuitsWant node (Perform line) = Unit {0}
+SuitsWant node (Ask line k) = suits (work_on node line) k ≡ true
+
+own_with : (work : Option Bool) (s : CacheState) → IfSome (own_ask (unwrap_or work false) s) (λ k. suits work k ≡ true)
+own_with work s = search rules
+
+own_suits : (pending : Option Pending) (s : CacheState) → IfSome (own_ask (is_maker_of pending) s) (λ k. suits (work_in pending) k ≡ true)
+own_suits None s = own_with None s
+own_suits (Some p) s = own_with (Some (is_maker p.op)) s
+
+ask_suits : (node : NodeOf) (line : ℕ) → IfSome (ask_of node line) (SuitsWant node)
+ask_suits node line = grind (arith, mapped, own_suits)
+
+-- a line with an operation is read
+read_with : (b maker : Bool) → suits (Some b) (read_kind maker) ≡ true
+read_with b maker = search rules
+
+read_suits : (pending : Option Pending) (maker : Bool) → is_some pending ≡ true → suits (work_in pending) (read_kind maker) ≡ true
+read_suits None maker some = cc
+read_suits (Some p) maker some = read_with (is_maker p.op) maker
+
+read_if : (node : NodeOf) (line : ℕ) (free : Bool) → has_pending node line ≡ true
+    → IfSome (if free then Some (Ask line (read_kind (has_maker node line))) else None) (SuitsWant node)
+read_if node line true some = read_suits (pending_on node line) (has_maker node line) some
+read_if node line false some = tt
+
+asked_suits : (node : NodeOf) (line : ℕ) (s : CacheState) → has_pending node line ≡ true → IfSome (asked_in node line s) (SuitsWant node)
+asked_suits node line Out some = read_if node line (has_slot node.cache) some
+asked_suits node line (FreshHead f c) some = ask_suits node line
+asked_suits node line (Below f b c) some = ask_suits node line
+asked_suits node line _ some = tt
+
+any_line : (o : Option ℕ) → IfSome o (λ line. Unit {0})
+any_line None = tt
+any_line (Some line) = tt
+
+slot_suits : (node : NodeOf) (lacks : Bool) (o : Option ℕ) → IfSome (if lacks then option_and_then (ask_of node) o else None) (SuitsWant node)
+slot_suits node true o = and_then (ask_of node) o _ (SuitsWant node) (any_line o) (λ line _. ask_suits node line)
+slot_suits node false o = tt
+
+-- ---- what the rules want
+
+rules_suit : (policy : PolicyOf) (node : NodeOf) → IfSome (ruled policy node) (SuitsWant node)
+rules_suit policy node =
+    either (perform_wanted node) _ (SuitsWant node) (mapped Perform _ _ (SuitsWant node) (any_line _) (λ line _. tt))
+    (either (purge_wanted policy node) _ (SuitsWant node)
+    (mapped (λ line. Ask line kind.Purge) _ _ (SuitsWant node) (any_line _) (λ line _. purge_suits (work_on node line)))
+    (either (send_wanted node) _ (SuitsWant node) (and_then (ask_of node) _ _ (SuitsWant node) (any_line _) (λ line _. ask_suits node line))
+    (either (due_wanted policy node) _ (SuitsWant node)
+    (mapped (λ line. Ask line kind.Claim) _ _ (SuitsWant node) (any_line _) (λ line _. claim_suits (work_on node line)))
+    (either (slot_wanted node) (contents_wanted node) (SuitsWant node)
+    (and_then (slot_for node) _ _ (SuitsWant node) (any_line _) (λ line _. slot_suits node (lacks_slot node line) _))
+    (and_then (operation_asks node) _ _ (SuitsWant node) (oldest_fits node (λ line. is_some (operation_asks node line)))
+    (λ line fits. asked_suits node line (state_on node line) (and_parts (has_pending node line) (is_some (operation_asks node line)) fits.1).0))))))
+
+-- where an ask is wanted, nothing can be performed
+asks_last : (joining : Bool) (o : Option ℕ) (rest : Option Want) (line : ℕ) (k : AskKind)
+    → held_back joining (option_or (option_map Perform o) rest) ≡ Some (Ask line k) → option_map Perform o ≡ None
+asks_last joining None rest line k is = refl
+asks_last true (Some l) rest line k is = cc
+asks_last false (Some l) rest line k is = cc
 
 is_mapped : {A B : Type 0} (f : A → B) (o : Option A) → is_some (option_map f o) ≡ is_some o
 is_mapped f None = refl
 is_mapped f (Some x) = refl
-
--- ---- what suits
-
-purge_suits : (work : Option Bool) (k : AskKind) → k ≡ kind.Purge → suits work k ≡ true
-purge_suits None k is = ap (suits None) is
-purge_suits (Some true) k is = ap (suits (Some true)) is
-purge_suits (Some false) k is = ap (suits (Some false)) is
-
-claim_suits : (work : Option Bool) (k : AskKind) → k ≡ kind.Claim → suits work k ≡ true
-claim_suits None k is = ap (suits None) is
-claim_suits (Some true) k is = ap (suits (Some true)) is
-claim_suits (Some false) k is = ap (suits (Some false)) is
-
--- what a line asks by itself
-abbrev suits_any : Option Bool → Option AskKind → Bool
-suits_any work None = true
-suits_any work (Some k) = suits work k
-
-none_own : (s : CacheState) (k : AskKind) → own_ask false s ≡ Some k → suits None k ≡ true
-none_own (Joining p false) k is = ap (λ (o : Option AskKind). suits_any None o) (sym is)
-none_own (FreshJoining p false c) k is = ap (λ (o : Option AskKind). suits_any None o) (sym is)
-none_own (Head (Some f) c) k is = ap (λ (o : Option AskKind). suits_any None o) (sym is)
-none_own (Head None c) k is = ap (λ (o : Option AskKind). suits_any None o) (sym is)
-none_own (FreshHead (Some f) c) k is = ap (λ (o : Option AskKind). suits_any None o) (sym is)
-none_own (FreshHead None c) k is = ap (λ (o : Option AskKind). suits_any None o) (sym is)
-none_own (Below f b c) k is = ap (λ (o : Option AskKind). suits_any None o) (sym is)
-none_own (Telling r w false) k is = ap (λ (o : Option AskKind). suits_any None o) (sym is)
-none_own _ k is = cc
-
-maker_own : (s : CacheState) (k : AskKind) → own_ask true s ≡ Some k → suits (Some true) k ≡ true
-maker_own (Joining p false) k is = ap (λ (o : Option AskKind). suits_any (Some true) o) (sym is)
-maker_own (FreshJoining p false c) k is = ap (λ (o : Option AskKind). suits_any (Some true) o) (sym is)
-maker_own (Head (Some f) c) k is = ap (λ (o : Option AskKind). suits_any (Some true) o) (sym is)
-maker_own (Head None c) k is = ap (λ (o : Option AskKind). suits_any (Some true) o) (sym is)
-maker_own (FreshHead (Some f) c) k is = ap (λ (o : Option AskKind). suits_any (Some true) o) (sym is)
-maker_own (FreshHead None c) k is = ap (λ (o : Option AskKind). suits_any (Some true) o) (sym is)
-maker_own (Below f b c) k is = ap (λ (o : Option AskKind). suits_any (Some true) o) (sym is)
-maker_own (Telling r w false) k is = ap (λ (o : Option AskKind). suits_any (Some true) o) (sym is)
-maker_own _ k is = cc
-
-load_suits : (k : AskKind) → suits (Some false) k ≡ true
-load_suits kind.Mread = refl
-load_suits _ = refl
-
-own_with : (b : Bool) (s : CacheState) (k : AskKind) → own_ask b s ≡ Some k → suits (Some b) k ≡ true
-own_with true s k is = maker_own s k is
-own_with false s k is = load_suits k
-
-own_by : (pending : Option Pending) (s : CacheState) (k : AskKind) → own_ask (is_maker_of pending) s ≡ Some k → suits (work_in pending) k ≡ true
-own_by None s k is = none_own s k is
-own_by (Some p) s k is = own_with (is_maker p.op) s k is
-
-own_suits : (node : NodeOf) (line : ℕ) (k : AskKind) → own_ask (has_maker node line) (state_on node line) ≡ Some k → suits (work_on node line) k ≡ true
-own_suits node line k is = own_by (pending_on node line) (state_on node line) k is
-
-ask_suits : (node : NodeOf) (l line : ℕ) (k : AskKind) → ask_of node l ≡ Some (Ask line k) → suits (work_on node line) k ≡ true
-ask_suits node l line k is = mapped_is (Ask l) (own_ask (has_maker node l) (state_on node l)) (Ask line k) is (λ j there same.
-    let at : l ≡ line = cc in
-    let kind_is : j ≡ k = cc in
-    subst (λ (i : ℕ). suits (work_on node i) k ≡ true) at (own_suits node l k (there ∙ ap Some kind_is)))
-
--- a read of a line with an operation
-work_reads : (b maker : Bool) → suits (Some b) (read_kind maker) ≡ true
-work_reads true true = refl
-work_reads true false = refl
-work_reads false true = refl
-work_reads false false = refl
-
-some_reads : (pending : Option Pending) (maker : Bool) → is_some pending ≡ true → suits (work_in pending) (read_kind maker) ≡ true
-some_reads None maker some = cc
-some_reads (Some p) maker some = work_reads (is_maker p.op) maker
-
-read_suits : (node : NodeOf) (l line : ℕ) (k : AskKind) (free : Bool) → has_pending node l ≡ true
-    → (if free then Some (Ask l (read_kind (has_maker node l))) else None) ≡ Some (Ask line k) → suits (work_on node line) k ≡ true
-read_suits node l line k true some is =
-    let at : l ≡ line = cc in
-    let kind_is : read_kind (has_maker node l) ≡ k = cc in
-    subst (λ (i : ℕ). suits (work_on node i) k ≡ true) at
-    (subst (λ (j : AskKind). suits (work_on node l) j ≡ true) kind_is (some_reads (pending_on node l) (has_maker node l) some))
-read_suits node l line k false some is = cc
-
-asked_suits : (node : NodeOf) (l line : ℕ) (k : AskKind) (s : CacheState) → has_pending node l ≡ true → asked_in node l s ≡ Some (Ask line k)
-    → suits (work_on node line) k ≡ true
-asked_suits node l line k Out some is = read_suits node l line k (has_slot node.cache) some is
-asked_suits node l line k (FreshHead f c) some is = ask_suits node l line k is
-asked_suits node l line k (Below f b c) some is = ask_suits node l line k is
-asked_suits node l line k _ some is = cc
-
-slot_if : (node : NodeOf) (l line : ℕ) (k : AskKind) (lacks : Bool) (o : Option ℕ)
-    → (if lacks then option_and_then (ask_of node) o else None) ≡ Some (Ask line k) → suits (work_on node line) k ≡ true
-slot_if node l line k true o is = option_and_then_some (ask_of node) o (Ask line k) is (λ other there asks. ask_suits node other line k asks)
-slot_if node l line k false o is = cc
-
--- ---- what the rules want
-
-performs_no_ask : (l line : ℕ) (k : AskKind) → Perform l ≡ Ask line k → ⊥
-performs_no_ask l line k same = cc
-
-rules_suit : (policy : PolicyOf) (node : NodeOf) (line : ℕ) (k : AskKind) → ruled policy node ≡ Some (Ask line k)
-    → (perform_wanted node ≡ None) × (suits (work_on node line) k ≡ true)
-rules_suit policy node line k is = elim (or_is (perform_wanted node) _ (Ask line k) is) [
-  | inl performs ↦ mapped_is Perform (oldest node (λ l. is_some (node_performing node l))) (Ask line k) performs (λ l there same. absurd (performs_no_ask l line k same))
-  | inr rest ↦ (
-    rest.0,
-    elim (or_is (purge_wanted policy node) _ (Ask line k) rest.1) [
-      | inl purges ↦ mapped_is (λ l. Ask l kind.Purge) _ (Ask line k) purges (λ l there same. purge_suits (work_on node line) k (let e : kind.Purge ≡ k = cc in sym e))
-      | inr later ↦ elim (or_is (send_wanted node) _ (Ask line k) later.1) [
-        | inl sends ↦ option_and_then_some (ask_of node) _ (Ask line k) sends (λ l there asks. ask_suits node l line k asks)
-        | inr last ↦ elim (or_is (due_wanted policy node) _ (Ask line k) last.1) [
-          | inl due ↦ mapped_is (λ l. Ask l kind.Claim) _ (Ask line k) due (λ l there same. claim_suits (work_on node line) k (let e : kind.Claim ≡ k = cc in sym e))
-          | inr own ↦ elim (or_is (slot_wanted node) _ (Ask line k) own.1) [
-            | inl slot ↦ option_and_then_some (slot_for node) _ (Ask line k) slot (λ l there gives. slot_if node l line k _ _ gives)
-            | inr contents ↦ option_and_then_some (operation_asks node) _ (Ask line k) contents.1 (λ l there asks.
-                asked_suits node l line k (state_on node l)
-                (let fits = of_some (λ i. (i < lines_of node) × ((has_pending node i && is_some (operation_asks node i)) ≡ true)) _ l there (oldest_fits node (λ i. is_some (operation_asks node i))) in
-                (and_parts (has_pending node l) (is_some (operation_asks node l)) fits.1).0) asks)
-          ]
-        ]
-      ]
-    ],
-  )
-]
-
-unheld_if : (w want : Want) (changes : Bool) → (if true && changes then None else Some w) ≡ Some want → Some w ≡ Some want
-unheld_if w want true is = cc
-unheld_if w want false is = is
-
-unheld : (joining : Bool) (wants : Option Want) (want : Want) → held_back joining wants ≡ Some want → wants ≡ Some want
-unheld joining None want is = cc
-unheld true (Some w) want is = unheld_if w want (asks_home_to_change w) is
-unheld false (Some w) want is = is
 
 -- ---- what can be performed
 
@@ -226,12 +157,14 @@ some_works : (o : Option Pending) (s : CacheState) → can_perform (work_in o) s
 some_works None s can = cc
 some_works (Some p) s can = refl
 
-out_idle : (work : Option Bool) (s : CacheState) → s ≡ Out → can_perform work s ≡ false
-out_idle None s is = ap (can_perform None) is
-out_idle (Some true) s is = ap (can_perform (Some true)) is
-out_idle (Some false) s is = ap (can_perform (Some false)) is
+none_out : (work : Option Bool) → can_perform work Out ≡ false
+none_out work = search rules
 
-not_ready : (n : ℕ) (node : NodeOf) (line : ℕ) → IsReachedNode n node → perform_wanted node ≡ None → can_perform (work_on node line) (state_on node line) ≡ false
+out_idle : (work : Option Bool) (s : CacheState) → s ≡ Out → can_perform work s ≡ false
+out_idle work s is = ap (can_perform work) is ∙ none_out work
+
+not_ready : (n : ℕ) (node : NodeOf) (line : ℕ) → IsReachedNode n node → perform_wanted node ≡ None
+    → can_perform (work_on node line) (state_on node line) ≡ false
 not_ready n node line is none = elim (cases_Bool (can_perform (work_on node line) (state_on node line))) [
   | inl can ↦ elim (cases_lt line (lines_of node)) [
     | inl below ↦ absurd (none_performs node line below (some_works (pending_on node line) (state_on node line) can) none
@@ -245,5 +178,10 @@ not_ready n node line is none = elim (cases_Bool (can_perform (work_on node line
 pub wanted_suits : (policy : PolicyOf) (n : ℕ) (node : NodeOf) (line : ℕ) (k : AskKind) → IsReachedNode n node → next_wanted policy node ≡ Some (Ask line k)
     → AskSuits node line k
 wanted_suits policy n node line k is wants =
-    let rules = rules_suit (ticked policy node) node line k (unheld _ (ruled (ticked policy node) node) (Ask line k) wants) in
-    record { asks = rules.1; idle = not_ready n node line is rules.0 }
+    let after = ticked policy node in
+    let joining = some_line node (λ other. joins (state_on node other)) in
+    let suit = held_enabled joining (ruled after node) (SuitsWant node) (rules_suit after node) in
+    record {
+      asks = of_some (SuitsWant node) (next_wanted policy node) (Ask line k) wants suit;
+      idle = not_ready n node line is (asks_last joining (oldest node (λ l. is_some (node_performing node l))) _ line k wants);
+    }

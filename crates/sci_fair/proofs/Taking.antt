@@ -1,5 +1,5 @@
 -- What a side of a node does to the machine if it takes a packet or sends one.
-use Rattle.std.proofs.Common.{◌≡◌, ◌<◌, ℕ, Bool, true, false, if◌then◌else◌, List, [], ◌∷◌, Option, Some, None, refl}
+use Rattle.std.proofs.Common.{◌≡◌, ◌<◌, ℕ, Bool, true, false, if◌then◌else◌, List, [], ◌∷◌, Option, Some, None, refl, arith}
 use Rattle.std.proofs.lemmas.Bool.{ltb-true}
 use Rattle.std.specs.Prelude.{nat_lt}
 use Rattle.sci_cache.specs.Cache.{Letter}
@@ -21,8 +21,7 @@ took_as : (core new : Core) (n from : ℕ) (kind : LaneKind) (taking : Letter �
     → from < core.size.nodes → lane_of core kind from n ≡ letter ∷ rest → taking letter ≡ o
     → taken_as core n (lane_place core.size.nodes kind from n) rest o ≡ Some new → TookFront core new n from kind taking
 took_as core new n from kind taking letter rest None sender front takes is = cc
-took_as core new n from kind taking letter rest (Some next) sender front takes is =
-    record { letter = letter; rest = rest; next = next; sender = sender; front = front; takes = takes; made = cc }
+took_as core new n from kind taking letter rest (Some next) sender front takes is = grind arith
 
 took_from : (core new : Core) (n from : ℕ) (kind : LaneKind) (taking : Letter → Option NodeOf) (lane : List Letter) → from < core.size.nodes
     → lane_of core kind from n ≡ lane → taken_from core n (lane_place core.size.nodes kind from n) taking lane ≡ Some new
@@ -33,8 +32,7 @@ took_from core new n from kind taking (letter ∷ rest) sender here is = took_as
 took_if : (core new : Core) (n from : ℕ) (kind : LaneKind) (taking : Letter → Option NodeOf) (b : Bool) → nat_lt from core.size.nodes ≡ b
     → (if b then taken_from core n (lane_place core.size.nodes kind from n) taking (lane_of core kind from n) else None) ≡ Some new
     → TookFront core new n from kind taking
-took_if core new n from kind taking true below is =
-    took_from core new n from kind taking (lane_of core kind from n) (ltb-true from core.size.nodes below) refl is
+took_if core new n from kind taking true below is = grind (arith, took_from, ltb-true)
 took_if core new n from kind taking false below is = cc
 
 pub took : (core new : Core) (n from : ℕ) (kind : LaneKind) (taking : Letter → Option NodeOf) → step_by core n (Takes kind from taking) ≡ Some new

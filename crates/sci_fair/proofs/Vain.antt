@@ -6,7 +6,7 @@ use Rattle.std.specs.Prelude.{count_by, IfSome, nat_lt}
 use Rattle.sci_core.specs.declared.lane.LaneKind.TheVariants.{Answers}
 use Rattle.sci_core.specs.{Core.{Core, lane_of, node_at}, Node.{NodeOf, pending_on}, Reached.{IsReached}}
 use Rattle.sci_policy.specs.declared.{policy.TheConstants.{PATIENCE}, want.Want.{Want, TheVariants.{Perform, Ask}}}
-use Rattle.sci_policy.specs.Policy.{PolicyOf, next_wanted, noted, ticked, turned}
+use Rattle.sci_policy.specs.Policy.{PolicyOf, noted, ticked, turned}
 use Rattle.sci_turn.specs.{Idle.{IsIdleTurn, WasSo}, Moves.{taken_next}, Posts.{PostOf, post_at}}
 use Rattle.sci_turn.proofs.AlonePosts.{still_alone}
 use Rattle.sci_fair.specs.{Lanes.{AreOpen}, Stuck.{FindsNothing}, Vain.{AreInVain}}
@@ -20,7 +20,8 @@ was_here P n core new was =
     let still = still_alone n (post_at n core) was.mid (record { me = refl; alone = refl }) was.before in
     subst (λ (c : Core). P c n) still.same (subst (P was.mid.core) still.is.me was.so)
 
-idle_at : (n : ℕ) (core : Core) (before after : PolicyOf) → IsIdleTurn before (post_at n core) after (post_at n core) → (turned before).turns ≡ 0 → FindsNothing core n
+idle_at : (n : ℕ) (core : Core) (before after : PolicyOf) → IsIdleTurn before (post_at n core) after (post_at n core) → (turned before).turns ≡ 0
+    → FindsNothing core n
 idle_at n core before after idle let_go = record {
   policy = turned before;
   let_go = let_go;
@@ -46,10 +47,7 @@ ticked_turns : (policy : PolicyOf) (node : NodeOf) → (ticked policy node).turn
 ticked_turns policy node = either_turns _ _ (nat_lt (policy.patience + 1) PATIENCE) refl
 
 counted : (n : ℕ) (core : Core) (before after : PolicyOf) → IsIdleTurn before (post_at n core) after (post_at n core) → after.turns ≡ (before.turns + 1) % 64
-counted n core before after idle =
-    ap (λ (p : PolicyOf). p.turns) idle.policy
-    ∙ (noted_turns (ticked (turned before) (node_at core n)) (next_wanted (turned before) (node_at core n))
-    ∙ ticked_turns (turned before) (node_at core n))
+counted n core before after idle = grind (arith, noted_turns, ticked_turns)
 
 -- ---- one of 64
 
@@ -59,15 +57,7 @@ count_one n m order same =
     ∙ ap (λ (b : Bool). cond {A = ℕ} b 1 0 + count_by (λ k. k == n) order) (eq-eqb m n same)
 
 count_other : (n m : ℕ) (order : List ℕ) → m ≢ n → count_by (λ k. k == n) (m ∷ order) ≡ count_by (λ k. k == n) order
-count_other n m order other =
-    let apart : (m == n) ≡ false = elim (cases_Bool (m == n)) [
-      | inl same ↦ absurd (other (eqb-true m n same))
-      | inr differ ↦ differ
-    ] in
-    let sum : count_by (λ k. k == n) (m ∷ order) ≡ cond {A = ℕ} (m == n) 1 0 + count_by (λ k. k == n) order =
-    sum_by-cons (λ k. cond {A = ℕ} (k == n) 1 0) m order in
-    let none : cond {A = ℕ} (m == n) 1 0 ≡ 0 = ap (λ (b : Bool). cond {A = ℕ} b 1 0) apart in
-    omega arith
+count_other n m order other = grind (arith, cases_Bool, eqb-true, sum_by-cons)
 
 one_more : (t need : ℕ) → (t + suc need + 1) % 64 ≡ 0 → ((t + 1) % 64 + need + 1) % 64 ≡ 0
 one_more t need due = omega arith

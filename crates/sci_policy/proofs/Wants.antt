@@ -16,16 +16,16 @@ use Rattle.sci_words.specs.declared.event.AskKind.TheVariants as kind
 
 -- ---- options
 
-mapped : {A B : Type 0} (f : A → B) (o : Option A) (P : A → Type 0) (Q : B → Type 0) → IfSome o P → ((x : A) → P x → Q (f x)) → IfSome (option_map f o) Q
+pub mapped : {A B : Type 0} (f : A → B) (o : Option A) (P : A → Type 0) (Q : B → Type 0) → IfSome o P → ((x : A) → P x → Q (f x)) → IfSome (option_map f o) Q
 mapped f None P Q h each = tt
 mapped f (Some x) P Q h each = each x h
 
-and_then : {A B : Type 0} (f : A → Option B) (o : Option A) (P : A → Type 0) (Q : B → Type 0) → IfSome o P → ((x : A) → P x → IfSome (f x) Q)
+pub and_then : {A B : Type 0} (f : A → Option B) (o : Option A) (P : A → Type 0) (Q : B → Type 0) → IfSome o P → ((x : A) → P x → IfSome (f x) Q)
     → IfSome (option_and_then f o) Q
 and_then f None P Q h each = tt
 and_then f (Some x) P Q h each = each x h
 
-either : {A : Type 0} (a b : Option A) (Q : A → Type 0) → IfSome a Q → IfSome b Q → IfSome (option_or a b) Q
+pub either : {A : Type 0} (a b : Option A) (Q : A → Type 0) → IfSome a Q → IfSome b Q → IfSome (option_or a b) Q
 either None b Q h k = k
 either (Some x) b Q h k = h
 
@@ -159,7 +159,7 @@ held_if : (b : Bool) (want : Want) (Q : Want → Type 0) → Q want → IfSome (
 held_if true want Q h = tt
 held_if false want Q h = h
 
-held_enabled : (joining : Bool) (want : Option Want) (Q : Want → Type 0) → IfSome want Q → IfSome (held_back joining want) Q
+pub held_enabled : (joining : Bool) (want : Option Want) (Q : Want → Type 0) → IfSome want Q → IfSome (held_back joining want) Q
 held_enabled joining None Q h = tt
 held_enabled joining (Some want) Q h = held_if _ want Q h
 
