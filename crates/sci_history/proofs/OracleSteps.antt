@@ -49,7 +49,7 @@ logs_of-push done entry lt = grind (
 stamped_at-below : (lines : ℕ) (done : List Entry) (line : ℕ) → line < lines → stamped_at (contents_left lines done) line ≡ stamped_of lines done line
 stamped_at-below lines done line lt = get_or-map-range_with_len (λ l. stamped_of lines done l) 0 lines line line zero_stamped lt (omega arith)
 
-contents_of-push : (lines : ℕ) (done : List Entry) (entry : Entry) → Traced lines done → IsNext lines done entry → entry.op.line < lines
+pub contents_of-push : (lines : ℕ) (done : List Entry) (entry : Entry) → Traced lines done → IsNext lines done entry → entry.op.line < lines
     → contents_after (contents_left lines done) entry.op ≡ contents_left lines (done ++ entry ∷ [])
 contents_of-push lines done entry h next lt =
     let memory = contents_left lines done in

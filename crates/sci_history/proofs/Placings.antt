@@ -73,7 +73,7 @@ pub history_push : (entries : List Entry) (entry : Entry) (old mid new : Stamped
 history_push [] entry old mid new h reply version end = grind arith
 history_push (x ∷ entries) entry old mid new h reply version end = (h.0, h.1, history_push entries entry (after old x.op) mid new h.2 reply version end)
 
-among_back : (xs : List Entry) (e : Entry) (rest : List Entry) → IsAmong e (xs ++ e ∷ rest)
+pub among_back : (xs : List Entry) (e : Entry) (rest : List Entry) → IsAmong e (xs ++ e ∷ rest)
 among_back [] e rest = inl refl
 among_back (x ∷ xs) e rest = inr (among_back xs e rest)
 
@@ -210,7 +210,7 @@ among_ends : (e : Entry) (xs ys : List Entry) → IsAmong e ys → IsAmong e (xs
 among_ends e [] ys h = h
 among_ends e (x ∷ xs) ys h = inr (among_ends e xs ys h)
 
-among_begins : (e : Entry) (xs ys : List Entry) → IsAmong e xs → IsAmong e (xs ++ ys)
+pub among_begins : (e : Entry) (xs ys : List Entry) → IsAmong e xs → IsAmong e (xs ++ ys)
 among_begins e [] ys h = elim h [ ]
 among_begins e (x ∷ xs) ys (inl same) = inl same
 among_begins e (x ∷ xs) ys (inr h) = inr (among_begins e xs ys h)

@@ -186,7 +186,7 @@ told_lowers core new n line r w lt inside below was k =
     ]
 
 -- a head that isn't fresh, or is: by what the home keeps
-if_same : {X : Type 0} (n : ℕ) (x y : X) → (if n == n then x else y) ≡ x
+pub if_same : {X : Type 0} (n : ℕ) (x y : X) → (if n == n then x else y) ≡ x
 if_same n x y = ap (λ (b : Bool). if b then x else y) (eq-eqb n n refl)
 
 wback_lowers : (core new : Core) (n line : ℕ) (c : Stamped) → n < core.size.nodes → line < core.size.lines → state_at core line n ≡ Head None c

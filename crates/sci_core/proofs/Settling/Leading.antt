@@ -5,7 +5,8 @@ use Rattle.std.specs.Prelude.{IsSome, unwrap_or}
 use Rattle.sci_words.specs.declared.event.Event.{Event}
 use Rattle.sci_core.specs.{Core.{Core, run_from, step, stepping}, Settling.{AreMade, Leads, LeadsOn}}
 
-made_append : (may : Event → Bool) (core : Core) (xs ys : List Event) → AreMade may core xs → AreMade may (run_from core xs) ys → AreMade may core (xs ++ ys)
+pub made_append : (may : Event → Bool) (core : Core) (xs ys : List Event) → AreMade may core xs → AreMade may (run_from core xs) ys
+    → AreMade may core (xs ++ ys)
 made_append may core [] ys made more = more
 made_append may core (e ∷ xs) ys made more = (made.0, made.1, made_append may (step core e) xs ys made.2 more)
 

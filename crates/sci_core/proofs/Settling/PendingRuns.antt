@@ -146,38 +146,58 @@ left_alone : (s : CacheState) (op : Op) (c d : Stamped) (next : CacheState) → 
 left_alone s op c d next is (Reads load same) = (d, same ∙ is)
 left_alone s op c d next is (Makes was then_) = (after c op, then_)
 
-pub record Performs_one (core new : Core) : Type 0 where
+-- the node's copy of the line is the only one, and no other state changed
+pub record StaysSole (core new : Core) (n line : ℕ) : Type 0 where
+  pub contents : Stamped
+  pub here : state_at new line n ≡ Head None contents
+  pub others : (m k : ℕ) → ((m ≡ n) × (k ≡ line) → ⊥) → state_at new k m ≡ state_at core k m
+
+-- where one node's line was the only copy, it is so still, and no other state changes
+stays_sole : (core new : Core) (n line : ℕ) (c : Stamped) (done : NodeOf × Entry) (does : PerformedAs (node_at core n) line done) → IsReached core
+    → n < core.size.nodes → state_at core line n ≡ Head None c → new ≡ with_node core n done.0 → does.pending.op.line ≡ line → StaysSole core new n line
+stays_sole core new n line c done does reached lt sole is here =
+    let op = does.pending.op in
+    let operates = operates_so core n line done does lt (reached_well core reached) in
+    let state = (line_of (node_at core n).cache op.line).state in
+    let performs = of_some (Performs state op) (performing state op) does.did does.performs (performing_does state op) in
+    let left = left_alone state op performs.contents c does.did.next (ap (λ (k : ℕ). (line_of (node_at core n).cache k).state) here ∙ sole) performs.leaves in
+    let at : node_at new n ≡ done.0 = ap (λ (x : Core). node_at x n) is ∙ get_or-set_same core.parts n done.0 no_node operates.below in
+    record {
+      contents = left.0;
+      here = ap (λ (p : NodeOf). (line_of p.cache line).state) at
+          ∙ (ap (λ (k : ℕ). (line_of done.0.cache k).state) (sym here) ∙ (operates.state ∙ left.1));
+      others = λ m k not. elim (cases_eq m n) [
+        | inl e ↦ ap (state_at new k) e
+            ∙ (ap (λ (p : NodeOf). (line_of p.cache k).state) at
+            ∙ (ap (λ (l : LineState). l.state) (operates.others k (λ on. not (e, on ∙ here))) ∙ ap (state_at core k) (sym e)))
+        | inr other ↦
+            ap (λ (x : Core). (line_of (node_at x m).cache k).state) is
+            ∙ ap (λ (p : NodeOf). (line_of p.cache k).state) (get_or-set_other core.parts n m done.0 no_node other)
+      ];
+    }
+
+pub record Performs_one (core new : Core) (n line : ℕ) : Type 0 where
   pub drained : IsDrained new
   pub rank : rank new ≡ rank core
   pub pending : pending_count core ≡ pending_count new + 1
   pub size : new.size ≡ core.size
+  pub sole : StaysSole core new n line
 
--- where one node's line was the only copy, it is so still, and no other state changes
+-- and one operation less is pending
 performed_one : (core new : Core) (n line : ℕ) (c : Stamped) (done : NodeOf × Entry) (does : PerformedAs (node_at core n) line done) → IsReached core
     → IsReached new → IsDrained core → n < core.size.nodes → line < core.size.lines → state_at core line n ≡ Head None c → new ≡ with_node core n done.0
     → stepping core (event.Perform n line) ≡ Some new
-    → does.pending.op.line ≡ line → Performs_one core new
+    → does.pending.op.line ≡ line → Performs_one core new n line
 performed_one core new n line c done does reached next none lt inside sole is steps here =
     let well = reached_well core reached in
     let part = node_at core n in
-    let op = does.pending.op in
     let operates = operates_so core n line done does lt well in
-    let state = (line_of part.cache op.line).state in
-    let performs = of_some (Performs state op) (performing state op) does.did does.performs (performing_does state op) in
-    let left = left_alone state op performs.contents c does.did.next (ap (λ (k : ℕ). (line_of part.cache k).state) here ∙ sole) performs.leaves in
+    let stays = stays_sole core new n line c done does reached lt sole is here in
     let at : node_at new n ≡ done.0 = ap (λ (x : Core). node_at x n) is ∙ get_or-set_same core.parts n done.0 no_node operates.below in
     let apart : (m : ℕ) → m ≢ n → node_at new m ≡ node_at core m =
     λ m other. ap (λ (x : Core). node_at x m) is ∙ get_or-set_other core.parts n m done.0 no_node other in
-    let now : state_at new line n ≡ Head None left.0 =
-    ap (λ (p : NodeOf). (line_of p.cache line).state) at ∙ (ap (λ (k : ℕ). (line_of done.0.cache k).state) (sym here) ∙ (operates.state ∙ left.1)) in
-    let others : (m k : ℕ) → ((m ≡ n) × (k ≡ line) → ⊥) → state_at new k m ≡ state_at core k m = λ m k not. elim (cases_eq m n) [
-      | inl e ↦ ap (state_at new k) e
-          ∙ (ap (λ (p : NodeOf). (line_of p.cache k).state) at
-          ∙ (ap (λ (l : LineState). l.state) (operates.others k (λ on. not (e, on ∙ here))) ∙ ap (state_at core k) (sym e)))
-      | inr other ↦ ap (λ (p : NodeOf). (line_of p.cache k).state) (apart m other)
-    ] in
     let size : new.size ≡ core.size = ap (λ (x : Core). x.size) is in
-    let ranked = rank_one core new n line (Head None left.0) lt inside now others size in
+    let ranked = rank_one core new n line (Head None stays.contents) lt inside stays.here stays.others size in
     let before = ap entry_rank sole in
     let light_ = weighs core new (event.Perform n line) well steps refl in
     let zero_ = drained_weighs core none in
@@ -194,10 +214,10 @@ performed_one core new n line c done does reached next none lt inside sole is st
     (omega arith) (λ m other. ap (λ (p : NodeOf). count_by is_some p.pending) (apart m other)) in
     let whole : pending_count new ≡ sum_over (λ m. count_by is_some (node_at new m).pending) 0 core.size.nodes =
     ap (λ (s : Size). sum_over (λ m. count_by is_some (node_at new m).pending) 0 s.nodes) size in
-    record { drained = drained new (omega arith); rank = omega arith; pending = omega arith; size = size }
+    record { drained = drained new (omega arith); rank = omega arith; pending = omega arith; size = size; sole = stays }
 
 pub performs_one : (core new : Core) (n line : ℕ) (c : Stamped) → IsReached core → IsDrained core → n < core.size.nodes → line < core.size.lines
-    → state_at core line n ≡ Head None c → stepping core (event.Perform n line) ≡ Some new → Performs_one core new
+    → state_at core line n ≡ Head None c → stepping core (event.Perform n line) ≡ Some new → Performs_one core new n line
 performs_one core new n line c reached none lt inside sole steps =
     let made = made_by (λ (done : NodeOf × Entry). with_node core n done.0) (node_performing (node_at core n) line) new
     (sym ((steps_by_sides core n lt).perform line) ∙ steps) in
@@ -207,7 +227,7 @@ performs_one core new n line c reached none lt inside sole steps =
     performed_one core new n line c made.0 does reached (reached_stepping core new (event.Perform n line) reached steps) none lt inside sole made.2 steps here
 
 pub performs_one_read : (old core new : Core) (n line : ℕ) → IsReached core → IsDrained core → n < old.size.nodes → line < old.size.lines
-    → (read : Read old core n line) → stepping core (event.Perform n line) ≡ Some new → Performs_one core new
+    → (read : Read old core n line) → stepping core (event.Perform n line) ≡ Some new → Performs_one core new n line
 performs_one_read old core new n line reached none lt inside read steps =
     performs_one core new n line read.contents reached none (subst (λ (s : Size). n < s.nodes) (sym read.shift.size) lt)
     (subst (λ (s : Size). line < s.lines) (sym read.shift.size) inside) read.shift.here steps
@@ -232,7 +252,7 @@ pub record Done (old new : Core) (rest : ℕ) : Type 0 where
   pub pending : pending_count old ≡ pending_count new + 1
 
 pub done_so : (old mid after_ new : Core) (n line : ℕ) (rest : ℕ) → AreOut old → n < old.size.nodes → line < old.size.lines → Read old mid n line
-    → Performs_one mid after_ → rest ≤ 4 * rank after_ → pending_count new ≡ pending_count after_ → Done old new rest
+    → Performs_one mid after_ n line → rest ≤ 4 * rank after_ → pending_count new ≡ pending_count after_ → Done old new rest
 done_so old mid after_ new n line rest out lt inside read one few pending =
     let none = none_left old out in
     let was = ap entry_rank (out line n) in

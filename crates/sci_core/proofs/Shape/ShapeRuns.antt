@@ -267,7 +267,7 @@ each_mapped P f d a zero i h k = k
 each_mapped P f d a (suc count) zero h k = h a
 each_mapped P f d a (suc count) (suc i) h k = each_mapped P f d (a + 1) count i h k
 
-replicated : {X : Type 0} (x : X) (count i : ℕ) → get_or (replicate count x) i x ≡ x
+pub replicated : {X : Type 0} (x : X) (count i : ℕ) → get_or (replicate count x) i x ≡ x
 replicated x zero i = refl
 replicated x (suc count) zero = refl
 replicated x (suc count) (suc i) = replicated x count i
