@@ -1,0 +1,73 @@
+//! Laws, each the contract of a function that does nothing.
+
+ghost use Rattle.std.specs.Prelude.{◌≡◌, ◌*◌, ℕ, List, length};
+ghost use Rattle.sci_words.specs.declared.event.Event.{Event};
+ghost use Rattle.sci_core.specs.Size.{Size, IsMachineSize, IsSize};
+ghost use Rattle.sci_orders.specs.Plain.{AreAllowed, opening_plain, plain_done, plain_of, plain_run};
+ghost use Rattle.sci_orders.specs.Witness.{any_event, AreFor, IsExplainedBy, IsOracleRun, one_by_one, schedule_of, seen, seen_from};
+ghost use Rattle.sci_history.specs.Oracle.{Issue};
+ghost use Rattle.sci_core.specs.{Core.{Core, opening, run, run_from}, Settling.{AreMade}, Done.{done, done_from}, Reached.{IsReachable, IsReached}, Sharing.{last_of}};
+ghost use Rattle.sci_orders.specs.Positions.{IsReachedIn, Operations, Position};
+ghost use Rattle.sci_orders.specs.Orders.{HasRun, IsOrderOf, IsOutcomeOf, IsScriptOf, issues_at, operations_of};
+
+/// What is seen of a schedule, its Issues and Performs, is what one memory of one thread may do, with the same entries
+/// and the same last contents.
+pub fn each_schedule_has_an_order()
+    ensures { (size : Size) (schedule : List Event) → IsSize size →
+        IsExplainedBy size schedule (seen size schedule) }
+{}
+
+/// Whatever one memory of one thread may do, in whatever order it performs what is issued, a schedule of the machine
+/// does: this one, in which each event is enabled when it comes.
+pub fn each_order_has_a_schedule()
+    ensures seen { (size : Size) (order : List Event) → IsMachineSize size → AreAllowed (opening_plain size) order →
+        seen size (schedule_of size order) ≡ order }
+    ensures enabled { (size : Size) (order : List Event) → IsMachineSize size → AreAllowed (opening_plain size) order →
+        AreMade any_event (opening size) (schedule_of size order) }
+{}
+
+/// The operations of a script, issued and performed one after another in any order of its nodes: a schedule of the machine
+/// makes the entries that the oracle makes.
+pub fn each_script_has_a_schedule()
+    ensures { (size : Size) (script : List Issue) → IsMachineSize size → AreFor size script →
+        IsOracleRun size script (schedule_of size (one_by_one script)) }
+{}
+
+/// Each run of a script by the machine ends in a position that two steps of each operation reach on one memory of one
+/// thread.
+pub fn each_run_is_reached()
+    ensures { (size : Size) (script : Operations) (window : ℕ) (schedule : List Event) → IsSize size →
+        IsScriptOf size script → IsOrderOf script window (seen size schedule) →
+        (p : Position) × IsReachedIn size.lines script window (length script * 2) p
+        × IsOutcomeOf size script (done size schedule) (last_of (run size schedule)) p }
+{}
+
+/// Each such position is the end of a run of the script by the machine.
+pub fn each_position_has_a_run()
+    ensures { (size : Size) (script : Operations) (window : ℕ) (p : Position) → IsMachineSize size →
+        IsScriptOf size script → IsReachedIn size.lines script window (length script * 2) p →
+        (schedule : List Event) × HasRun size script window p schedule }
+{}
+
+/// If each node issues its operations in their order and each is performed, no more wait than there are operations.
+pub fn each_whole_order_is_an_order()
+    ensures { (script : Operations) (order : List Event) → ((n : ℕ) → issues_at n order ≡ operations_of n script) →
+        length order ≡ length script * 2 → IsOrderOf script (length script) order }
+{}
+
+/// From every reached state, wherever packets are under way: the machine does what one memory may do in the place of this
+/// state, and stands for that memory then.
+pub fn each_state_is_followed()
+    ensures allowed { (core : Core) (events : List Event) → IsReachable core →
+        AreAllowed (plain_of core) (seen_from core events) }
+    ensures follows { (core : Core) (events : List Event) → IsReachable core →
+        plain_of (run_from core events) ≡ plain_run (plain_of core) (seen_from core events) }
+    ensures done { (core : Core) (events : List Event) → IsReachable core →
+        done_from core events ≡ plain_done (plain_of core) (seen_from core events) }
+{}
+
+/// And whatever that memory may do from there on, the machine can still do: no packet that was sent rules out anything.
+pub fn each_state_can_go_on()
+    ensures { (core : Core) (order : List Event) → IsReached core → AreAllowed (plain_of core) order →
+        (events : List Event) × (seen_from core events ≡ order) }
+{}
