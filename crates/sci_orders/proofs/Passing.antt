@@ -1,48 +1,55 @@
--- The operations are looked at one after another, whether they keep one from being issued.
-use Rattle.std.proofs.Common.{◌≡◌, ℕ, ◌+◌, ◌<◌, ◌≤◌, ◌&&◌, nat_lt, not, Bool, true, false, cond, length, sym, ap, ◌∙◌, arith}
-use Rattle.std.proofs.lemmas.List.{FromFn.{length-range_with_len}, Sums.{count_by-le-length}}
-use Rattle.std.specs.{Prelude.{count_by}, List.{range_with_len}}
-use Rattle.sci_orders.specs.Positions.{IsPassed, Operations, Position, blocks, may_issue_at, waits_with}
-use Rattle.sci_orders.proofs.Places.{any_found, any_more, count_more}
+-- The operations of a node are looked at one after another, whether they keep the next one from being issued.
+use Rattle.std.proofs.Common.{◌≡◌, ◌≢◌, ℕ, ◌+◌, ◌<◌, ◌≤◌, ◌&&◌, ◌==◌, nat_lt, not, Bool, true, false, List, length, take, get_or, sym, ap, ◌∙◌, arith}
+use Rattle.std.proofs.lemmas.{Bool.{eq-eqb, ne_eqb}, List.{length-take, take_all, Sums.{count_by-le-length, count_by_more_no, count_by_more_yes}}}
+use Rattle.std.specs.{Prelude.{count_by}, List.{list_any, range_with_len}}
+use Rattle.sci_words.specs.declared.operation.Op.{Op}
+use Rattle.sci_orders.specs.declared.standing.Answer.{Answer}
+use Rattle.sci_orders.specs.declared.standing.Answer.TheVariants as answer
+use Rattle.sci_orders.specs.Positions.{blocks, is_blocked, is_waiting, may_issue_next, no_operation}
+use Rattle.sci_orders.proofs.Places.{any_found, any_more}
 
-pub passed_more : (script : Operations) (p : Position) (i j waiting : ℕ) → IsPassed script p i j waiting → blocks script p i j ≡ false
-    → IsPassed script p i (j + 1) (waiting + cond {A = ℕ} (waits_with script p i j) 1 0)
-passed_more script p i j waiting so free =
-    let more = count_more (waits_with script p i) j in
-    let many = so.many in
-    record { none = any_more (blocks script p i) j so.none free; many = omega arith }
+-- none of the first operations blocks operation i, and this number of them waits
+pub record IsPassed (own : List Op) (as_ : List Answer) (i count waiting : ℕ) : Type 0 where
+  pub none : list_any (blocks own as_ i) (range_with_len 0 count) ≡ false
+  pub many : waiting ≡ count_by is_waiting (take count as_)
 
-pub passed_yes : (script : Operations) (p : Position) (i j waiting : ℕ) → IsPassed script p i j waiting → blocks script p i j ≡ false
-    → waits_with script p i j ≡ true → IsPassed script p i (j + 1) (waiting + 1)
-passed_yes script p i j waiting so free is =
-    let more = count_more (waits_with script p i) j in
-    let one : cond {A = ℕ} (waits_with script p i j) 1 0 ≡ 1 = ap (λ (b : Bool). cond {A = ℕ} b 1 0) is in
+pub passed_yes : (own : List Op) (as_ : List Answer) (i j waiting : ℕ) → IsPassed own as_ i j waiting → j < length as_
+    → is_waiting (get_or as_ j answer.Stored) ≡ true → blocks own as_ i j ≡ false → IsPassed own as_ i (j + 1) (waiting + 1)
+passed_yes own as_ i j waiting so below is free =
+    let more = count_by_more_yes is_waiting as_ j answer.Stored below is in
     let many = so.many in
-    record { none = any_more (blocks script p i) j so.none free; many = omega arith }
+    record { none = any_more (blocks own as_ i) j so.none free; many = omega arith }
 
-pub passed_no : (script : Operations) (p : Position) (i j waiting : ℕ) → IsPassed script p i j waiting → blocks script p i j ≡ false
-    → waits_with script p i j ≡ false → IsPassed script p i (j + 1) waiting
-passed_no script p i j waiting so free is =
-    let more = count_more (waits_with script p i) j in
-    let none : cond {A = ℕ} (waits_with script p i j) 1 0 ≡ 0 = ap (λ (b : Bool). cond {A = ℕ} b 1 0) is in
+pub passed_no : (own : List Op) (as_ : List Answer) (i j waiting : ℕ) → IsPassed own as_ i j waiting → j < length as_
+    → is_waiting (get_or as_ j answer.Stored) ≡ false → IsPassed own as_ i (j + 1) waiting
+passed_no own as_ i j waiting so below is =
+    let more = count_by_more_no is_waiting as_ j answer.Stored below is in
     let many = so.many in
-    record { none = any_more (blocks script p i) j so.none free; many = omega arith }
+    let free : blocks own as_ i j ≡ false = ap (λ (b : Bool). b && ((get_or own j no_operation).line == (get_or own i no_operation).line)) is in
+    record { none = any_more (blocks own as_ i) j so.none free; many = omega arith }
 
-pub few_passed : (script : Operations) (p : Position) (i j waiting : ℕ) → IsPassed script p i j waiting → waiting ≤ j
-few_passed script p i j waiting so =
+pub few_passed : (own : List Op) (as_ : List Answer) (i j waiting : ℕ) → IsPassed own as_ i j waiting → j ≤ length as_ → waiting ≤ j
+few_passed own as_ i j waiting so below =
     let many = so.many in
-    let less = count_by-le-length (waits_with script p i) (range_with_len 0 j) in
-    let long = length-range_with_len 0 j in
+    let less = count_by-le-length is_waiting (take j as_) in
+    let long = length-take j as_ in
     omega arith
 
-pub blocked : (script : Operations) (window : ℕ) (p : Position) (i j : ℕ) → j < length script → blocks script p i j ≡ true
-    → false ≡ may_issue_at script window p i
-blocked script window p i j below is =
-    sym (ap (λ (b : Bool). not b && nat_lt (count_by (waits_with script p i) (range_with_len 0 (length script))) window)
-    (any_found (blocks script p i) (length script) j below is))
+pub not_next : (own : List Op) (as_ : List Answer) (window i : ℕ) → length as_ ≢ i → false ≡ may_issue_next own as_ window i
+not_next own as_ window i other =
+    sym (ap (λ (b : Bool). b && (not (is_blocked own as_ i) && nat_lt (count_by is_waiting as_) window))
+    (ne_eqb (length as_) i other))
 
-pub passed_all : (script : Operations) (window : ℕ) (p : Position) (i waiting : ℕ) → IsPassed script p i (length script) waiting
-    → nat_lt waiting window ≡ may_issue_at script window p i
-passed_all script window p i waiting so =
-    ap (λ (k : ℕ). nat_lt k window) so.many
-    ∙ sym (ap (λ (b : Bool). not b && nat_lt (count_by (waits_with script p i) (range_with_len 0 (length script))) window) so.none)
+pub blocked : (own : List Op) (as_ : List Answer) (window i j : ℕ) → length as_ ≡ i → j < length as_
+    → blocks own as_ i j ≡ true → false ≡ may_issue_next own as_ window i
+blocked own as_ window i j next below is =
+    sym (ap (λ (b : Bool). b && (not (is_blocked own as_ i) && nat_lt (count_by is_waiting as_) window))
+    (eq-eqb (length as_) i next)
+    ∙ ap (λ (b : Bool). not b && nat_lt (count_by is_waiting as_) window) (any_found (blocks own as_ i) (length as_) j below is))
+
+pub passed_all : (own : List Op) (as_ : List Answer) (window i waiting : ℕ) → length as_ ≡ i
+    → IsPassed own as_ i (length as_) waiting → nat_lt waiting window ≡ may_issue_next own as_ window i
+passed_all own as_ window i waiting next so =
+    ap (λ (k : ℕ). nat_lt k window) (so.many ∙ ap (count_by is_waiting) (take_all (length as_) as_ (omega arith)))
+    ∙ sym (ap (λ (b : Bool). b && (not (is_blocked own as_ i) && nat_lt (count_by is_waiting as_) window))
+    (eq-eqb (length as_) i next) ∙ ap (λ (b : Bool). not b && nat_lt (count_by is_waiting as_) window) so.none)

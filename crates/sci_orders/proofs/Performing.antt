@@ -1,194 +1,241 @@
--- An operation that waits is performed by the memory.
-use Rattle.std.proofs.Common.{◌≡◌, ◌≢◌, ℕ, ◌+◌, ◌*◌, ◌<◌, ◌==◌, ◌&&◌, not, Bool, List, [], ◌∷◌, ◌++◌, length, set, get_or}
-use Rattle.std.proofs.Common.{Some, None, refl, sym, ap, subst, ◌∙◌, arith, inl, inr}
-use Rattle.std.proofs.lemmas.Bool.{cases_eq}
-use Rattle.std.proofs.lemmas.List.{get_or-set_same, get_or-set_other, length-set, Elements.{All-get_or}}
-use Rattle.std.specs.{Prelude.{slice_index, slice_index_or}}
-use Rattle.sci_words.specs.declared.{limits.TheConstants.{WORDS_PER_LINE}, operation.{Op.{Op}}, stamped.Stamped.{Stamped}}
+-- An operation that waits is performed, in a position and in the memory that stands there.
+use Rattle.std.proofs.Common.{◌≡◌, ◌≢◌, ℕ, ◌+◌, ◌*◌, ◌<◌, List, [], ◌∷◌, ◌++◌, length, refl, sym, ap, subst, ◌∙◌, arith, inl, inr}
+use Rattle.std.proofs.lemmas.{Bool.{cases_eq}, List.{get_or-set_same, get_or-set_other, length-set, Elements.{Contains-append_left, Contains-push, Contains-push_cases}}}
+use Rattle.std.specs.{Prelude.{Option, Some, None, option_map, option_to_list, slice_index, slice_index_or}, List.{Contains}}
+use Rattle.sci_words.specs.declared.{limits.TheConstants.{WORDS_PER_LINE}, operation.Op.{Op}, stamped.Stamped.{Stamped}}
 use Rattle.sci_words.specs.{Operation.{effect}, Stamped.{after, zero_stamped}}
 use Rattle.sci_history.specs.{declared.entry.Entry.{Entry}, Memory.{stamped_at}}
-use Rattle.sci_core.specs.{Size.{Size}}
-use Rattle.sci_orders.specs.declared.standing.Answer.{Answer}
+use Rattle.sci_core.specs.{declared.pending.Pending.{Pending}, Size.{Size}}
+use Rattle.sci_core.proofs.Basics.Options.{same_some}
 use Rattle.sci_orders.specs.declared.standing.Answer.TheVariants as answer
-use Rattle.sci_orders.specs.Positions.{Fits, Operations, Position, answer_at, answer_of, is_unissued, no_operation, operation_at, with_performed_at, word_place}
-use Rattle.sci_orders.specs.Plain.{Plain, Port, entry_at, no_port, port_at, waits_at, with_performed}
-use Rattle.sci_orders.specs.Orders.{IsEntryAt, IsScriptOf, Stands, is_issued_at, pending_of}
-use Rattle.sci_orders.proofs.{Counts.{count_same}, Issuing.{Waiter, answer_here, answer_other, entry_stays, issued_answer, reply_done, reply_issued}}
-use Rattle.sci_orders.proofs.{Keeping.{contains_either, contains_here, contains_left, contains_right, contains_cases, contains_none}, Reaching.{performed_fits}}
-
--- the entry that it makes
-abbrev pub entry_of_place : Operations → Plain → ℕ → Entry
-entry_of_place script plain i = entry_at plain (operation_at script i).0 (pending_of script i)
-
-abbrev pub performed_plain : Operations → Plain → ℕ → Plain
-performed_plain script plain i = with_performed plain (operation_at script i).0 (operation_at script i).1.line (pending_of script i)
+use Rattle.sci_orders.specs.Orders.{HasEntry, IsScriptOf}
+use Rattle.sci_orders.specs.Plain.{Plain, Port, entry_at, plain_made, port_at, waits_at, with_performed}
+use Rattle.sci_orders.specs.Positions.{Operations, Position, answer_at, answer_of, answers_of, operation_at, own_of, with_performed_at, word_place}
+use Rattle.sci_orders.proofs.Changes.{list_below, performed_fits, performed_here, performed_length, performed_other, performed_rest, performed_waits, reply_done, waiting_below}
+use Rattle.sci_orders.proofs.{Issuing.{Goes}, Plains.{memory_performs, plain_makes}, Ports.{perform_changes, performed_waits_here, performed_waits_other}}
+use Rattle.sci_orders.proofs.Stands.{IsAnswered, Stands, Waiter, pending_of}
+use Rattle.sci_words.specs.declared.event.Event.TheVariants as event
 
 -- two words of memory
 other_place : (a b x y : ℕ) → x < 8 → y < 8 → a * 8 + x ≡ b * 8 + y → (a ≡ b) × (x ≡ y)
 other_place a b x y low high same = ((omega arith), (omega arith))
 
-word_inside : (size : Size) (script : Operations) (p : Position) (i : ℕ) → Fits script p → i < length script → word_place (operation_at script i).1 < length p.words
-word_inside size script p i fits below = All-get_or (λ (o : ℕ × Op). word_place o.1 < length p.words) script i no_operation below fits.words
+module _ (size : Size) (operations : Operations) (plain : Plain) (done : List Entry) (p : Position) (n i : ℕ)
+    (stands : Stands size operations plain done p) (known : IsScriptOf size operations) (waits : answer_at p n i ≡ answer.Waiting) where
+  abbrev op : Op
+  op = operation_at operations n i
 
-pub perform_stands : (size : Size) (script : Operations) (plain : Plain) (done : List Entry) (p : Position) (i : ℕ) → Stands size script plain done p
-    → IsScriptOf size script → i < length script → answer_at p i ≡ answer.Waiting
-    → Stands size script (performed_plain script plain i) (done ++ entry_of_place script plain i ∷ []) (with_performed_at (operation_at script i).1 p i)
-perform_stands size script plain done p i stands known below waits_i =
-    let n = (operation_at script i).0 in
-    let op = (operation_at script i).1 in
-    let line = op.line in
-    let lt = (known.each i below).node in
-    let inside = (known.each i below).line in
-    let word_low = (known.each i below).word in
-    let q = with_performed_at op p i in
-    let new = performed_plain script plain i in
-    let entry = entry_of_place script plain i in
-    let long = stands.fits.answers in
-    let nodes = stands.nodes in
-    let lines = stands.lines n lt in
-    let old : Stamped = stamped_at plain.contents line in
-    let place = word_place op in
-    let was : slice_index_or p.words place 0 ≡ slice_index old.line op.word = stands.words line op.word inside word_low in
-    let mine : Answer = answer_of (effect op (slice_index_or p.words place 0)).1 in
-    let replied : mine ≡ answer_of entry.reply = ap (λ (w : ℕ). answer_of (effect op w).1) was in
-    let here : answer_at q i ≡ mine = answer_here p i mine (omega arith) in
-    let there : (j : ℕ) → j ≢ i → answer_at q j ≡ answer_at p j = λ j other. answer_other p i j mine other in
-    let never_unissued : answer_at q i ≡ answer.Unissued → ⊥ = λ is. reply_issued (effect op (slice_index_or p.words place 0)).1 (sym here ∙ is) in
-    let never_waiting : answer_at q i ≡ answer.Waiting → ⊥ = λ is. reply_done (effect op (slice_index_or p.words place 0)).1 (sym here ∙ is) in
-    let port : Port = record (port_at plain n) { pending = set (port_at plain n).pending line None } in
-    let at : port_at new n ≡ port = get_or-set_same plain.ports n port no_port (omega arith) in
-    let apart : (m : ℕ) → m ≢ n → port_at new m ≡ port_at plain m = λ m other. get_or-set_other plain.ports n m port no_port other in
-    let waits_here : waits_at new n line ≡ None =
-    ap (λ (x : Port). get_or x.pending line None) at ∙ get_or-set_same (port_at plain n).pending line None None (omega arith) in
-    let waits_off : (k : ℕ) → k ≢ line → waits_at new n k ≡ waits_at plain n k = λ k other.
-    ap (λ (x : Port). get_or x.pending k None) at ∙ get_or-set_other (port_at plain n).pending line k None None other in
-    let waits_apart : (m k : ℕ) → m ≢ n → waits_at new m k ≡ waits_at plain m k = λ m k other. ap (λ (x : Port). get_or x.pending k None) (apart m other) in
-    let lines_long = stands.contents in
-    let made : Stamped = after old op in
-    let here_line : stamped_at new.contents line ≡ made = get_or-set_same plain.contents line made zero_stamped (omega arith) in
-    let there_line : (k : ℕ) → k ≢ line → stamped_at new.contents k ≡ stamped_at plain.contents k = λ k other.
-    get_or-set_other plain.contents line k made zero_stamped other in
-    let eight = stands.eight line inside in
-    let fits_words = stands.fits.words in
-    let word_new : ℕ = (effect op (slice_index old.line op.word)).0 in
-    record {
-      size_is = stands.size_is;
-      nodes = length-set plain.ports n port ∙ nodes;
-      lines = λ m low. elim (cases_eq m n) [
-        | inl e ↦ ap (λ (k : ℕ). length (port_at new k).pending) e
-            ∙ (ap (λ (x : Port). length x.pending) at ∙ (length-set (port_at plain n).pending line None ∙ lines))
-        | inr other ↦ ap (λ (x : Port). length x.pending) (apart m other) ∙ stands.lines m low
-      ];
-      contents = length-set plain.contents line made ∙ stands.contents;
-      eight = λ k low. elim (cases_eq k line) [
-        | inl e ↦ ap (λ (j : ℕ). length (stamped_at new.contents j).line) e
-            ∙ (ap (λ (s : Stamped). length s.line) here_line ∙ (length-set old.line op.word word_new ∙ eight))
-        | inr other ↦ ap (λ (s : Stamped). length s.line) (there_line k other) ∙ stands.eight k low
-      ];
-      fits = performed_fits script p op i stands.fits;
-      prefix_ = λ a b low high same is. elim (cases_eq a i) [
-        | inl e ↦ absurd (never_unissued (ap (answer_at q) (sym e) ∙ is))
-        | inr other ↦
-            let was_ : answer_at p b ≡ answer.Unissued = stands.prefix_ a b low high same (sym (there a other) ∙ is) in
-            elim (cases_eq b i) [
-              | inl e ↦ (let clash : answer.Waiting ≡ answer.Unissued = sym waits_i ∙ (ap (answer_at p) (sym e) ∙ was_) in cc)
-              | inr others ↦ there b others ∙ was_
-            ]
-      ];
-      once = λ a b low high is also same on. elim (cases_eq a i) [
-        | inl e ↦ absurd (never_waiting (ap (answer_at q) (sym e) ∙ is))
-        | inr other ↦ elim (cases_eq b i) [
-          | inl f ↦ absurd (never_waiting (ap (answer_at q) (sym f) ∙ also))
-          | inr others ↦ stands.once a b low high (sym (there a other) ∙ is) (sym (there b others) ∙ also) same on
+  abbrev new : Plain
+  new = with_performed plain n op.line (pending_of operations n i)
+
+  abbrev after_ : Position
+  after_ = with_performed_at op p n i
+
+  -- the entry that it makes
+  abbrev entry : Entry
+  entry = entry_at plain n (pending_of operations n i)
+
+  issued_below : i < length (answers_of p n)
+  issued_below = waiting_below p n i waits
+
+  own_below : i < length (own_of operations n)
+  own_below = let few = stands.fits.issued n in let low = issued_below in omega arith
+
+  has_answers : n < length p.answers
+  has_answers = list_below p.answers n i issued_below
+
+  is_node : n < size.nodes
+  is_node = let few = known.nodes in let low = list_below operations n i own_below in omega arith
+
+  has_port : n < length plain.ports
+  has_port = let long = stands.nodes in let low = is_node in omega arith
+
+  line_known : op.line < size.lines
+  line_known = (known.each n i own_below).line
+
+  waits_none : waits_at new n op.line ≡ None
+  waits_none =
+      let lines = stands.lines n is_node in
+      let low = line_known in
+      performed_waits_here plain n op.line (pending_of operations n i) has_port (omega arith)
+
+  other_waits : (m k : ℕ) → ((m ≡ n) × (k ≡ op.line) → ⊥) → waits_at new m k ≡ waits_at plain m k
+  other_waits m k not_ = performed_waits_other plain n op.line m k (pending_of operations n i) has_port not_
+
+  -- it alone waited on its line
+  alone : (j : ℕ) → answer_at p n j ≡ answer.Waiting → (operation_at operations n j).line ≡ op.line → j ≡ i
+  alone j is on =
+      let a = stands.held n j is in
+      let b = stands.held n i waits in
+      let same : Some (pending_of operations n j) ≡ Some (pending_of operations n i) = sym a ∙ (ap (λ (k : ℕ). waits_at plain n k) on ∙ b) in
+      ap (λ (x : Pending). x.serial) (same_some (pending_of operations n j) (pending_of operations n i) same)
+
+  -- its answer is the reply of the entry
+  performed_answer : answer_at after_ n i ≡ answer_of entry.reply
+  performed_answer =
+      let is = known.each n i own_below in
+      performed_here op p n i has_answers issued_below
+      ∙ ap (λ (w : ℕ). answer_of (effect op w).1) (stands.words op.line op.word is.line is.word)
+
+  answered : (m j : ℕ) → answer_at after_ m j ≡ answer.Waiting → (m ≡ n) × (j ≡ i) → ⊥
+  answered m j is both =
+      reply_done entry.reply (sym performed_answer
+      ∙ (ap (λ (k : ℕ). answer_at after_ n k) (sym both.1) ∙ (ap (λ (k : ℕ). answer_at after_ k j) (sym both.0) ∙ is)))
+
+  perform_waits : (m k : ℕ) (pending : Pending) → waits_at new m k ≡ Some pending → Waiter operations after_ m k
+  perform_waits m k pending is =
+      let keeps : ((m ≡ n) × (k ≡ op.line) → ⊥) → Waiter operations after_ m k = λ not_. (
+      let from = stands.waits m k pending (sym (other_waits m k not_) ∙ is) in
+      let apart : (m ≡ n) × (from.0 ≡ i) → ⊥ = λ both. not_ (
+        both.0,
+        sym from.2 ∙ (ap (λ (j : ℕ). (operation_at operations m j).line) both.1 ∙ ap (λ (j : ℕ). (operation_at operations j i).line) both.0),
+      ) in
+      (from.0, performed_other op p n i m from.0 has_answers apart ∙ from.1, from.2)) in
+      elim (cases_eq m n) [
+        | inl e ↦ elim (cases_eq k op.line) [
+          | inl on ↦ (
+              let clash : None ≡ Some pending =
+              sym waits_none ∙ (ap (λ (j : ℕ). waits_at new j op.line) (sym e) ∙ (ap (λ (j : ℕ). waits_at new m j) (sym on) ∙ is)) in cc)
+          | inr off ↦ keeps (λ both. off both.1)
         ]
-      ];
-      issued = λ m low.
-          let same = count_same (is_issued_at script p m) (is_issued_at script q m) (length script) (λ j inside_. elim (cases_eq j i) [
-            | inl e ↦ ap (λ (b : Bool). ((operation_at script j).0 == m) && not b)
-                (ap is_unissued (ap (answer_at p) e ∙ waits_i)
-                ∙ sym (issued_answer (answer_at q j) (λ is. never_unissued (ap (answer_at q) (sym e) ∙ is))))
-            | inr others ↦ sym (ap (λ (a : Answer). ((operation_at script j).0 == m) && not (is_unissued a)) (there j others))
-          ]) in
-          let counted = stands.issued m low in
-          (elim (cases_eq m n) [
-            | inl e ↦ ap (λ (k : ℕ). (port_at new k).issued) e
-                ∙ (ap (λ (x : Port). x.issued) at ∙ (ap (λ (k : ℕ). (port_at plain k).issued) (sym e) ∙ (counted ∙ same)))
-            | inr other ↦ ap (λ (x : Port). x.issued) (apart m other) ∙ (counted ∙ same)
-          ]);
-      waits = λ m k pending is.
-          let keeps : waits_at plain m k ≡ Some pending → ((m ≡ n) × (k ≡ line) → ⊥) → Waiter script q m k = λ was_ not_. (
-          let from = stands.waits m k pending was_ in
-          let other : from.0 ≢ i = λ e. not_ (
-            sym from.2 ∙ ap (λ (j : ℕ). (operation_at script j).0) e,
-            sym from.3 ∙ ap (λ (j : ℕ). (operation_at script j).1.line) e,
-          ) in
-          (from.0, from.1, from.2, from.3, there from.0 other ∙ from.4)) in
-          elim (cases_eq m n) [
-            | inl e ↦ elim (cases_eq k line) [
-              | inl f ↦ (let clash : None ≡ Some pending =
-                  sym waits_here ∙ (ap (λ (j : ℕ). waits_at new j line) (sym e) ∙ (ap (λ (j : ℕ). waits_at new m j) (sym f) ∙ is)) in cc)
-              | inr off ↦ keeps (ap (λ (j : ℕ). waits_at plain j k) e ∙ (sym (waits_off k off) ∙ (ap (λ (j : ℕ). waits_at new j k) (sym e) ∙ is)))
-                  (λ both. off both.1)
-            ]
-            | inr other ↦ keeps (sym (waits_apart m k other) ∙ is) (λ both. other both.0)
-          ];
-      held = λ j inside_ is. elim (cases_eq j i) [
-        | inl e ↦ absurd (never_waiting (ap (answer_at q) (sym e) ∙ is))
-        | inr other ↦
-            let was_ : answer_at p j ≡ answer.Waiting = sym (there j other) ∙ is in
-            let held_ = stands.held j inside_ was_ in
-            elim (cases_eq (operation_at script j).0 n) [
-              | inl e ↦ elim (cases_eq (operation_at script j).1.line line) [
-                | inl f ↦ absurd (other (stands.once j i inside_ below was_ waits_i e f))
-                | inr off ↦ ap (λ (m : ℕ). waits_at new m (operation_at script j).1.line) e
-                    ∙ (waits_off (operation_at script j).1.line off ∙ (ap (λ (m : ℕ). waits_at plain m (operation_at script j).1.line) (sym e) ∙ held_))
-              ]
-              | inr others ↦ waits_apart (operation_at script j).0 (operation_at script j).1.line others ∙ held_
-            ]
-      ];
-      each = λ e has. elim (contains_either e done (entry ∷ []) has) [
-        | inl before ↦
-            let from = stands.each e before in
-            let other : from.0 ≢ i = λ same. reply_done e.reply (sym from.1.reply ∙ (ap (answer_at p) same ∙ waits_i)) in
-            (from.0, entry_stays script p q e from.0 (there from.0 other) from.1)
-        | inr last ↦
-            let is : entry ≡ e = (elim (contains_cases entry e [] last) [ inl same ↦ same | inr never ↦ contains_none e never ]) in (
-              i,
-              subst (λ (x : Entry). IsEntryAt script q x i) is
-                  (record { below = below; node = refl; op = refl; serial = refl; reply = here ∙ replied }),
-            )
-      ];
-      all = λ j inside_ issued_ done_. elim (cases_eq j i) [
-        | inl e ↦ (
-          entry,
-          contains_right entry done (entry ∷ []) (contains_here entry []),
-          subst (IsEntryAt script q entry) (sym e) (record { below = below; node = refl; op = refl; serial = refl; reply = here ∙ replied }),
-        )
-        | inr other ↦
-            let from = stands.all j inside_ (λ is. issued_ (there j other ∙ is)) (λ is. done_ (there j other ∙ is)) in
-            (from.0, contains_left from.0 done (entry ∷ []) from.1, entry_stays script p q from.0 j (there j other) from.2)
-      ];
-      words = λ l w low high. elim (cases_eq l line) [
-        | inl e ↦ elim (cases_eq w op.word) [
+        | inr other ↦ keeps (λ both. other both.0)
+      ]
+
+  perform_held : (m j : ℕ) → answer_at after_ m j ≡ answer.Waiting → waits_at new m (operation_at operations m j).line ≡ Some (pending_of operations m j)
+  perform_held m j is =
+      let not_ = answered m j is in
+      let was : answer_at p m j ≡ answer.Waiting = sym (performed_other op p n i m j has_answers not_) ∙ is in
+      other_waits m (operation_at operations m j).line (λ both. not_ (
+        both.0,
+        alone j (ap (λ (k : ℕ). answer_at p k j) (sym both.0) ∙ was) (ap (λ (k : ℕ). (operation_at operations k j).line) (sym both.0) ∙ both.1),
+      ))
+      ∙ stands.held m j was
+
+  -- ---- entries
+
+  is_entry : IsAnswered operations after_ entry
+  is_entry = record {
+    issued = (let same = performed_length op p n i n has_answers in let low = issued_below in omega arith);
+    is = record { below = own_below; op = refl; reply = performed_answer };
+  }
+
+  perform_each : (e : Entry) → Contains (done ++ entry ∷ []) e → IsAnswered operations after_ e
+  perform_each e has = elim (Contains-push_cases done entry e has) [
+    | inl before ↦
+        let was = stands.each e before in
+        let not_ : (e.node ≡ n) × (e.serial ≡ i) → ⊥ = λ both. reply_done e.reply (sym was.is.reply
+        ∙ (ap (λ (k : ℕ). answer_at p e.node k) both.1 ∙ (ap (λ (k : ℕ). answer_at p k i) both.0 ∙ waits))) in
+        record {
+          issued = (let same = performed_length op p n i e.node has_answers in let low = was.issued in omega arith);
+          is = record { below = was.is.below; op = was.is.op; reply = performed_other op p n i e.node e.serial has_answers not_ ∙ was.is.reply };
+        }
+    | inr is ↦ subst (IsAnswered operations after_) is is_entry
+  ]
+
+  perform_all : (m j : ℕ) → j < length (answers_of after_ m) → (answer_at after_ m j ≡ answer.Waiting → ⊥) → HasEntry (done ++ entry ∷ []) m j
+  perform_all m j low done_ =
+      let old : ((m ≡ n) × (j ≡ i) → ⊥) → HasEntry (done ++ entry ∷ []) m j = λ not_. (
+      let same = performed_length op p n i m has_answers in
+      let from = stands.all m j (omega arith) (λ is. done_ (performed_other op p n i m j has_answers not_ ∙ is)) in
+      (from.0, Contains-append_left done (entry ∷ []) from.0 from.1, from.2, from.3)) in
+      elim (cases_eq m n) [
+        | inl e ↦ elim (cases_eq j i) [
+          | inl at ↦ (entry, Contains-push done entry, sym e, sym at)
+          | inr off ↦ old (λ both. off both.1)
+        ]
+        | inr other ↦ old (λ both. other both.0)
+      ]
+
+  -- ---- words
+
+  abbrev old_line : Stamped
+  old_line = stamped_at plain.contents op.line
+
+  line_here : stamped_at new.contents op.line ≡ after old_line op
+  line_here =
+      let long = stands.contents in
+      let low = line_known in
+      get_or-set_same plain.contents op.line (after old_line op) zero_stamped (omega arith)
+
+  line_other : (k : ℕ) → k ≢ op.line → stamped_at new.contents k ≡ stamped_at plain.contents k
+  line_other k other = get_or-set_other plain.contents op.line k (after old_line op) zero_stamped other
+
+  perform_words : (line word : ℕ) → line < size.lines → word < WORDS_PER_LINE
+      → slice_index_or after_.words (line * WORDS_PER_LINE + word) 0 ≡ slice_index (stamped_at new.contents line).line word
+  perform_words line word low high =
+      let is = known.each n i own_below in
+      let word_low = is.word in
+      let place = word_place op in
+      let was = stands.words op.line op.word is.line is.word in
+      let written = (effect op (slice_index old_line.line op.word)).0 in
+      let eight = stands.eight op.line is.line in
+      elim (cases_eq line op.line) [
+        | inl e ↦ elim (cases_eq word op.word) [
           | inl f ↦
-              let spot : l * WORDS_PER_LINE + w ≡ place = omega arith in
-              ap (λ (k : ℕ). slice_index_or q.words k 0) spot
-              ∙ (get_or-set_same p.words place _ 0 (word_inside size script p i stands.fits below)
+              let spot : line * WORDS_PER_LINE + word ≡ place = omega arith in
+              ap (λ (k : ℕ). slice_index_or after_.words k 0) spot
+              ∙ (get_or-set_same p.words place _ 0 (stands.fits.words n i own_below)
               ∙ (ap (λ (x : ℕ). (effect op x).0) was
-              ∙ sym (ap (λ (k : ℕ). slice_index (stamped_at new.contents k).line w) e
-              ∙ (ap (λ (s : Stamped). slice_index s.line w) here_line
-              ∙ (ap (λ (k : ℕ). slice_index made.line k) f ∙ get_or-set_same old.line op.word word_new 0 (omega arith))))))
+              ∙ sym (ap (λ (k : ℕ). slice_index (stamped_at new.contents k).line word) e
+              ∙ (ap (λ (s : Stamped). slice_index s.line word) line_here
+              ∙ (ap (λ (k : ℕ). slice_index (after old_line op).line k) f ∙ get_or-set_same old_line.line op.word written 0 (omega arith))))))
           | inr off ↦
-              let spot : l * WORDS_PER_LINE + w ≢ place = λ same. off (other_place l line w op.word high word_low same).1 in
-              get_or-set_other p.words place (l * WORDS_PER_LINE + w) _ 0 spot
-              ∙ (stands.words l w low high
-              ∙ (ap (λ (k : ℕ). slice_index (stamped_at plain.contents k).line w) e
-              ∙ sym (ap (λ (k : ℕ). slice_index (stamped_at new.contents k).line w) e
-              ∙ (ap (λ (s : Stamped). slice_index s.line w) here_line ∙ get_or-set_other old.line op.word w word_new 0 off))))
+              let spot : line * WORDS_PER_LINE + word ≢ place = λ same. off (other_place line op.line word op.word high word_low same).1 in
+              get_or-set_other p.words place (line * WORDS_PER_LINE + word) _ 0 spot
+              ∙ (stands.words line word low high
+              ∙ (ap (λ (k : ℕ). slice_index (stamped_at plain.contents k).line word) e
+              ∙ sym (ap (λ (k : ℕ). slice_index (stamped_at new.contents k).line word) e
+              ∙ (ap (λ (s : Stamped). slice_index s.line word) line_here ∙ get_or-set_other old_line.line op.word word written 0 off))))
         ]
         | inr other ↦
-            let spot : l * WORDS_PER_LINE + w ≢ place = λ same. other (other_place l line w op.word high word_low same).0 in
-            get_or-set_other p.words place (l * WORDS_PER_LINE + w) _ 0 spot
-            ∙ (stands.words l w low high ∙ sym (ap (λ (s : Stamped). slice_index s.line w) (there_line l other)))
-      ];
-    }
+            let spot : line * WORDS_PER_LINE + word ≢ place = λ same. other (other_place line op.line word op.word high word_low same).0 in
+            get_or-set_other p.words place (line * WORDS_PER_LINE + word) _ 0 spot
+            ∙ (stands.words line word low high ∙ sym (ap (λ (s : Stamped). slice_index s.line word) (line_other line other)))
+      ]
+
+  perform_eight : (k : ℕ) → k < size.lines → length (stamped_at new.contents k).line ≡ WORDS_PER_LINE
+  perform_eight k low = elim (cases_eq k op.line) [
+    | inl e ↦ ap (λ (j : ℕ). length (stamped_at new.contents j).line) e
+        ∙ (ap (λ (s : Stamped). length s.line) line_here
+        ∙ (length-set old_line.line op.word (effect op (slice_index old_line.line op.word)).0 ∙ stands.eight op.line line_known))
+    | inr other ↦ ap (λ (s : Stamped). length s.line) (line_other k other) ∙ stands.eight k low
+  ]
+
+  perform_stands : Stands size operations new (done ++ entry ∷ []) after_
+  perform_stands =
+      let changes = perform_changes plain n op.line (pending_of operations n i) has_port in
+      record {
+        size_is = stands.size_is;
+        nodes = changes.nodes ∙ stands.nodes;
+        lines = λ m low. changes.lines m ∙ stands.lines m low;
+        contents = length-set plain.contents op.line (after old_line op) ∙ stands.contents;
+        eight = perform_eight;
+        fits = performed_fits operations op p n i stands.fits has_answers;
+        issued = λ m low. elim (cases_eq m n) [
+          | inl e ↦ ap (λ (k : ℕ). (port_at new k).issued) e
+              ∙ (changes.here ∙ (ap (λ (k : ℕ). (port_at plain k).issued) (sym e) ∙ (stands.issued m low ∙ sym (performed_length op p n i m has_answers))))
+          | inr other ↦ ap (λ (x : Port). x.issued) (changes.apart m other) ∙ (stands.issued m low ∙ sym (performed_length op p n i m has_answers))
+        ];
+        waits = perform_waits;
+        held = perform_held;
+        each = perform_each;
+        all = perform_all;
+        words = perform_words;
+      }
+
+  pub perform_goes : Goes size operations plain done p (with_performed_at (operation_at operations n i) p n i)
+      (event.Perform n (operation_at operations n i).line)
+  perform_goes =
+      let e = event.Perform n op.line in
+      let lt : n < plain.size.nodes = subst (λ (s : Size). n < s.nodes) (sym stands.size_is) is_node in
+      let held = stands.held n i waits in
+      let steps = memory_performs plain n op.line (pending_of operations n i) lt held in
+      let made : plain_made plain e ≡ Some entry = plain_makes plain new e steps ∙ ap (option_map (entry_at plain n)) held in
+      let same : done ++ entry ∷ [] ≡ done ++ option_to_list (plain_made plain e) = ap (λ (m : Option Entry). done ++ option_to_list m) (sym made) in
+      record {
+        new = new;
+        steps = steps;
+        stands = subst (λ (es : List Entry). Stands size operations new es after_) same perform_stands;
+        rest = λ m. performed_rest operations op p n i m has_answers;
+        waits = λ m. performed_waits op p n i m has_answers waits;
+      }

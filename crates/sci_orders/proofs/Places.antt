@@ -1,8 +1,9 @@
 -- Tests of the numbers below a bound, one after another.
-use Rattle.std.proofs.Common.{◌≡◌, ℕ, zero, suc, ◌+◌, ◌<◌, ◌||◌, Bool, true, false, cond, List, [], ◌∷◌, ◌++◌, map, refl, sym, ap, ◌∙◌, arith}
+use Rattle.std.proofs.Common.{◌≡◌, ℕ, zero, suc, ◌+◌, ◌<◌, ◌||◌, Bool, true, false, List, [], ◌∷◌, ◌++◌, map, refl, sym, ap, ◌∙◌, arith}
 use Rattle.std.proofs.Common.{Option, Some, None, append_assoc}
-use Rattle.std.proofs.lemmas.List.{append-nil, map-append, Elements.{filter_map-append}, Folds.{list_any-append, list_any_at}, Sums.{sum_by_push}, FromFn.{get_or-range_with_len, length-range_with_len}}
-use Rattle.std.specs.{Prelude.{count_by}, List.{cons_option, filter_map, list_any, range_with_len}}
+use Rattle.std.proofs.lemmas.Grind.{flat_map-append}
+use Rattle.std.proofs.lemmas.List.{append-nil, map-append, Elements.{filter_map-append}, Folds.{list_any-append, list_any_at}, FromFn.{get_or-range_with_len, length-range_with_len}}
+use Rattle.std.specs.{List.{cons_option, filter_map, flat_map, list_any, range_with_len}}
 
 from_more : (a n : ℕ) → range_with_len a (n + 1) ≡ range_with_len a n ++ (a + n) ∷ []
 from_more a zero = ap (λ (k : ℕ). k ∷ []) (omega arith)
@@ -29,8 +30,11 @@ any_found p n j below here =
     list_any_at p (range_with_len 0 n) j 0 (let long = length-range_with_len 0 n in omega arith)
     (ap p (get_or-range_with_len 0 n j 0 below ∙ (let same : 0 + j ≡ j = omega arith in same)) ∙ here)
 
-pub count_more : (p : ℕ → Bool) (n : ℕ) → count_by p (range_with_len 0 (n + 1)) ≡ count_by p (range_with_len 0 n) + cond {A = ℕ} (p n) 1 0
-count_more p n = ap (count_by p) (places_more n) ∙ sum_by_push (λ k. cond {A = ℕ} (p k) 1 0) (range_with_len 0 n) n
+pub none_any : (p : ℕ → Bool) (n : ℕ) → ((j : ℕ) → j < n → p j ≡ false) → list_any p (range_with_len 0 n) ≡ false
+none_any p zero none = refl
+none_any p (suc n) none =
+    let one : n + 1 ≡ suc n = omega arith in
+    ap (λ (k : ℕ). list_any p (range_with_len 0 k)) (sym one) ∙ any_more p n (none_any p n (λ j low. none j (omega arith))) (none n (omega arith))
 
 -- what f gives of one number more
 pub gives_more : {Y : Type 0} (f : ℕ → Option Y) (n : ℕ) → filter_map f (range_with_len 0 (n + 1)) ≡ filter_map f (range_with_len 0 n) ++ filter_map f (n ∷ [])
@@ -51,3 +55,9 @@ gives_none {Y = Y} f g n before first is so =
     so ∙ ap (λ (ys : List Y). first ++ ys)
     (sym (append-nil (filter_map f (range_with_len 0 n)))
     ∙ (ap (λ (ys : List Y). filter_map f (range_with_len 0 n) ++ ys) (sym (ap (λ (o : Option Y). cons_option o []) is)) ∙ sym (gives_more f n)))
+
+-- the lists that f gives of one number more
+pub flat_more : {X : Type 0} (f : ℕ → List X) (n : ℕ) → flat_map f (range_with_len 0 (n + 1)) ≡ flat_map f (range_with_len 0 n) ++ f n
+flat_more {X = X} f n =
+    ap (flat_map f) (places_more n)
+    ∙ (flat_map-append f (range_with_len 0 n) (n ∷ []) ∙ ap (λ (xs : List X). flat_map f (range_with_len 0 n) ++ xs) (append-nil (f n)))

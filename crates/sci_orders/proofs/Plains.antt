@@ -87,7 +87,8 @@ last_changed core new entry size inside changes =
           let known : k < core.size.lines = omega arith in
           ap (λ (j : ℕ). stamped_at (set old line made) j) is
           ∙ (get_or-set_same old line made zero_stamped (omega arith)
-          ∙ (ap (λ (s : Stamped). after s entry.op) (last_within core line inside ∙ ap (last_at core) (sym is)) ∙ sym ((changes k known).here (sym is)).contents))
+          ∙ (ap (λ (s : Stamped). after s entry.op) (last_within core line inside ∙ ap (last_at core) (sym is))
+          ∙ sym ((changes k known).here (sym is)).contents))
       | inr other ↦
           let known : k < core.size.lines = omega arith in
           get_or-set_other old line k made zero_stamped other ∙ (last_within core k known ∙ sym ((changes k known).elsewhere (λ e. other (sym e))))
@@ -230,7 +231,8 @@ issue_seen core new n op reached steps =
     subst (λ (x : Core). last_at x line ≡ last_at core line) stepped
     (subst (λ (m : Option Entry). ChangesBy m line (last_at core line) (last_at (step core e) line)) none (effects line below))) in
     let after_ : plain_stepping (plain_of core) e ≡ Some (plain_of new) =
-    memory_issues (plain_of core) n op lt (can_issue_is core n op well lt ∙ may_.0) ∙ ap Some (sym (issued_plain core n op reached to last) ∙ ap plain_of (sym is)) in
+    memory_issues (plain_of core) n op lt (can_issue_is core n op well lt ∙ may_.0)
+    ∙ ap Some (sym (issued_plain core n op reached to last) ∙ ap plain_of (sym is)) in
     record { steps = after_; made = plain_makes (plain_of core) (plain_of new) e after_ ∙ sym none }
 
 -- ---- a Perform
@@ -266,7 +268,8 @@ perform_seen core new n line reached steps =
     (ap (λ (x : Entry). x.serial) does.entry)
     (sym op)
     (ap (λ (s : Stamped). reply_of s.line pending.op) old ∙ (ap (reply_of (last_at core done.1.op.line).line) (sym op) ∙ sym effect.reply))
-    (ap (λ (s : Stamped). (after s pending.op).version) old ∙ (ap (λ (o : Op). (after (last_at core done.1.op.line) o).version) (sym op) ∙ sym effect.version)) in
+    (ap (λ (s : Stamped). (after s pending.op).version) old
+    ∙ (ap (λ (o : Op). (after (last_at core done.1.op.line) o).version) (sym op) ∙ sym effect.version)) in
     let size : new.size ≡ core.size = ap (λ (x : Core). x.size) is in
     let port = λ (p : Port). set (map port_of core.parts) n (record p { pending = set p.pending line None }) in
     let ports : map port_of new.parts ≡ (with_performed plain n line pending).ports =

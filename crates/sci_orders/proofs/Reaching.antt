@@ -1,15 +1,17 @@
 -- One level after another.
-use Rattle.std.proofs.Common.{◌≡◌, ℕ, zero, suc, ◌+◌, ◌*◌, ◌<◌, Bool, true, false, if◌then◌else◌, List, [], ◌∷◌, length}
+use Rattle.std.proofs.Common.{◌≡◌, ℕ, zero, suc, ◌+◌, ◌<◌, Bool, true, false, if◌then◌else◌, List, [], ◌∷◌, length}
 use Rattle.std.proofs.Common.{Option, Some, None, refl, sym, ap, subst, ◌∙◌, arith, inl, inr, add-one}
-use Rattle.std.proofs.lemmas.List.{length-set, length-replicate, Elements.{All-get_or, All-weaker, All-contains_itself}}
+use Rattle.std.proofs.lemmas.List.{Elements.{All-contains, All-weaker, All-contains_itself}}
 use Rattle.std.proofs.lemmas.List.FromFn.{get_or-range_with_len, length-range_with_len}
 use Rattle.std.specs.{Prelude.{IfSome}, List.{All, Contains, cons_option, filter_map, range_with_len}}
-use Rattle.sci_words.specs.declared.{limits.TheConstants.{WORDS_PER_LINE}, operation.Op.{Op}}
 use Rattle.sci_orders.specs.declared.standing.Answer.{Answer}
 use Rattle.sci_orders.specs.declared.standing.Answer.TheVariants as answer
-use Rattle.sci_orders.specs.Positions.{AreReachedIn, AreStepsFrom, Fits, IsReachedIn, IsWithin, Operations, Position, answer_at, may_issue_at, opening_position}
-use Rattle.sci_orders.specs.Positions.{operation_at, places_of, step_as, step_at, steps_from, with_issued_at, with_performed_at, word_place}
-use Rattle.sci_orders.proofs.Keeping.{contains_here, contains_there, contains_cases, contains_none}
+use Rattle.sci_orders.specs.Positions.{AreReachedIn, AreStepsFrom, AreWithin, Fits, IsReachedIn, Operations, Position, answers_of, may_issue_next, opening_position}
+use Rattle.sci_orders.specs.Positions.{operation_at, own_of, step_as, step_at, steps_from, steps_of, with_issued_at}
+use Rattle.sci_orders.proofs.Keeping.{contains_flat, contains_here, contains_there, contains_cases, contains_none, flat_contains}
+use Rattle.sci_orders.proofs.{Changes.{issued_fits, list_below, performed_fits}, Stands.{opening_fits}}
+use Rattle.std.proofs.lemmas.Bool.{and_parts, eqb-true}
+use Rattle.std.specs.Prelude.{◌==◌, slice_get}
 use Rattle.sci_core.proofs.Basics.Options.{of_some}
 
 -- ---- what a function gives of some element
@@ -50,80 +52,82 @@ below_place n i below =
 
 -- ---- one level more
 
-all_contained : {X : Type 0} (P : X → Type 0) (xs : List X) → All P xs → (x : X) → Contains xs x → P x
-all_contained P xs all x (k, below, is) = subst P is (All-get_or P xs k x below all)
+so_each : (lines : ℕ) (operations : Operations) (window count : ℕ) (positions : List Position) → AreReachedIn lines operations window count positions
+    → (q : Position) → Contains positions q → IsReachedIn lines operations window count q
+so_each lines operations window count positions so q has = All-contains (IsReachedIn lines operations window count) positions q so.each has
 
-so_each : (lines : ℕ) (script : Operations) (window count : ℕ) (positions : List Position) → AreReachedIn lines script window count positions → (q : Position)
-    → Contains positions q → IsReachedIn lines script window count q
-so_each lines script window count positions so q has = all_contained (IsReachedIn lines script window count) positions so.each q has
+-- a step of some position is a step of one node
+from_step : (operations : Operations) (window : ℕ) (p q : Position) → Contains (steps_from operations window p) q
+    → (n : ℕ) × (i : ℕ) × (i < length (own_of operations n)) × (step_at operations window p n i ≡ Some q)
+from_step operations window p q has =
+    let at = flat_contains (steps_of operations window p) (range_with_len 0 (length operations)) q has in
+    let n = at.0 in
+    let step = given (step_at operations window p n) (range_with_len 0 (length (own_of operations n))) q at.2 in
+    (n, step.0, place_below (length (own_of operations n)) step.0 step.1, step.2)
 
-pub reached_more : (lines : ℕ) (script : Operations) (window count more : ℕ) (old new : List Position) → more ≡ count + 1
-    → AreReachedIn lines script window count old → AreStepsFrom script window old new → AreReachedIn lines script window more new
-reached_more lines script window count more old new is so steps =
+to_step : (operations : Operations) (window : ℕ) (p q : Position) (n i : ℕ) → i < length (own_of operations n) → step_at operations window p n i ≡ Some q
+    → Contains (steps_from operations window p) q
+to_step operations window p q n i below step =
+    contains_flat (steps_of operations window p) (range_with_len 0 (length operations)) n q
+    (below_place (length operations) n (list_below operations n i below))
+    (gives (step_at operations window p n) (range_with_len 0 (length (own_of operations n))) i q (below_place (length (own_of operations n)) i below) step)
+
+pub reached_more : (lines : ℕ) (operations : Operations) (window count more : ℕ) (old new : List Position) → more ≡ count + 1
+    → AreReachedIn lines operations window count old → AreStepsFrom operations window old new → AreReachedIn lines operations window more new
+reached_more lines operations window count more old new is so steps =
     let next : more ≡ suc count = is ∙ add-one count in
-    let f = λ (q : Position). step_at script window q in
-    subst (λ (k : ℕ). AreReachedIn lines script window k new) (sym next) (record {
-      each = All-weaker (λ p. (q : Position) × Contains old q × Contains (steps_from script window q) p) (IsReachedIn lines script window (suc count))
-          (λ p from. (
-          let step = given (f from.0) (places_of script) p from.2 in
-          (from.0, step.0, so_each lines script window count old so from.0 from.1, place_below (length script) step.0 step.1, step.2))) new steps.each;
-      all = λ p way. steps.all p way.0 (so.all way.0 way.2) (gives (f way.0) (places_of script) way.1 p (below_place (length script) way.1 way.3) way.4);
+    subst (λ (k : ℕ). AreReachedIn lines operations window k new) (sym next) (record {
+      each = All-weaker (λ p. (q : Position) × Contains old q × Contains (steps_from operations window q) p)
+          (IsReachedIn lines operations window (suc count)) (λ p from. (
+          let step = from_step operations window from.0 p from.2 in
+          (from.0, step.0, step.1, so_each lines operations window count old so from.0 from.1, step.2, step.3))) new steps.each;
+      all = λ p way. steps.all p way.0 (so.all way.0 way.3) (to_step operations window way.0 p way.1 way.2 way.4 way.5);
     })
 
 -- ---- each position that is reached fits
 
-pub issued_fits : (script : Operations) (p : Position) (i : ℕ) → Fits script p → Fits script (with_issued_at p i)
-issued_fits script p i fits = record { answers = length-set p.answers i answer.Waiting ∙ fits.answers; words = fits.words }
+if_fits : (operations : Operations) (b : Bool) (q : Position) → (b ≡ true → Fits operations q) → IfSome (if b then Some q else None) (Fits operations)
+if_fits operations true q fits = fits refl
+if_fits operations false q fits = tt
 
-pub performed_fits : (script : Operations) (p : Position) (op : Op) (i : ℕ) → Fits script p → Fits script (with_performed_at op p i)
-performed_fits script p op i fits =
-    let new = with_performed_at op p i in
-    let long : length new.words ≡ length p.words = length-set p.words (word_place op) _ in
-    record {
-      answers = length-set p.answers i _ ∙ fits.answers;
-      words = subst (λ (k : ℕ). All (λ (o : ℕ × Op). word_place o.1 < k) script) (sym long) fits.words;
-    }
+as_fits : (operations : Operations) (window : ℕ) (p : Position) (n i : ℕ) (o : Option Answer) → Fits operations p → i < length (own_of operations n)
+    → IfSome (step_as operations window p n i o) (Fits operations)
+as_fits operations window p n i None fits below =
+    if_fits operations (may_issue_next (own_of operations n) (answers_of p n) window i) (with_issued_at p n) (λ may. (
+    let parts = and_parts (length (answers_of p n) == i) _ may in
+    let next : length (answers_of p n) ≡ i = eqb-true (length (answers_of p n)) i parts.0 in
+    issued_fits operations p n fits (omega arith)))
+as_fits operations window p n i (Some answer.Waiting) fits below =
+    performed_fits operations (operation_at operations n i) p n i fits (
+    let nodes = fits.nodes in let known = list_below operations n i below in omega arith)
+as_fits operations window p n i (Some answer.Stored) fits below = tt
+as_fits operations window p n i (Some (answer.Got x)) fits below = tt
 
-if_fits : (script : Operations) (b : Bool) (q : Position) → Fits script q → IfSome (if b then Some q else None) (Fits script)
-if_fits script true q fits = fits
-if_fits script false q fits = tt
-
-as_fits : (script : Operations) (window : ℕ) (p : Position) (i : ℕ) (a : Answer) → Fits script p → IfSome (step_as script window p i a) (Fits script)
-as_fits script window p i answer.Unissued fits = if_fits script (may_issue_at script window p i) (with_issued_at p i) (issued_fits script p i fits)
-as_fits script window p i answer.Waiting fits = performed_fits script p (operation_at script i).1 i fits
-as_fits script window p i answer.Stored fits = tt
-as_fits script window p i (answer.Got x) fits = tt
-
-step_fits : (script : Operations) (window : ℕ) (p q : Position) (i : ℕ) → Fits script p → step_at script window p i ≡ Some q → Fits script q
+step_fits : (operations : Operations) (window : ℕ) (p q : Position) (n i : ℕ) → Fits operations p → i < length (own_of operations n)
+    → step_at operations window p n i ≡ Some q → Fits operations q
 unfolding step_at
-step_fits script window p q i fits is = of_some (Fits script) (step_as script window p i (answer_at p i)) q is (as_fits script window p i (answer_at p i) fits)
+step_fits operations window p q n i fits below is =
+    of_some (Fits operations) (step_as operations window p n i (slice_get (answers_of p n) i)) q is
+    (as_fits operations window p n i (slice_get (answers_of p n) i) fits below)
 
-pub opening_fits : (lines : ℕ) (script : Operations) → All (IsWithin lines) script → Fits script (opening_position lines script)
-opening_fits lines script within =
-    let long : length (opening_position lines script).words ≡ lines * WORDS_PER_LINE = length-replicate (lines * WORDS_PER_LINE) 0 in
-    record {
-      answers = length-replicate (length script) answer.Unissued;
-      words = All-weaker (IsWithin lines) (λ (o : ℕ × Op). word_place o.1 < length (opening_position lines script).words)
-          (λ o h. (let line = h.0 in let word = h.1 in omega arith)) script within;
-    }
+pub reached_fits : (lines : ℕ) (operations : Operations) (window count : ℕ) (p : Position) → AreWithin lines operations
+    → IsReachedIn lines operations window count p → Fits operations p
+reached_fits lines operations window zero p within is = subst (Fits operations) (sym is) (opening_fits lines operations within)
+reached_fits lines operations window (suc count) p within (q, n, i, reached, below, step) =
+    step_fits operations window q p n i (reached_fits lines operations window count q within reached) below step
 
-pub reached_fits : (lines : ℕ) (script : Operations) (window count : ℕ) (p : Position) → All (IsWithin lines) script → IsReachedIn lines script window count p
-    → Fits script p
-reached_fits lines script window zero p within is = subst (Fits script) (sym is) (opening_fits lines script within)
-reached_fits lines script window (suc count) p within way =
-    step_fits script window way.0 p way.1 (reached_fits lines script window count way.0 within way.2) way.4
+pub all_fit : (lines : ℕ) (operations : Operations) (window count : ℕ) (positions : List Position) → AreWithin lines operations
+    → AreReachedIn lines operations window count positions → All (Fits operations) positions
+all_fit lines operations window count positions within so =
+    All-weaker (IsReachedIn lines operations window count) (Fits operations) (λ p way. reached_fits lines operations window count p within way) positions
+    so.each
 
-pub all_fit : (lines : ℕ) (script : Operations) (window count : ℕ) (positions : List Position) → All (IsWithin lines) script
-    → AreReachedIn lines script window count positions → All (Fits script) positions
-all_fit lines script window count positions within so =
-    All-weaker (IsReachedIn lines script window count) (Fits script) (λ p way. reached_fits lines script window count p within way) positions so.each
-
-pub reached_first : (lines : ℕ) (script : Operations) (window : ℕ) (positions : List Position) → positions ≡ opening_position lines script ∷ []
-    → AreReachedIn lines script window 0 positions
-reached_first lines script window positions is =
-    let first = opening_position lines script in
-    subst (AreReachedIn lines script window 0) (sym is) (record {
-      each = All-weaker (Contains (first ∷ [])) (IsReachedIn lines script window 0) (λ p has. elim (contains_cases first p [] has) [
+pub reached_first : (lines : ℕ) (operations : Operations) (window : ℕ) (positions : List Position) → positions ≡ opening_position lines operations ∷ []
+    → AreReachedIn lines operations window 0 positions
+reached_first lines operations window positions is =
+    let first = opening_position lines operations in
+    subst (AreReachedIn lines operations window 0) (sym is) (record {
+      each = All-weaker (Contains (first ∷ [])) (IsReachedIn lines operations window 0) (λ p has. elim (contains_cases first p [] has) [
         | inl here ↦ sym here
         | inr later ↦ contains_none p later
       ]) (first ∷ []) (All-contains_itself (first ∷ []));

@@ -1,8 +1,8 @@
 -- A script whose operations are issued and performed one after another makes the oracle's entries.
-use Rattle.std.proofs.Common.{◌≡◌, ◌≢◌, ℕ, zero, suc, ◌+◌, ◌<◌, ◌≤◌, eqb, cond, Bool, true, false, if◌then◌else◌, List, [], ◌∷◌, ◌++◌, length, set, get_or, replicate}
+use Rattle.std.proofs.Common.{◌≡◌, ℕ, zero, suc, ◌+◌, ◌<◌, ◌≤◌, eqb, cond, Bool, true, false, if◌then◌else◌, List, [], ◌∷◌, ◌++◌, length, get_or, replicate}
 use Rattle.std.proofs.Common.{Option, Some, None, refl, sym, ap, subst, ◌∙◌, append_assoc, arith, inl, inr}
 use Rattle.std.proofs.lemmas.Bool.{cases_eq, eq-eqb, ne_eqb}
-use Rattle.std.proofs.lemmas.List.{append-nil, get_or-set_same, get_or-set_other, length-set, length-replicate, get_or-replicate}
+use Rattle.std.proofs.lemmas.List.{append-nil, length-replicate, get_or-replicate}
 use Rattle.std.proofs.lemmas.List.Sums.{sum_by-cons}
 use Rattle.std.specs.{Prelude.{IsSome, count_by, option_map, option_to_list, unwrap_or}, List.{AllByRecursion}}
 use Rattle.sci_words.specs.declared.{event.Event.{Event}, limits.TheConstants.{MAX_NODES}, stamped.Stamped.{Stamped}}
@@ -17,6 +17,7 @@ use Rattle.sci_core.proofs.{Shape.ShapeRuns.{replicated}, WellFormed.WellFormedS
 use Rattle.sci_orders.specs.Plain.{AreAllowed, Plain, Port, can_issue, entry_at, no_port, opening_plain, plain_done, plain_made, plain_run, plain_step}
 use Rattle.sci_orders.specs.Plain.{plain_stepping, port_at, waits_at, with_issued, with_performed}
 use Rattle.sci_orders.specs.Witness.{AreFor, IsFor, IsOracleRun, one_by_one, schedule_of}
+use Rattle.sci_orders.proofs.Ports.{issue_changes, issued_waits_here, issued_waits_other, perform_changes, performed_waits_here, performed_waits_other}
 use Rattle.sci_orders.proofs.{Plains.{can_issue_by, memory_issues, memory_performs, plain_makes, same_entry}, Sound.{explained}, Turns.{order_seen}}
 use Rattle.sci_words.specs.declared.event.Event.TheVariants as event
 
@@ -59,12 +60,7 @@ waits_one size done plain issue is for =
     let lines = is.lines issue.0 for.node in
     let inside = for.line in
     let lt = for.node in
-    let port : Port = record {
-      pending = set (port_at plain issue.0).pending issue.1.line (Some (waiting plain issue));
-      issued = (port_at plain issue.0).issued + 1;
-    } in
-    ap (λ (p : Port). get_or p.pending issue.1.line None) (get_or-set_same plain.ports issue.0 port no_port (omega arith))
-    ∙ get_or-set_same (port_at plain issue.0).pending issue.1.line (Some (waiting plain issue)) None (omega arith)
+    issued_waits_here plain issue.0 issue.1 (omega arith) (omega arith)
 
 -- ---- the entry, and the memory after it
 
@@ -92,47 +88,37 @@ one_more size done plain issue few is for =
     let inside = for.line in
     let nodes = is.nodes in
     let next : IsNext size.lines done entry = record { reply = refl; version = refl; serial = refl } in
-    let first : Port = record { pending = set (port_at plain n).pending line (Some (waiting plain issue)); issued = (port_at plain n).issued + 1 } in
     let mid = issued_one plain issue in
-    let at : port_at mid n ≡ first = get_or-set_same plain.ports n first no_port (omega arith) in
-    let last : Port = record (port_at mid n) { pending = set (port_at mid n).pending line None } in
     let new = done_one plain issue in
-    let long : length mid.ports ≡ size.nodes = length-set plain.ports n first ∙ nodes in
-    let here : port_at new n ≡ last = get_or-set_same mid.ports n last no_port (omega arith) in
-    let there : (m : ℕ) → m ≢ n → port_at new m ≡ port_at plain m = λ m other.
-    get_or-set_other mid.ports n m last no_port other ∙ get_or-set_other plain.ports n m first no_port other in
-    let lines_first : length first.pending ≡ size.lines =
-    length-set (port_at plain n).pending line (Some (waiting plain issue)) ∙ is.lines n lt in
-    let lines_last : length last.pending ≡ size.lines =
-    length-set (port_at mid n).pending line None ∙ (ap (λ (p : Port). length p.pending) at ∙ lines_first) in
-    let free_first : (k : ℕ) → k ≢ line → get_or first.pending k None ≡ None = λ k other.
-    get_or-set_other (port_at plain n).pending line k (Some (waiting plain issue)) None other ∙ is.free n k in
+    let has : n < length plain.ports = omega arith in
+    let first = issue_changes plain n issue.1 has in
+    let has_mid : n < length mid.ports = (let same = first.nodes in omega arith) in
+    let second = perform_changes mid n line (waiting plain issue) has_mid in
+    let on_line : line < length (port_at mid n).pending = (let same = first.lines n in let long = is.lines n lt in omega arith) in
+    let apart : (m k : ℕ) → ((m ≡ n) × (k ≡ line) → ⊥) → waits_at new m k ≡ None = λ m k not_.
+    performed_waits_other mid n line m k (waiting plain issue) has_mid not_ ∙ (issued_waits_other plain n m k issue.1 has not_ ∙ is.free m k) in
     record {
       size_is = is.size_is;
-      nodes = length-set mid.ports n last ∙ long;
-      lines = λ m below. elim (cases_eq m n) [
-        | inl e ↦ ap (λ (j : ℕ). length (port_at new j).pending) e ∙ (ap (λ (p : Port). length p.pending) here ∙ lines_last)
-        | inr other ↦ ap (λ (p : Port). length p.pending) (there m other) ∙ is.lines m below
-      ];
+      nodes = second.nodes ∙ (first.nodes ∙ nodes);
+      lines = λ m below. second.lines m ∙ (first.lines m ∙ is.lines m below);
       free = λ m k. elim (cases_eq m n) [
-        | inl e ↦ ap (λ (j : ℕ). waits_at new j k) e ∙ (ap (λ (p : Port). get_or p.pending k None) here ∙ (elim (cases_eq k line) [
-          | inl on ↦ ap (λ (j : ℕ). get_or last.pending j None) on
-              ∙ get_or-set_same (port_at mid n).pending line None None
-              (let same : length (port_at mid n).pending ≡ size.lines = ap (λ (p : Port). length p.pending) at ∙ lines_first in omega arith)
-          | inr off ↦ get_or-set_other (port_at mid n).pending line k None None off ∙ (ap (λ (p : Port). get_or p.pending k None) at ∙ free_first k off)
-        ]))
-        | inr other ↦ ap (λ (p : Port). get_or p.pending k None) (there m other) ∙ is.free m k
+        | inl e ↦ elim (cases_eq k line) [
+          | inl on ↦ ap (λ (j : ℕ). waits_at new j k) e
+              ∙ (ap (λ (j : ℕ). waits_at new n j) on ∙ performed_waits_here mid n line (waiting plain issue) has_mid on_line)
+          | inr off ↦ apart m k (λ both. off both.1)
+        ]
+        | inr other ↦ apart m k (λ both. other both.0)
       ];
       issued = λ m below. elim (cases_eq m n) [
         | inl e ↦ ap (λ (j : ℕ). (port_at new j).issued) e
-            ∙ (ap (λ (p : Port). p.issued) here ∙ (ap (λ (p : Port). p.issued) at
+            ∙ (second.here ∙ (first.here
             ∙ (let was = is.issued n lt in
             let push = count_push (is_of_node m) done entry in
             let yes : is_of_node m entry ≡ true = eq-eqb n m (sym e) in
             let one : cond {A = ℕ} (is_of_node m entry) 1 0 ≡ 1 = ap (λ (b : Bool). cond {A = ℕ} b 1 0) yes in
             let same : count_by (is_of_node n) done ≡ count_by (is_of_node m) done = ap (λ (j : ℕ). count_by (is_of_node j) done) (sym e) in
             omega arith)))
-        | inr other ↦ ap (λ (p : Port). p.issued) (there m other)
+        | inr other ↦ ap (λ (p : Port). p.issued) (second.apart m other ∙ first.apart m other)
             ∙ (let was = is.issued m below in
             let push = count_push (is_of_node m) done entry in
             let no : is_of_node m entry ≡ false = ne_eqb n m (λ e. other (sym e)) in
@@ -204,7 +190,8 @@ does_all size (issue ∷ script) done plain nodes is each few =
     let push = count_push (is_of_node n) done entry in
     omega arith)))
 
-pub free_at : (nodes n line lines : ℕ) → get_or (get_or (replicate nodes (record { pending = replicate lines None; issued = 0 })) n no_port).pending line None ≡ None
+pub free_at : (nodes n line lines : ℕ)
+    → get_or (get_or (replicate nodes (record { pending = replicate lines None; issued = 0 })) n no_port).pending line None ≡ None
 free_at zero n line lines = refl
 free_at (suc nodes) zero line lines = replicated None lines line
 free_at (suc nodes) (suc n) line lines = free_at nodes n line lines

@@ -41,7 +41,8 @@ pub record Passes (core : Core) (events order : List Event) (new : Core) : Type 
   -- each event is enabled when it comes
   pub made : AreMade any_event core events
 
-made-cons : (core next : Core) (e : Event) (events : List Event) → stepping core e ≡ Some next → AreMade any_event next events → AreMade any_event core (e ∷ events)
+made-cons : (core next : Core) (e : Event) (events : List Event) → stepping core e ≡ Some next → AreMade any_event next events
+    → AreMade any_event core (e ∷ events)
 made-cons core next e events steps rest =
     (refl, subst IsSome (sym steps) refl, subst (λ (x : Core). AreMade any_event x events) (sym (step_is core next e steps)) rest)
 

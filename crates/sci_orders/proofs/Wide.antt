@@ -1,9 +1,9 @@
 -- No schedule has more waiting than the script has operations.
-use Rattle.std.proofs.Common.{◌≡◌, ℕ, suc, ◌+◌, ◌-◌, ◌*◌, ◌≤◌, ◌==◌, Bool, true, false, if◌then◌else◌, List, [], ◌∷◌, length, refl, sym, ap, arith, inl, inr}
-use Rattle.std.proofs.lemmas.Bool.{cases_eq, eq-eqb, ne_eqb}
+use Rattle.std.proofs.Common.{◌≡◌, ℕ, suc, ◌+◌, ◌-◌, ◌*◌, ◌≤◌, Bool, if◌then◌else◌, List, [], ◌∷◌, length, refl, sym, ap, arith, inl, inr}
+use Rattle.std.proofs.lemmas.{Bool.{cases_eq, cases_lt, eq-eqb, ne_eqb}, List.{get_or_past, Sums.{get_or-le-sum_by}}}
 use Rattle.sci_words.specs.declared.{event.Event.{Event}, operation.Op.{Op}}
-use Rattle.sci_orders.specs.Positions.{Operations}
-use Rattle.sci_orders.specs.Orders.{AreFew, IsOrderOf, issues_at, one_less_at, one_more_at, operations_of}
+use Rattle.sci_orders.specs.Positions.{Operations, operation_count, own_of}
+use Rattle.sci_orders.specs.Orders.{AreFew, IsOrderOf, issues_at, one_less_at, one_more_at}
 use Rattle.sci_words.specs.declared.event.Event.TheVariants as event
 
 issue_here : (n : ℕ) (op : Op) (order : List Event) → length (issues_at n (event.Issue n op ∷ order)) ≡ suc (length (issues_at n order))
@@ -48,22 +48,20 @@ few_enough window (event.Refuse from n ∷ order) waiting room = few_enough wind
 few_enough window (event.Reply n ∷ order) waiting room = few_enough window order waiting room
 few_enough window (event.Accept from n ∷ order) waiting room = few_enough window order waiting room
 
-own_if : (n : ℕ) (o : ℕ × Op) (script : Operations) (b : Bool) → length (operations_of n script) ≤ length script
-    → length (if b then o.1 ∷ operations_of n script else operations_of n script) ≤ length (o ∷ script)
-own_if n o script true less = omega arith
-own_if n o script false less = omega arith
+-- a node has no more operations than all nodes together
+own_few : (operations : Operations) (n : ℕ) → length (own_of operations n) ≤ operation_count operations
+own_few operations n = elim (cases_lt n (length operations)) [
+  | inl lt ↦ get_or-le-sum_by (λ (own : List Op). length own) operations n [] lt
+  | inr past ↦ let none : length (own_of operations n) ≡ 0 = ap (λ (own : List Op). length own) (get_or_past operations n [] past) in omega arith
+]
 
-own_few : (n : ℕ) (script : Operations) → length (operations_of n script) ≤ length script
-own_few n [] = omega arith
-own_few n (o ∷ script) = own_if n o script (o.0 == n) (own_few n script)
-
-pub any_order : (script : Operations) (order : List Event) → ((n : ℕ) → issues_at n order ≡ operations_of n script) → length order ≡ length script * 2
-    → IsOrderOf script (length script) order
-any_order script order issued whole = record {
+pub any_order : (operations : Operations) (order : List Event) → ((n : ℕ) → issues_at n order ≡ own_of operations n)
+    → length order ≡ operation_count operations * 2 → IsOrderOf operations (operation_count operations) order
+any_order operations order issued whole = record {
   issued = issued;
-  few = few_enough (length script) order (λ n. 0) (λ n. (
-      let own = own_few n script in
-      let same : length (issues_at n order) ≡ length (operations_of n script) = ap (λ (ops : List Op). length ops) (issued n) in
+  few = few_enough (operation_count operations) order (λ n. 0) (λ n. (
+      let own = own_few operations n in
+      let same : length (issues_at n order) ≡ length (own_of operations n) = ap (λ (ops : List Op). length ops) (issued n) in
       omega arith));
   whole = whole;
 }

@@ -7,8 +7,8 @@ ghost use Rattle.sci_orders.specs.Plain.{AreAllowed, opening_plain, plain_done, 
 ghost use Rattle.sci_orders.specs.Witness.{any_event, AreFor, IsExplainedBy, IsOracleRun, one_by_one, schedule_of, seen, seen_from};
 ghost use Rattle.sci_history.specs.Oracle.{Issue};
 ghost use Rattle.sci_core.specs.{Core.{Core, opening, run, run_from}, Settling.{AreMade}, Done.{done, done_from}, Reached.{IsReachable, IsReached}, Sharing.{last_of}};
-ghost use Rattle.sci_orders.specs.Positions.{IsReachedIn, Operations, Position};
-ghost use Rattle.sci_orders.specs.Orders.{HasRun, IsOrderOf, IsOutcomeOf, IsScriptOf, issues_at, operations_of};
+ghost use Rattle.sci_orders.specs.Positions.{IsReachedIn, Operations, Position, operation_count, own_of};
+ghost use Rattle.sci_orders.specs.Orders.{HasRun, IsOrderOf, IsOutcomeOf, IsScriptOf, issues_at};
 
 /// What is seen of a schedule, its Issues and Performs, is what one memory of one thread may do, with the same entries
 /// and the same last contents.
@@ -36,23 +36,24 @@ pub fn each_script_has_a_schedule()
 /// Each run of a script by the machine ends in a position that two steps of each operation reach on one memory of one
 /// thread.
 pub fn each_run_is_reached()
-    ensures { (size : Size) (script : Operations) (window : ℕ) (schedule : List Event) → IsSize size →
-        IsScriptOf size script → IsOrderOf script window (seen size schedule) →
-        (p : Position) × IsReachedIn size.lines script window (length script * 2) p
-        × IsOutcomeOf size script (done size schedule) (last_of (run size schedule)) p }
+    ensures { (size : Size) (operations : Operations) (window : ℕ) (schedule : List Event) → IsSize size →
+        IsScriptOf size operations → IsOrderOf operations window (seen size schedule) →
+        (p : Position) × IsReachedIn size.lines operations window (operation_count operations * 2) p
+        × IsOutcomeOf size operations (done size schedule) (last_of (run size schedule)) p }
 {}
 
 /// Each such position is the end of a run of the script by the machine.
 pub fn each_position_has_a_run()
-    ensures { (size : Size) (script : Operations) (window : ℕ) (p : Position) → IsMachineSize size →
-        IsScriptOf size script → IsReachedIn size.lines script window (length script * 2) p →
-        (schedule : List Event) × HasRun size script window p schedule }
+    ensures { (size : Size) (operations : Operations) (window : ℕ) (p : Position) → IsMachineSize size →
+        IsScriptOf size operations → IsReachedIn size.lines operations window (operation_count operations * 2) p →
+        (schedule : List Event) × HasRun size operations window p schedule }
 {}
 
 /// If each node issues its operations in their order and each is performed, no more wait than there are operations.
 pub fn each_whole_order_is_an_order()
-    ensures { (script : Operations) (order : List Event) → ((n : ℕ) → issues_at n order ≡ operations_of n script) →
-        length order ≡ length script * 2 → IsOrderOf script (length script) order }
+    ensures { (operations : Operations) (order : List Event) → ((n : ℕ) → issues_at n order ≡ own_of operations n) →
+        length order ≡ operation_count operations * 2 →
+        IsOrderOf operations (operation_count operations) order }
 {}
 
 /// From every reached state, wherever packets are under way: the machine does what one memory may do in the place of this

@@ -1,18 +1,16 @@
 //! How far the operations of a script have come on one memory of one thread.
 
-ghost use Rattle.std.specs.Prelude.{◌≡◌, ◌<◌, ◌*◌, ◌++◌, length, map, All, IfOk, OnOk, option_map};
+ghost use Rattle.std.specs.Prelude.{◌≡◌, ◌<◌, ◌≤◌, ◌*◌, ◌++◌, length, map, All, IfOk, OnOk, option_map};
 ghost use Rattle.sci_words.specs.declared.limits.TheConstants.{WORDS_PER_LINE};
-ghost use Rattle.sci_orders.specs.Positions.{answer_of as answer_of_reply};
+ghost use Rattle.sci_orders.specs.Positions.{answer_of as answer_of_reply, is_waiting as is_waiting_answer, may_issue_next};
 
 use sci_words::{Op, Reply, WORDS_PER_LINE, Word, effect};
 use std::alloc::{AllocError, Global};
 
-/// What an operation has come to.
+/// What an operation that is issued has come to.
 #[derive(Clone, Copy, Debug, PartialEq, Eq, PartialOrd, Ord)]
 pub enum Answer {
-    /// It isn't issued yet.
-    Unissued,
-    /// It is issued, and not yet performed.
+    /// It isn't performed yet.
     Waiting,
     /// A store was done.
     Stored,
@@ -23,8 +21,8 @@ pub enum Answer {
 /// How far a script has come.
 #[derive(Debug, Drop, PartialEq, Eq, PartialOrd, Ord)]
 pub struct Standing {
-    /// What each operation has come to, in text order.
-    pub answers: Vec<Answer>,
+    /// For each node what its operations have come to, as far as they are issued, in their order.
+    pub answers: Vec<Vec<Answer>>,
     /// Each word of memory, by line, then by place.
     pub words: Vec<Word>,
 }
@@ -39,22 +37,51 @@ fn answer_of(reply: Reply) -> Answer
     }
 }
 
-impl Standing {
-    ghost use Rattle.std.specs.Prelude.{◌≡◌, ◌<◌, ◌*◌, IfOk, length, option_map, All};
-    ghost use Rattle.sci_orders.specs.Positions.{Fits, blocks as blocks_at, may_issue_at, opening_position, position_of, step_at, waits_with as waits_with_at, with_issued_at, with_performed_at, word_place};
+/// Whether the operation waits that has this answer.
+fn is_waiting(answer: Answer) -> bool
+    ensures { result ≡ is_waiting_answer answer }
+{
+    matches!(answer, Answer::Waiting)
+}
 
-    /// Nothing is issued, and all words are zero. Refused if memory is.
+/// Whether a node can issue operation i of its own next, if it has issued those that have these answers.
+fn may_issue(own: &[Op], answers: &[Answer], window: usize, i: usize) -> bool
+    requires i { i < length own.now }
+    requires issued { length answers.now ≤ length own.now }
+    ensures { result ≡ may_issue_next own.now answers.now window i }
+{
+    if answers.len() != i {
+        return false;
+    }
+    let mut waiting = 0;
+    for j in 0..answers.len() {
+        if is_waiting(answers[j]) {
+            if own[j].line == own[i].line {
+                return false;
+            }
+            waiting += 1;
+        }
+    }
+    waiting < window
+}
+
+impl Standing {
+    ghost use Rattle.std.specs.Prelude.{◌≡◌, ◌≤◌, ◌<◌, ◌*◌, IfOk, length, option_map, All};
+    ghost use Rattle.sci_orders.specs.Positions.{Fits, answers_of, lists_of, opening_position, operation_at, own_of, position_of, step_at, with_issued_at, with_performed_at, word_place};
+
+    /// Nothing is issued at any of this number of nodes, and all words of this number of lines are zero. Refused if
+    /// memory is.
     pub(crate) fn opening(
         alloc: Global,
         lines: u8,
-        script: &[(u8, Op)],
+        operations: &[Vec<Op>],
     ) -> Result<Standing, AllocError>
         ensures { IfOk result
-            (λ standing. position_of standing ≡ opening_position lines script.now) }
+            (λ standing. position_of standing ≡ opening_position lines (lists_of operations.now)) }
     {
-        let mut answers = Vec::with_capacity(alloc, script.len())?;
-        for _operation in script {
-            answers.push(Answer::Unissued)?;
+        let mut answers = Vec::with_capacity(alloc, operations.len())?;
+        for _own in operations {
+            answers.push(Vec::new(alloc))?;
         }
         let count = usize::from(lines) * WORDS_PER_LINE;
         let mut words = Vec::with_capacity(alloc, count)?;
@@ -64,101 +91,80 @@ impl Standing {
         Ok(Standing { answers, words })
     }
 
-    /// Whether operation j keeps operation i from being issued.
-    fn blocks(&self, script: &[(u8, Op)], i: usize, j: usize) -> bool
-        requires one { i < length script.now }
-        requires other { j < length script.now }
-        requires fits { length self.now.answers.items ≡ length script.now }
-        ensures { result ≡ blocks_at script.now (position_of self.now) i j }
+    /// The answers of all nodes once more. Refused if memory is.
+    fn copied_answers(&self, alloc: Global) -> Result<Vec<Vec<Answer>>, AllocError>
+        ensures { IfOk result (λ answers. lists_of answers.items ≡ lists_of self.now.answers.items) }
     {
-        script[j].0 == script[i].0
-            && match self.answers[j] {
-                Answer::Unissued => j < i,
-                Answer::Waiting => script[j].1.line == script[i].1.line,
-                Answer::Stored | Answer::Got(_) => false,
-            }
-    }
-
-    /// Whether operation j waits at the node of operation i.
-    fn waits_with(&self, script: &[(u8, Op)], i: usize, j: usize) -> bool
-        requires one { i < length script.now }
-        requires other { j < length script.now }
-        requires fits { length self.now.answers.items ≡ length script.now }
-        ensures { result ≡ waits_with_at script.now (position_of self.now) i j }
-    {
-        script[j].0 == script[i].0 && matches!(self.answers[j], Answer::Waiting)
-    }
-
-    /// Whether operation i can be issued next.
-    fn may_issue(&self, script: &[(u8, Op)], window: usize, i: usize) -> bool
-        requires one { i < length script.now }
-        requires fits { length self.now.answers.items ≡ length script.now }
-        ensures { result ≡ may_issue_at script.now window (position_of self.now) i }
-    {
-        let mut waiting = 0;
-        for j in 0..script.len() {
-            if self.blocks(script, i, j) {
-                return false;
-            }
-            if self.waits_with(script, i, j) {
-                waiting += 1;
-            }
+        let mut copied = Vec::with_capacity(alloc, self.answers.len())?;
+        for own in &self.answers {
+            copied.push(Vec::from_slice(alloc, own)?)?;
         }
-        waiting < window
+        Ok(copied)
     }
 
-    /// The same with operation i issued. Refused if memory is.
-    fn with_issued(&self, alloc: Global, i: usize) -> Result<Standing, AllocError>
-        requires { i < length self.now.answers.items }
+    /// The same with the next operation of a node issued. Refused if memory is.
+    fn with_issued(&self, alloc: Global, n: usize) -> Result<Standing, AllocError>
+        requires { n < length self.now.answers.items }
         ensures { IfOk result
-            (λ standing. position_of standing ≡ with_issued_at (position_of self.now) i) }
+            (λ standing. position_of standing ≡ with_issued_at (position_of self.now) n) }
     {
-        let mut answers = Vec::from_slice(alloc, &self.answers)?;
-        answers[i] = Answer::Waiting;
+        let mut answers = self.copied_answers(alloc)?;
+        answers[n].push(Answer::Waiting)?;
         let words = Vec::from_slice(alloc, &self.words)?;
         Ok(Standing { answers, words })
     }
 
-    /// The same with operation i performed. Refused if memory is.
-    fn with_performed(&self, alloc: Global, op: Op, i: usize) -> Result<Standing, AllocError>
-        requires one { i < length self.now.answers.items }
+    /// The same with operation i of a node performed. Refused if memory is.
+    fn with_performed(
+        &self,
+        alloc: Global,
+        op: Op,
+        n: usize,
+        i: usize,
+    ) -> Result<Standing, AllocError>
+        requires node { n < length self.now.answers.items }
+        requires own { i < length (answers_of (position_of self.now) n) }
         requires word { word_place op < length self.now.words.items }
         ensures { IfOk result
-            (λ standing. position_of standing ≡ with_performed_at op (position_of self.now) i) }
+            (λ standing. position_of standing ≡ with_performed_at op (position_of self.now) n i) }
     {
         let place = usize::from(op.line) * WORDS_PER_LINE + usize::from(op.word);
         let (word, reply) = effect(op, self.words[place]);
-        let mut answers = Vec::from_slice(alloc, &self.answers)?;
-        answers[i] = answer_of(reply);
+        let mut answers = self.copied_answers(alloc)?;
+        answers[n][i] = answer_of(reply);
         let mut words = Vec::from_slice(alloc, &self.words)?;
         words[place] = word;
         Ok(Standing { answers, words })
     }
 
-    /// Operation i comes one step further, or can't. Refused if memory is.
+    /// Operation i of node n comes one step further: it is issued, or performed. None if it can't. Refused if memory is.
     #[tactic(auto, unfolding(crate::specs::Positions::step_at))]
     pub fn step(
         &self,
         alloc: Global,
-        script: &[(u8, Op)],
+        operations: &[Vec<Op>],
         window: usize,
+        n: usize,
         i: usize,
     ) -> Result<Option<Standing>, AllocError>
-        requires one { i < length script.now }
-        requires fits { Fits script.now (position_of self.now) }
+        requires fits { Fits (lists_of operations.now) (position_of self.now) }
+        requires node { n < length operations.now }
+        requires own { i < length (own_of (lists_of operations.now) n) }
         ensures { IfOk result (λ next. option_map position_of next
-            ≡ step_at script.now window (position_of self.now) i) }
+            ≡ step_at (lists_of operations.now) window (position_of self.now) n i) }
     {
-        match self.answers[i] {
-            Answer::Unissued => {
-                if self.may_issue(script, window, i) {
-                    Ok(Some(self.with_issued(alloc, i)?))
+        let own = &operations[n];
+        let answers = &self.answers[n];
+        match answers.get(i) {
+            None => {
+                if may_issue(own, answers, window, i) {
+                    Ok(Some(self.with_issued(alloc, n)?))
                 } else {
                     Ok(None)
                 }
             }
-            Answer::Waiting => Ok(Some(self.with_performed(alloc, script[i].1, i)?)),
-            Answer::Stored | Answer::Got(_) => Ok(None),
+            Some(Answer::Waiting) => Ok(Some(self.with_performed(alloc, own[i], n, i)?)),
+            Some(Answer::Stored | Answer::Got(_)) => Ok(None),
         }
     }
 }

@@ -1,21 +1,15 @@
--- One more operation comes a step further, or can't.
-use Rattle.std.proofs.Common.{◌≡◌, ◌++◌, ◌∷◌, [], map, Some, None, ap, sym, ◌∙◌, rules}
-use Rattle.std.specs.Prelude.{option_map}
-use Rattle.sci_orders.specs.Positions.{position_of, step_at}
-use Rattle.sci_orders.proofs.Places.{gives_none, gives_some}
-use Rattle.sci_orders.proofs.levels.push_steps.Goals.{in-Some+in_ok-push, in_default}
+-- One node more takes a step.
+use Rattle.std.proofs.Common.{◌++◌, map, List, append_assoc, sym, ap, ◌∙◌}
+use Rattle.std.specs.List.{flat_map, range_with_len}
+use Rattle.sci_orders.specs.Positions.{Position, lists_of, position_of, steps_of}
+use Rattle.sci_orders.proofs.Places.{flat_more}
 use Rattle.sci_orders.proofs.levels.push_steps.Goals as goal
 
-pub loop-i-preserved : goal.loop-i-preserved
-loop-i-preserved c =
-    let f = step_at c.args.script.now c.args.window (position_of c.args.standing.now) in
+pub loop-n-preserved : goal.loop-n-preserved
+loop-n-preserved c =
+    let f = steps_of (lists_of c.args.operations.now) c.args.window (position_of c.args.standing.now) in
     let first = map position_of c.args.next.now.items in
-    elim c.match-branch-2.branch [
-      | in-Some+in_ok-push w ↦
-          let is : f c.loop-i.i ≡ Some (position_of w.in-Some.further) = sym c.in_ok-further.ensures ∙ ap (option_map position_of) w.in-Some.is in
-          let pushed : w.push.new.self.items ≡ c.loop-i.next.items ++ w.in-Some.further ∷ [] = search rules in
-          rw w.next-is (gives_some f position_of c.loop-i.i c.loop-i.next.items w.push.new.self.items first w.in-Some.further is c.loop-i.invariant pushed)
-      | in_default w ↦
-          let is : f c.loop-i.i ≡ None = sym c.in_ok-further.ensures ∙ ap (option_map position_of) w.in_default.is in
-          rw w.next-is (gives_none f position_of c.loop-i.i c.loop-i.next.items first is c.loop-i.invariant)
-    ]
+    let before = flat_map f (range_with_len 0 c.loop-n.n) in
+    c.in_ok-push_steps_of.ensures
+    ∙ (ap (λ (ps : List Position). ps ++ f c.loop-n.n) c.loop-n.invariant
+    ∙ (append_assoc first before (f c.loop-n.n) ∙ ap (λ (ps : List Position). first ++ ps) (sym (flat_more f c.loop-n.n))))
