@@ -10,7 +10,8 @@ use Rattle.sci_core.proofs.Settling.{Drains.{can_drain}, Emptying.{next_lowers},
 use Rattle.sci_core.proofs.Settling.Rounds.{rounds}
 use Rattle.sci_core.proofs.WellFormed.WellFormedSteps.{reachable, reached_stepping}
 use Rattle.sci_orders.specs.{Plain.{AreAllowed, Plain, plain_of, plain_run}, Witness.{is_seen, round_with, schedule_of, seen_from}}
-use Rattle.sci_orders.proofs.{Sound.{events_sound}, Turns.{IsIdle, Passes, order_passes, passes_append, passes_hidden, passes_none, round_passes, round_quiet, round_reached}}
+use Rattle.sci_orders.proofs.Sound.{events_sound}
+use Rattle.sci_orders.proofs.Turns.{IsIdle, Passes, order_passes, passes_append, passes_hidden, passes_none, round_passes, round_quiet, round_reached}
 use Rattle.sci_words.specs.declared.event.Event.TheVariants as event
 use Rattle.sci_words.specs.declared.event.AskKind.TheVariants as kind
 

@@ -6,7 +6,8 @@ use Rattle.std.proofs.lemmas.List.FromFn.{get_or-range_with_len, length-range_wi
 use Rattle.std.specs.{Prelude.{IfSome}, List.{All, Contains, cons_option, filter_map, range_with_len}}
 use Rattle.sci_orders.specs.declared.standing.Answer.{Answer}
 use Rattle.sci_orders.specs.declared.standing.Answer.TheVariants as answer
-use Rattle.sci_orders.specs.Positions.{AreReachedIn, AreStepsFrom, AreWithin, Fits, IsReachedIn, Operations, Position, answers_of, may_issue_next, opening_position}
+use Rattle.sci_orders.specs.Positions.{AreReachedIn, AreStepsFrom, AreWithin, Fits, IsReachedIn, Operations, Position, answers_of, may_issue_next}
+use Rattle.sci_orders.specs.Positions.{opening_position}
 use Rattle.sci_orders.specs.Positions.{operation_at, own_of, step_as, step_at, steps_from, steps_of, with_issued_at}
 use Rattle.sci_orders.proofs.Keeping.{contains_flat, contains_here, contains_there, contains_cases, contains_none, flat_contains}
 use Rattle.sci_orders.proofs.{Changes.{issued_fits, list_below, performed_fits}, Stands.{opening_fits}}

@@ -24,7 +24,8 @@ use Rattle.sci_core.proofs.WellFormed.WellFormedSteps.{is_size, reachable}
 use Rattle.sci_cache.specs.Line.{untouched}
 use Rattle.std.proofs.Common.{◌*◌, nat_lt}
 use Rattle.std.proofs.lemmas.Bool.{ltb-true}
-use Rattle.sci_orders.specs.Plain.{AreAllowed, Plain, can_issue, opening_plain, plain_of, plain_run, plain_step, plain_stepping, waits_at, with_issued, with_performed}
+use Rattle.sci_orders.specs.Plain.{AreAllowed, Plain, can_issue, opening_plain, plain_of, plain_run, plain_step, plain_stepping, waits_at, with_issued}
+use Rattle.sci_orders.specs.Plain.{with_performed}
 use Rattle.sci_core.specs.Settling.{AreMade}
 use Rattle.sci_orders.specs.Witness.{any_event, is_seen, round_of, round_with, schedule_of, seen, seen_from, turn_of}
 use Rattle.sci_orders.proofs.{Plains.{can_issue_is, step_is, waits_is}, Sound.{events_sound, plain_opening}}

@@ -1,9 +1,9 @@
--- What of a schedule is seen from outside, and a schedule for each order.
-use Rattle.std.specs.Prelude.{◌≡◌, ◌<◌, ◌≤◌, ◌==◌, count_by, IsTrue, ℕ, ◌%◌, ◌&&◌, Bool, true, false, if◌then◌else◌, List, [], ◌∷◌, ◌++◌, is_some}
-use Rattle.sci_words.specs.declared.event.{AskKind.{AskKind}, Event.{Event}}
-use Rattle.sci_history.specs.{Oracle.{Issue, oracle_entries, oracle_last}}
-use Rattle.std.specs.List.{AllByRecursion}
-use Rattle.sci_words.specs.{declared.limits.TheConstants.{WORDS_PER_LINE}, Operation.{has_words}}
+-- What is seen of a schedule from outside, and a schedule for each order.
+use Rattle.std.specs.{Prelude.{◌≡◌, ◌<◌, ◌≤◌, ◌==◌, ◌%◌, ◌&&◌, ◌++◌, ℕ, Bool, true, false, if◌then◌else◌}, List.{AllByRecursion}}
+use Rattle.std.specs.Prelude.{IsTrue, List, [], ◌∷◌, count_by, is_some}
+use Rattle.sci_words.specs.declared.{event.{AskKind.{AskKind}, Event.{Event}}, limits.TheConstants.{WORDS_PER_LINE}}
+use Rattle.sci_words.specs.Operation.{has_words}
+use Rattle.sci_history.specs.Oracle.{Issue, oracle_entries, oracle_last}
 use Rattle.sci_core.specs.{Core.{Core, along, opening, stepping, run}, Done.{done}, Sharing.{last_of}, Size.{Size}}
 use Rattle.sci_orders.specs.Plain.{AreAllowed, opening_plain, plain_done, plain_run}
 use Rattle.sci_words.specs.declared.event.Event.TheVariants as event
@@ -15,11 +15,13 @@ any_event e = true
 
 -- ---- what is seen
 
+-- an Issue or a Perform
 abbrev pub is_seen : Event → Bool
 is_seen (event.Issue n op) = true
 is_seen (event.Perform n line) = true
 is_seen _ = false
 
+-- the event, if it is one of these and is enabled
 abbrev pub seen_at : Core → Event → List Event
 seen_at core e = if is_seen e && is_some (stepping core e) then e ∷ [] else []
 
@@ -45,13 +47,14 @@ abbrev pub turn_of : Size → Event → List Event
 turn_of size (event.Perform n line) = round_of size n line kind.Mread ++ (event.Perform n line ∷ round_of size n line kind.Wback)
 turn_of size e = e ∷ []
 
+-- a schedule for an order: each Issue as it is, and nine events for each Perform
 abbrev pub schedule_of : Size → List Event → List Event
 schedule_of size [] = []
 schedule_of size (e ∷ order) = turn_of size e ++ schedule_of size order
 
 -- ---- what a schedule and an order have in common
 
--- the order is possible for one memory of one thread, which gives the entries and the last contents of the schedule
+-- one memory of one thread allows the order, and makes the entries and the last contents of the schedule of it
 pub record IsExplainedBy (size : Size) (schedule order : List Event) : Type 0 where
   pub allowed : AreAllowed (opening_plain size) order
   pub done : done size schedule ≡ plain_done (opening_plain size) order
@@ -76,7 +79,7 @@ pub record AreFor (size : Size) (script : List Issue) : Type 0 where
   pub each : AllByRecursion (IsFor size) script
   pub few : (n : ℕ) → count_by (λ issue. issue.0 == n) script ≤ size.limit
 
--- what a schedule does in which a script's operations are issued and performed one after another: what the oracle does
+-- a schedule issues and performs a script's operations one after another, and makes the oracle's entries and last contents
 pub record IsOracleRun (size : Size) (script : List Issue) (schedule : List Event) : Type 0 where
   pub seen : seen size schedule ≡ one_by_one script
   pub done : done size schedule ≡ oracle_entries size.lines script
