@@ -1,0 +1,23 @@
+-- One of a list of lists is changed.
+use Rattle.std.proofs.Common.{◌≡◌, ℕ, ◌<◌, List, [], length, set, get_or, sym, ap, ◌∙◌, arith}
+use Rattle.std.proofs.lemmas.List.{get_or-map, length-map, map-set}
+use Rattle.std.specs.Prelude.{Vec}
+use Rattle.sci_orders.specs.Positions.{lists_of}
+
+abbrev items_of : {X Z : Type 0} → Vec X Z → List X
+items_of vec = vec.items
+
+pub own_is : {X Z : Type 0} (vecs : List (Vec X Z)) (n : ℕ) (own : Vec X Z) → n < length vecs → own ≡ get_or vecs n own
+    → get_or (lists_of vecs) n [] ≡ own.items
+own_is vecs n own lt is = get_or-map items_of vecs n own [] lt ∙ ap items_of (sym is)
+
+pub list_changed : {X Z : Type 0} (old copied : List (Vec X Z)) (n : ℕ) (own new : Vec X Z) (f : List X → List X) → lists_of copied ≡ lists_of old
+    → n < length old → own ≡ get_or copied n own → new.items ≡ f own.items
+    → lists_of (set copied n new) ≡ set (lists_of old) n (f (get_or (lists_of old) n []))
+list_changed {X = X} old copied n own new f same lt is then_ =
+    let long_old = length-map old items_of in
+    let long_copied = length-map copied items_of in
+    let long : length (lists_of copied) ≡ length (lists_of old) = ap (λ (xs : List (List X)). length xs) same in
+    map-set items_of copied n new
+    ∙ (ap (λ (xs : List X). set (lists_of copied) n xs) (then_ ∙ ap f (sym (own_is copied n own (omega arith) is)))
+    ∙ ap (λ (xs : List (List X)). set xs n (f (get_or xs n []))) same)

@@ -1,0 +1,13 @@
+-- Two steps for each operation so far were taken.
+use Rattle.std.proofs.Common.{◌*◌, ◌+◌, map, take}
+use Rattle.sci_orders.specs.Positions.{AreReachedIn, lists_of, operation_count, position_of}
+use Rattle.sci_orders.proofs.levels.last_standings.Given as goal
+
+abbrev pub invariant-loop-own : goal.invariant-loop-own
+invariant-loop-own l =
+    AreReachedIn l.lines (lists_of l.operations) l.window (operation_count (take l.own-index (lists_of l.operations)) * 2) (map position_of l.level.items)
+
+abbrev pub invariant-loop-operation : goal.invariant-loop-operation
+invariant-loop-operation l =
+    AreReachedIn l.lines (lists_of l.operations) l.window
+    ((operation_count (take l.own-index (lists_of l.operations)) + l._operation-index) * 2) (map position_of l.level.items)

@@ -1,0 +1,4 @@
+pub mod Plain
+pub mod Witness
+pub mod Positions
+pub mod Orders

@@ -1,0 +1,4 @@
+pub mod Words
+pub mod Written
+pub mod Cycles
+pub mod Traces
