@@ -1,5 +1,5 @@
 -- Scripts: what they say, and the one text of each.
-use Rattle.std.specs.Prelude.{◌≡◌, ℕ, ◌<◌, ◌≤◌, ◌==◌, List, [], ◌∷◌, ◌++◌, length, codes, All, count_by, slice_index}
+use Rattle.std.specs.Prelude.{◌≡◌, ℕ, ◌<◌, ◌≤◌, ◌==◌, List, [], ◌∷◌, ◌++◌, length, codes, All, count_by, slice_index, filter, map}
 use Rattle.std.specs.List.{flat_map}
 use Rattle.sci_words.specs.declared.{limits.TheConstants.{MAX_NODES, MAX_OPERATIONS, WORDS_PER_LINE}, operation.Op.{Op}}
 use Rattle.sci_words.specs.Extent.{AreWithinLimits}
