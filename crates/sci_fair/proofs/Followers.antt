@@ -1,9 +1,9 @@
 -- A Purge that is under way finds an entry that follows: the node that purges leads its list, and the next one follows.
-use Rattle.std.proofs.Common.{◌≡◌, ◌<◌, ℕ, Bool, true, List, [], ◌∷◌, Option, Some, None, refl, sym, ap, ◌∙◌, inl, inr, arith}
+use Rattle.std.proofs.Common.{◌≡◌, ◌<◌, ℕ, Bool, true, List, [], ◌∷◌, Option, Some, None, sym, ap, ◌∙◌, inl, inr, arith}
 use Rattle.sci_words.specs.declared.stamped.Stamped.{Stamped}
 use Rattle.sci_packets.specs.declared.body.Body.{Body}
-use Rattle.sci_home.specs.{declared.state.HomeState.{HomeState}}
-use Rattle.sci_cache.specs.{State.{CacheState, Asking, Joining, FreshJoining, Below, Purging, Claiming, Clearing, Returning, Rolling}, Member.{link_of}}
+use Rattle.sci_home.specs.declared.state.HomeState.{HomeState}
+use Rattle.sci_cache.specs.{State.{CacheState, Purging}, Member.{link_of}}
 use Rattle.sci_history.specs.Seen.{IsAmong}
 use Rattle.sci_core.specs.{Core.{Core}, Reached.{IsReached}, Shape.{follows, state_at}, SharingList.{LinkedFrom}}
 use Rattle.sci_core.specs.Sharing.{home_at, answer_to as told}
@@ -11,7 +11,6 @@ use Rattle.sci_core.proofs.{ReachedLaws.{any_shaped}, WellFormed.WellFormedSteps
 use Rattle.sci_core.proofs.Shape.{Chains.{next_of}, Shapes.{IsShaped}, ShapeSteps.{view_of}, Standings.{Coming, Following, Leading, role_of}}
 use Rattle.sci_core.proofs.Shape.{Led.{AreFollowing, IsLed, following_in, fresh_in, role_in, roles_differ}, Views.{View, link_in}}
 use Rattle.sci_home.specs.declared.state.HomeState.TheVariants as at
-use Rattle.sci_packets.specs.declared.body.Body.TheVariants as body
 
 -- ---- behind the leader stands one that follows
 
@@ -46,18 +45,7 @@ shaped_next view (at.Fresh p d) c ns x y is leads link =
 shaped_next view (at.Gone p) c ns x y is leads link = grind (arith, led_next)
 
 follower_state : (state : CacheState) (answer : Option Body) → role_of state answer ≡ Some Following → follows state ≡ true
-follower_state (Below f b c) answer is = refl
-follower_state (Rolling f b c) answer is = refl
-follower_state Asking (Some (body.Fdata None c)) is = cc
-follower_state Asking (Some (body.Fdata (Some p) c)) is = cc
-follower_state (Joining p sent) (Some (body.Cdata c)) is = cc
-follower_state (FreshJoining p sent d) (Some (body.Cdata c)) is = cc
-follower_state (Purging q c) (Some body.Busy) is = cc
-follower_state (Claiming f c) (Some body.Busy) is = cc
-follower_state (Clearing c) (Some body.Busy) is = cc
-follower_state (Returning c) (Some body.Busy) is = cc
-follower_state _ None is = cc
-follower_state _ (Some _) is = cc
+follower_state state answer is = grind arith
 
 pub purge_finds : (core : Core) (line k q : ℕ) (c : Stamped) → IsReached core → line < core.size.lines → state_at core line k ≡ Purging q c
     → told core k line ≡ None → follows (state_at core line q) ≡ true

@@ -2,8 +2,8 @@
 -- packet from the lane of requests from j, and no other node has an event. So the lane is found as it was at the start.
 use Rattle.std.proofs.Common.{◌≡◌, ◌≢◌, ◌<◌, ◌/◌, ◌%◌, ◌⊎◌, ℕ, zero, suc, arith, List, [], ◌∷◌, ◌++◌}
 use Rattle.std.proofs.Common.{Option, Some, None, refl, sym, ap, subst, ◌∙◌, inl, inr, get_or-set_other}
-use Rattle.std.proofs.lemmas.{Bool.{cases_eq}}
-use Rattle.std.specs.{List.{AllByRecursion}}
+use Rattle.std.proofs.lemmas.Bool.{cases_eq}
+use Rattle.std.specs.List.{AllByRecursion}
 use Rattle.sci_words.specs.declared.event.Event.{Event}
 use Rattle.sci_cache.specs.Cache.{Letter}
 use Rattle.sci_core.specs.declared.lane.LaneKind.{TheVariants.{Requests, Answers}}

@@ -2,14 +2,14 @@
 -- a request, no line of its node joins, so the node has no Cread under way. What a lane gains elsewhere is no such request.
 use Rattle.std.proofs.Common.{◌≡◌, ◌<◌, ◌*◌, ◌%◌, ◌⊎◌, ℕ, zero, suc, Bool, true, false, cond, arith, List, [], ◌∷◌, ◌++◌, filter, get_or, set}
 use Rattle.std.proofs.Common.{Option, Some, None, refl, sym, ap, subst, ◌∙◌, inl, inr, replicate, rules}
-use Rattle.std.proofs.lemmas.{Bool.{cases_Bool, cases_lt}, List.{get_or_past, Elements.{All-weaker, filter-append, recursion_from_All}}}
+use Rattle.std.proofs.lemmas.{Bool.{cases_Bool}, List.{get_or_past, Elements.{All-weaker, filter-append, recursion_from_All}}}
 use Rattle.std.specs.{Prelude.{IfSome, option_to_list}, List.{AllByRecursion, flat_map}}
 use Rattle.sci_history.proofs.Order.{all-append}
 use Rattle.sci_words.specs.declared.event.{AskKind.{AskKind}, Event.{Event}}
 use Rattle.sci_history.specs.declared.entry.Entry.{Entry}
 use Rattle.sci_packets.specs.{declared.body.Body.{Body}, Table.{is_request}}
 use Rattle.sci_cache.specs.State.{CacheState}
-use Rattle.sci_cache.specs.{Asking.{Asked, asking}, Kinds.{joins}, Line.{LineState, ask_or_fault, untouched}, Cache.{Letter, cache_asked, line_of}}
+use Rattle.sci_cache.specs.{Asking.{Asked, asking}, Kinds.{joins}, Line.{LineState, ask_or_fault}, Cache.{Letter, cache_asked, line_of}}
 use Rattle.sci_core.specs.declared.lane.LaneKind.{LaneKind, TheVariants.{Requests, Answers}}
 use Rattle.sci_core.specs.Core.{Core, Side, Idle, Changes, Sends, Takes, changes, lane_at, lane_of, lane_place, node_at, node_of, opening, performs, sends}
 use Rattle.sci_core.specs.Core.{sent_by, side, step_by, stepping, with_node}
@@ -20,12 +20,11 @@ use Rattle.sci_core.proofs.Basics.{FlatMaps.{around}, Lists.{at_set}, Options.{i
 use Rattle.sci_core.proofs.{Settling.Drains.{some_node}, Step.{Places.{place_from, place_requests}, Steps.{lane_below}}}
 use Rattle.sci_core.proofs.Tidy.{TidyRuns.{reached_tidy}, TidySteps.{about_from, request_asker}}
 use Rattle.sci_core.proofs.WellFormed.{Parts.{RepliesWell, part_replying}, WellFormedSteps.{reached_well}}
-use Rattle.sci_policy.specs.declared.want.Want.{TheVariants.{Ask}}
+use Rattle.sci_policy.specs.declared.want.Want.TheVariants.{Ask}
 use Rattle.sci_policy.specs.{Lines.{state_on}, Policy.{PolicyOf, asks_home_to_change, is_cread, next_wanted}}
 use Rattle.sci_policy.proofs.{PolicyLaws.{joins_first}, Targets.{asked_target}}
 use Rattle.sci_turn.{specs.Moves.{IsOwn}, proofs.Working.{stepped}}
-use Rattle.sci_fair.{specs.Lanes.{AreOpen, IsOpen, IsWork, changes_list}}
-use Rattle.sci_packets.specs.declared.body.Body.TheVariants as body
+use Rattle.sci_fair.specs.Lanes.{AreOpen, IsOpen, IsWork, changes_list}
 use Rattle.sci_words.specs.declared.event.AskKind.TheVariants as kind
 use Rattle.sci_words.specs.declared.event.Event.TheVariants as event
 
@@ -70,8 +69,7 @@ cread_joins : (home : ℕ) (state : CacheState) (letter : Letter) → IsSentIn h
 cread_joins home state letter sent cread = grind arith
 
 cread_asks : (b : Body) → is_cread b ≡ true → is_request b ≡ true
-cread_asks body.Cread e = refl
-cread_asks _ e = cc
+cread_asks b e = search rules
 
 none_of : (b : Bool) → (b ≡ true → ⊥) → b ≡ false
 none_of true never = absurd (never refl)
@@ -143,12 +141,7 @@ wanted_plain policy node joining line _ below joined wants = refl
 
 joins_inside : (core : Core) (n line : ℕ) → IsReached core → n < core.size.nodes → joins (state_on (node_at core n) line) ≡ true
     → line < lines_of (node_at core n)
-joins_inside core n line reached some joined = elim (cases_lt line (lines_of (node_at core n))) [
-  | inl below ↦ below
-  | inr past ↦ (let none : joins (state_on (node_at core n) line) ≡ false =
-      ap (λ (l : LineState). joins l.state) (get_or_past (node_at core n).cache.lines line untouched past) in
-      let clash : true ≡ false = sym joined ∙ none in cc)
-]
+joins_inside core n line reached some joined = grind (arith, get_or_past)
 
 ask_fits : (core : Core) (policy : PolicyOf) (n line : ℕ) (k : AskKind) (sent : NodeOf × Letter) → IsReached core → n < core.size.nodes
     → node_asking (node_at core n) line k ≡ Some sent → next_wanted policy (node_at core n) ≡ Some (Ask line k) → sent.1.target < core.size.nodes
@@ -167,17 +160,14 @@ ask_fits core policy n line k sent reached some asks wants to =
 -- ---- each step
 
 answer_plain : (b : Body) → is_request b ≡ false → changes_list b ≡ false
-answer_plain body.Claim e = cc
-answer_plain body.Clear e = cc
-answer_plain (body.Wback c) e = cc
-answer_plain _ e = refl
+answer_plain b e = search rules
 
 none_there : (count place : ℕ) → get_or {A = List Letter} (replicate count []) place [] ≡ []
 none_there zero place = refl
 none_there (suc count) zero = refl
 none_there (suc count) (suc place) = none_there count place
 
--- what a side sends leaves its lane opened
+-- what a side sends leaves its lane open
 abbrev SideFits : Core → ℕ → Side → Type 0
 SideFits core n (Sends kind next letter) = (changes_list letter.body ≡ false) ⊎ NoCread (lane_of core kind n letter.target)
 SideFits core n _ = Unit {0}
@@ -237,7 +227,7 @@ step_open core new e reached opened wanted steps =
     let s = side (node_at core (node_of e)) e in
     side_open core new (node_of e) s opened (event_fits core e reached some wanted) (stepped core new (node_of e) e s some refl refl steps)
 
--- an event of a turn is one
+-- an ask of a turn is one
 turn_wanted : (n : ℕ) (before : PolicyOf) (core : Core) (e : Event) (after : PolicyOf) → IsOwn n before core e after → IsWanted core e
 turn_wanted n before core (event.Ask m line k) after own =
     (before, subst (λ (i : ℕ). next_wanted before (node_at core i) ≡ Some (Ask line k)) (sym own.kind.own) own.decides.0)

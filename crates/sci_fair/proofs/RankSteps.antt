@@ -1,5 +1,5 @@
 -- No event of a turn raises the rank of any node's line, but for the exceptions. It changes one node by one row of a table.
-use Rattle.std.proofs.Common.{◌≡◌, ◌<◌, ℕ, Bool, true, false, ◌&&◌, ◌||◌, if◌then◌else◌, List, Option, Some, None, refl, sym, ap, subst, arith}
+use Rattle.std.proofs.Common.{◌≡◌, ◌<◌, ℕ, Bool, true, false, ◌&&◌, ◌||◌, if◌then◌else◌, List, Option, Some, None, refl, sym, ap, subst, arith, rules}
 use Rattle.std.proofs.Common.{◌∙◌, inl, inr, get_or-set_other}
 use Rattle.std.proofs.lemmas.Bool.{cases_eq}
 use Rattle.std.specs.Prelude.{IfSome, is_some, slice_get}
@@ -7,14 +7,13 @@ use Rattle.sci_words.specs.{declared.event.{AskKind.{AskKind}, Event.{Event}}, O
 use Rattle.sci_packets.specs.declared.body.Body.{Body}
 use Rattle.sci_cache.specs.{State.{CacheState}, Asking.{Asked}}
 use Rattle.sci_cache.specs.{Line.{LineState, ask_or_fault, line_in, untouched}, Cache.{Letter, cache_asked, line_of, with_line}}
-use Rattle.sci_core.specs.declared.{lane.LaneKind.{TheVariants.{Answers, Requests}}, pending.Pending.{Pending}}
-use Rattle.sci_core.specs.Core.{Core, node_at, side, stepping}
-use Rattle.sci_core.specs.Core.{with_node}
+use Rattle.sci_core.specs.declared.{lane.LaneKind.TheVariants.{Answers, Requests}, pending.Pending.{Pending}}
+use Rattle.sci_core.specs.Core.{Core, node_at, side, stepping, with_node}
 use Rattle.sci_core.specs.Node.{NodeOf, asked_by, no_node, node_accepting, node_asking, node_refusing, node_replying, node_serving, pending_on}
 use Rattle.sci_core.specs.Reached.{IsReached}
 use Rattle.sci_core.proofs.Basics.{Lists.{at_place_set}, Options.{if_below, of_some}}
 use Rattle.sci_core.proofs.Step.NodeSides.{AcceptedAs, At_home, In_cache, RefusedAs, ServedAs, accept_as, refuse_as, reply_as, serve_as}
-use Rattle.sci_policy.specs.declared.{decision.Decision.{Decision}}
+use Rattle.sci_policy.specs.declared.decision.Decision.{Decision}
 use Rattle.sci_policy.specs.{Lines.{is_head, is_maker_of, state_on}, Turn.{decided_event}}
 use Rattle.sci_policy.specs.Policy.{PolicyOf, decided, is_cread}
 use Rattle.sci_turn.specs.Moves.{IsOwn, taking_event}
@@ -34,25 +33,20 @@ pub record RankKept (old new : NodeOf) : Type 0 where
 kept_itself : (node : NodeOf) → RankKept node node
 kept_itself node = record { work = λ line. refl; rank = λ line. same_state (work_on node line) (state_on node line) }
 
--- one line gets another state, or line
+-- one line gets another state
 line_kept : (node : NodeOf) (line : ℕ) (new : LineState) → never_rises (work_on node line) (state_on node line) new.state ≡ true → (k : ℕ)
     → never_rises (work_on node k) (state_on node k) (line_of (with_line node.cache line new) k).state ≡ true
 line_kept node line new lower =
     at_place_set (λ (k : ℕ) (l : LineState). never_rises (work_on node k) (state_on node k) l.state ≡ true) node.cache.lines line new untouched
     (λ k. same_state (work_on node k) (state_on node k)) lower
 
--- ---- what a served Cread was
+-- ---- no Cread is served for the head of a pending maker
 
 held_bits : (cread drains head : Bool) → (cread && (drains || (head && true))) ≡ false → (cread && head) ≡ false
-held_bits true true head is = cc
-held_bits true false true is = cc
-held_bits true false false is = refl
-held_bits false drains head is = refl
+held_bits cread drains head is = search rules
 
 served_if : (keep refuse : Bool) → (if keep then decision.Keep else if refuse then decision.Refuse else decision.Serve) ≡ decision.Serve → refuse ≡ false
-served_if true refuse is = cc
-served_if false true is = cc
-served_if false false is = refl
+served_if keep refuse is = search rules
 
 held_work : (b cread drains : Bool) (s : CacheState) (request : Body) → is_cread request ≡ cread → (cread && (drains || (is_head s && b))) ≡ false
     → IsHeldFor (Some b) s request
@@ -72,8 +66,7 @@ serve_held policy node request serves = grind (arith, held_by, served_if)
 
 served_kept : (node next : NodeOf) (request : Letter) → IsHeldFor (work_on node request.line) (state_on node request.line) request.body
     → ServedAs node request next → RankKept node next
-served_kept node next request held (At_home served home is made) = subst (RankKept node) made
-    (record { work = λ line. refl; rank = λ line. same_state (work_on node line) (state_on node line) })
+served_kept node next request held (At_home served home is made) = grind (arith, same_state)
 served_kept node next request held (In_cache served is made) =
     let lower = of_some (λ (r : CacheState × Body). never_rises (work_on node request.line) (state_on node request.line) r.0 ≡ true) _ served is
     (serving_keeps (work_on node request.line) (state_on node request.line) request.source request.body held) in
@@ -107,9 +100,7 @@ all_kept core new n next reached some parts kept m = elim (cases_eq m n) [
 
 -- the request that a policy serves
 decided_serve : (d : Decision) (from n : ℕ) → decided_event d from n ≡ Some (event.Serve from n) → d ≡ decision.Serve
-decided_serve decision.Keep from n is = cc
-decided_serve decision.Refuse from n is = cc
-decided_serve decision.Serve from n is = refl
+decided_serve d from n is = search rules
 
 serves_it : (policy : PolicyOf) (node : NodeOf) (from n : ℕ) (letter : Letter) (waits : Bool)
     → (if waits then None else decided_event (decided policy node letter) from n) ≡ Some (event.Serve from n) → decided policy node letter ≡ decision.Serve

@@ -1,15 +1,13 @@
 -- What a policy asks for suits what is pending on its line, and that can't be performed.
 use Rattle.std.proofs.Common.{◌≡◌, ◌<◌, ◌⊎◌, ℕ, Bool, true, false, if◌then◌else◌, Option, Some, None, refl, sym, ap, subst, ◌∙◌, inl, inr, arith, rules}
-use Rattle.std.proofs.lemmas.Bool.{and_parts, cases_Bool, cases_lt}
-use Rattle.std.proofs.lemmas.{List.{get_or_past}}
+use Rattle.std.proofs.lemmas.{Bool.{and_parts, cases_Bool, cases_lt}, List.{get_or_past}}
 use Rattle.std.specs.{Prelude.{IfSome, IsSome, is_some, option_map, unwrap_or}, Option.{option_or, option_and_then}}
 use Rattle.sci_words.specs.{declared.{event.AskKind.{AskKind}, operation.Op.{Op}}, Operation.{is_maker}}
 use Rattle.sci_words.specs.declared.stamped.Stamped.{Stamped}
 use Rattle.sci_cache.specs.State.{CacheState, Out, Head, FreshHead, Below}
 use Rattle.sci_cache.specs.{Cache.{has_slot}, Kinds.{joins}, Line.{LineState, untouched}, Performing.{Performed, performing}}
-use Rattle.sci_core.specs.declared.pending.Pending.{Pending}
+use Rattle.sci_core.specs.{declared.pending.Pending.{Pending}, Reached.{IsReachedNode}}
 use Rattle.sci_core.specs.Node.{IsPendingOn, NodeOf, lines_of, node_performing, pending_on, performing_pending}
-use Rattle.sci_core.specs.Reached.{IsReachedNode}
 use Rattle.sci_core.proofs.{Basics.Options.{of_some}, History.Pendings.{sole_performs}}
 use Rattle.sci_core.proofs.WellFormed.WellFormedSteps.{any_part, reachable_node}
 use Rattle.sci_policy.specs.declared.want.Want.{Want, TheVariants.{Perform, Ask}}
@@ -17,7 +15,7 @@ use Rattle.sci_policy.specs.Lines.{has_maker, has_pending, is_maker_of, oldest, 
 use Rattle.sci_policy.specs.Policy.{PolicyOf, ask_of, asked_in, contents_wanted, due_wanted, held_back, lacks_slot, next_wanted, operation_asks}
 use Rattle.sci_policy.specs.Policy.{perform_wanted, purge_wanted, read_kind, ruled, send_wanted, slot_for, slot_wanted, ticked}
 use Rattle.sci_policy.proofs.{Found.{oldest_fits, oldest_some}, Wants.{and_then, either, held_enabled, mapped}}
-use Rattle.sci_fair.specs.Rank.{suits, can_perform, work_in, work_on}
+use Rattle.sci_fair.specs.Rank.{can_perform, suits, work_in, work_on}
 use Rattle.sci_words.specs.declared.event.AskKind.TheVariants as kind
 
 -- ---- what suits
