@@ -266,6 +266,8 @@ pub struct Kinds {
     pub has_sharers: Lines,
     /// FreshHead with a next entry.
     pub has_fresh_sharers: Lines,
+    /// FreshHead with a next entry, or Claiming.
+    pub can_be_due: Lines,
     pub joins: Lines,
     pub must_send: Lines,
     pub gives_way: Lines,
@@ -278,7 +280,9 @@ impl Kinds {
         self.taken.set(line, !matches!(held, Held::Out));
         self.drains.set(line, has_sharers || matches!(held, Held::Purging { .. }));
         self.has_sharers.set(line, has_sharers);
-        self.has_fresh_sharers.set(line, matches!(held, Held::FreshHead { forward: Some(_), .. }));
+        let has_fresh_sharers = matches!(held, Held::FreshHead { forward: Some(_), .. });
+        self.has_fresh_sharers.set(line, has_fresh_sharers);
+        self.can_be_due.set(line, has_fresh_sharers || matches!(held, Held::Claiming { .. }));
         self.joins.set(line, matches!(held, Held::Joining { .. } | Held::FreshJoining { .. }));
         self.must_send.set(
             line,

@@ -44,6 +44,7 @@ impl Policy {
 
     pub fn next(&mut self, node: &mut Node) -> Option<Want> {
         self.draining = self.draining.and(node.kinds.drains);
+        self.due = self.due.and(node.kinds.can_be_due);
         self.patience += 1;
         if self.patience == PATIENCE {
             self.draining = self.draining.or(node.kinds.has_sharers);
@@ -54,9 +55,6 @@ impl Policy {
         match want {
             Some(Want::Perform) => self.patience = 0,
             Some(Want::Ask(line, AskKind::Purge)) => self.draining.set(line, true),
-            Some(Want::Ask(line, AskKind::Claim)) if node.kinds.has_fresh_sharers.has(line) => {
-                self.due.set(line, false);
-            }
             _ => {}
         }
         want
