@@ -1,9 +1,8 @@
 -- Publishing, freeing and beating are events of the machine, and keep the rule.
-use Rattle.std.proofs.Common.{◌≡◌, ◌≢◌, ℕ, suc, ◌+◌, ◌*◌, ◌%◌, ◌^◌, ◌<◌, List, [], ◌∷◌, ◌++◌, length, get_or, set, map, Option, None, Some, refl, sym, ap}
+use Rattle.std.proofs.Common.{◌≡◌, ◌≢◌, ℕ, suc, ◌+◌, ◌*◌, ◌%◌, ◌<◌, List, [], ◌∷◌, ◌++◌, length, get_or, set, map, Option, None, Some, refl, sym, ap}
 use Rattle.std.proofs.Common.{subst, ◌∙◌, arith, mul_assoc}
-use Rattle.std.proofs.lemmas.List.{append-nil, append_assoc, get_or-set_same, get_or-set_other, map_push}
-use Rattle.std.proofs.lemmas.List.Sums.{fold_push}
-use Rattle.std.specs.Prelude.{IsSome, unwrap_or}
+use Rattle.std.proofs.lemmas.List.{get_or-set_same, get_or-set_other, map_push}
+use Rattle.std.specs.Prelude.{IsSome}
 use mathlib.Core.Option.{none}
 use Rattle.atomic_table.specs.Table.{step, Allows}
 use Rattle.sci_words.specs.declared.event.Event.{Event}
@@ -13,7 +12,7 @@ use Rattle.sci_cache.specs.Cache.{Letter, letter_of}
 use Rattle.sci_core.specs.{Size.{Size}, declared.lane.LaneKind.{LaneKind, TheVariants.{Requests, Answers}}}
 use Rattle.sci_core.specs.Node.{NodeOf, no_node, node_accepting, node_refusing, node_serving}
 use Rattle.sci_core.specs.Core.{AreEnabled, Core, node_at, with_node, with_lane, lane_at, lane_of, lane_place, side, node_of, sent_by, taken_from, IsEnabled}
-use Rattle.sci_core.specs.Core.{stepping, step as machine_step, opening, run, Side, Takes, changes, performs, sends}
+use Rattle.sci_core.specs.Core.{stepping, run, Side, Takes, changes, performs, sends}
 use Rattle.sci_core.specs.Reached.{IsReached}
 use Rattle.sci_core.proofs.Step.Places.{place_below, place_from, place_to}
 use Rattle.sci_core.proofs.Step.Stepping.{stepping_changed, stepping_sent, stepping_takes}

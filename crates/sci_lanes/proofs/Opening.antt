@@ -2,15 +2,15 @@
 use Rattle.std.proofs.Common.{◌≡◌, ◌≢◌, ℕ, zero, suc, ◌+◌, ◌-◌, ◌*◌, ◌/◌, ◌%◌, ◌<◌, ◌≤◌, ◌⊎◌, inl, inr, List, [], ◌∷◌, ◌++◌, length, get_or, map, take}
 use Rattle.std.proofs.{Common.{drop, replicate, Some, None, refl, sym, ap, subst, ◌∙◌, arith}, lemmas.Bool.{cases_lt}}
 use Rattle.std.proofs.lemmas.List.{get_or-replicate, get_or_past, length-replicate}
-use Rattle.std.proofs.lemmas.List.FromFn.{get_or-map-range_with_len, map-range_with_len_more}
+use Rattle.std.proofs.lemmas.List.FromFn.{map-range_with_len_more}
 use Rattle.std.specs.{Prelude.{slice_get}, List.{AllByRecursion, range_with_len}}
 use mathlib.Core.Option.{some, some-injective, some-ne-none}
 use lib.ListN.{get_elem?}
 use Rattle.atomic_table.specs.{Table.{Splits, opening as opening_state, Me}, Seated.{TableId}}
 use Rattle.sci_cache.specs.{Cache.{Letter}, Line.{untouched}}
 use Rattle.sci_words.specs.declared.{extent.Extent.{Extent}, limits.TheConstants.{MAX_OPERATIONS}}
-use Rattle.sci_core.specs.{Size.{Size, size_of, IsMachineSize}, Node.{NodeOf, opening_node, no_node}}
-use Rattle.sci_core.specs.{Core.{node_at, lane_at, opening}, Reached.{IsReached}}
+use Rattle.sci_core.specs.{Size.{Size, size_of, IsMachineSize}, Node.{NodeOf, opening_node}}
+use Rattle.sci_core.specs.{Core.{lane_at, opening}, Reached.{IsReached}}
 use Rattle.sci_core.proofs.Schedules.{node_opened}
 use Rattle.sci_lanes.specs.{declared.view.{Part.{Part}, View.{View}}, Cells.{lane_count, word_count}}
 use Rattle.sci_lanes.specs.Shown.{Fits, Whole, me_of, no_outbound, no_inbound, single, opening_part, first_view, IsKnown, HasRead, IsKept}

@@ -1,5 +1,5 @@
 -- What a seat that has one node owes at each step, and what it is after it.
-use Rattle.std.proofs.Common.{◌≡◌, ℕ, List, ◌+◌, ◌%◌, ◌^◌, ◌<◌, ◌⊎◌, inl, inr, true, [], sym, ap, subst, ◌∙◌, arith}
+use Rattle.std.proofs.Common.{◌≡◌, ℕ, List, ◌+◌, ◌<◌, ◌⊎◌, inl, inr, true, [], sym, ap, subst, ◌∙◌, arith}
 use Rattle.std.proofs.lemmas.Bool.{and_from, eq-eqb}
 use mathlib.Core.Option.{none}
 use Rattle.atomic_table.specs.{Table.{Me, step, Allows}, Seated.{TableId}}
