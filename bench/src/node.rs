@@ -266,11 +266,7 @@ pub struct Kinds {
     pub has_sharers: Lines,
     /// FreshHead with a next entry.
     pub has_fresh_sharers: Lines,
-<<<<<<< HEAD
     /// The same, or Claiming.
-=======
-    /// FreshHead with a next entry, or Claiming.
->>>>>>> 81f1757199099007cf17e0628a251f9c87be22a9
     pub can_be_due: Lines,
     pub joins: Lines,
     pub must_send: Lines,
