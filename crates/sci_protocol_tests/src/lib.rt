@@ -23,6 +23,8 @@ mod overtaking_tests;
 #[cfg(test)]
 mod memory_tests;
 #[cfg(test)]
+mod orders_tests;
+#[cfg(test)]
 mod pairs;
 #[cfg(test)]
 mod plain_lists;
