@@ -35,6 +35,8 @@ HEADLINES = {
 OTHERS = {
     "Machine::last": ("sci_core", "machine", "last", "Machine"),
     "run_nodes": ("sci_threads", "running", "run_nodes", None),
+    "each_order_has_a_schedule": ("sci_orders", "laws", "each_order_has_a_schedule", None),
+    "last_standings": ("sci_orders", "levels", "last_standings", None),
 }
 # Main promises: the words for one, the headline or other contract that has it, and the names of its clauses, or of the fields of
 # the records that say it.
@@ -45,6 +47,8 @@ PROMISES = [
     ("So are the logs of stations", "Fabric::finish", ["lawful", "consistent"]),
     ("So are the logs of threads, and they are the script's", "run_nodes", ["named", "whole", "lawful", "consistent"]),
     ("The machine does what the rules of the protocol say", "Machine::run", ["ok"]),
+    ("Each order that one memory allows is that of a schedule", "each_order_has_a_schedule", ["seen"]),
+    ("The search finds the positions to which the steps of a script lead", "last_standings", ["reached"]),
     ("What is written is the oracle's text of the script, and lawful", "oracle", [f"IsOracleOf.{it}" for it in ("good", "read", "written", "lawful")]),
     ("What is written is such a log of the script", "threads", [f"IsThreadsOf.{it}" for it in ("good", "read", "written", "lawful", "consistent", "named", "whole")]),
     ("The logs are those that the input says", "order", ["IsOrderOf.read"]),
@@ -224,7 +228,7 @@ def contract(crate, module, name, owner, clauses):
     lines = lines_of(path)
     start = next(number for number, line in enumerate(lines) if re.match(rf"\s*pub fn {name}\b", line))
     stop = start
-    while lines[stop].strip() != "{":
+    while lines[stop].strip() not in ("{", "{}"):
         stop += 1
     own, is_wanted = [], True
     for number in range(start, stop):

@@ -82,7 +82,7 @@ pub fn last_standings(
     window: usize,
 ) -> Result<Vec<Standing>, AllocError>
     requires { AreWithin lines (lists_of operations.now) }
-    ensures { IfOk result (λ level. AreReachedIn lines (lists_of operations.now) window
+    ensures reached { IfOk result (λ level. AreReachedIn lines (lists_of operations.now) window
         (operation_count (lists_of operations.now) * 2) (map position_of level.items)) }
 {
     let mut level = Vec::new(alloc);

@@ -23,6 +23,8 @@ mod memory_tests;
 #[cfg(test)]
 mod network;
 #[cfg(test)]
+mod orders_tests;
+#[cfg(test)]
 mod overtaking;
 #[cfg(test)]
 mod pairs;

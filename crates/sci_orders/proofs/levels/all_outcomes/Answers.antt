@@ -12,11 +12,11 @@ returns-clause-each c =
     IfOk-weaker c.last_standings.result _ _ (λ outcomes so.
     each_has_run (size_of c.args.extent c.args.limit) (lists_of c.args.operations.now) c.args.window (map position_of outcomes.items) c.requires.size
     c.requires.script so)
-    c.last_standings.ensures
+    c.last_standings.ensures.reached
 
 pub returns-clause-all : goal.returns-clause-all
 returns-clause-all c =
     IfOk-weaker c.last_standings.result _ _ (λ outcomes so. λ schedule runs.
     each_run_among (size_of c.args.extent c.args.limit) (lists_of c.args.operations.now) c.args.window (map position_of outcomes.items) schedule
     c.requires.size c.requires.script so runs)
-    c.last_standings.ensures
+    c.last_standings.ensures.reached
