@@ -1,6 +1,6 @@
-//! The rank of each node's line never rises in turns, so what is real change between two Performs is bounded.
+//! The rank of a node's line, which no event of a turn raises.
 
-ghost use Rattle.std.specs.Prelude.{◌≡◌, ◌<◌, ℕ, Bool, true, false, Option, None, Some, IfSome};
+ghost use Rattle.std.specs.Prelude.{◌≡◌, ◌<◌, ◌≤◌, ℕ, Bool, true, false, Option, None, Some, IfSome};
 ghost use Rattle.sci_words.specs.declared.{event.{AskKind.{AskKind}, Event.{Event}}, stamped.Stamped.{Stamped}};
 ghost use Rattle.sci_packets.specs.declared.body.Body.{Body};
 ghost use Rattle.sci_cache.specs.{Accepting.{accepting}, Asking.{asking}, Serving.{serving}, State.{CacheState, Purging}};
@@ -8,7 +8,7 @@ ghost use Rattle.sci_core.specs.{Core.{Core, node_at, stepping}, Node.{NodeOf, p
 ghost use Rattle.sci_core.specs.{Shape.{follows, state_at}, Sharing.{answer_to}};
 ghost use Rattle.sci_policy.specs.{declared.want.Want.TheVariants.{Ask}, Lines.{state_on}, Policy.{PolicyOf, next_wanted}};
 ghost use Rattle.sci_turn.specs.Moves.{IsOwn};
-ghost use Rattle.sci_fair.specs.Rank.{IsHeldFor, can_perform, never_rises, suits, work_on};
+ghost use Rattle.sci_fair.specs.Rank.{IsHeldFor, can_perform, never_rises, rank, suits, work_on};
 
 /// While a Purge is under way to a node, the node's line is Below or Rolling. So it never answers the Purge as busy.
 pub fn purges_find_followers()
@@ -28,6 +28,12 @@ pub fn tables_never_raise_the_rank()
     ensures ask { (work : Option Bool) (state : CacheState) (kind : AskKind)
         → suits work kind ≡ true → can_perform work state ≡ false
         → IfSome (asking state kind) (λ asked. never_rises work state asked.next ≡ true) }
+{}
+
+/// No rank is above 46, and an Issue lowers the rank of its line, whatever the state.
+pub fn ranks_are_bounded()
+    ensures most { (work : Option Bool) (state : CacheState) → rank work state ≤ 46 }
+    ensures issue { (maker : Bool) (state : CacheState) → rank (Some maker) state < rank None state }
 {}
 
 /// What a policy asks for at a node of a reached state suits what is pending on the line, and that can't be performed.

@@ -38,7 +38,8 @@ pub fn no_machine_is_stuck()
 {}
 
 /// If nodes take turns in vain, one after another in any order, until each has taken 64, then nothing is pending. So while
-/// something is pending, some event is made before each node has taken 64 turns.
+/// something is pending, before each node has taken 64 turns one of them makes an event, or finds an operation that can be
+/// performed.
 pub fn turns_are_not_in_vain_for_ever()
     ensures { (core : Core) (order : List ℕ) (before after : ℕ → PolicyOf)
         → IsReached core → AreOpen core → AreInVain core order before after

@@ -22,9 +22,9 @@ use std::alloc::AllocError;
 ///   and some line awaits an answer.
 ///
 /// From the state in which a machine begins, and from each that such turns, `submit_on` and `perform_on` lead to, turns go
-/// on: while an operation is pending, some event is made before each node has taken 64 turns (the laws of `sci_fair`). A
-/// machine that other events have led here may stand still for ever: two nodes may each keep a Cread of the other until its
-/// home answers, and what the home has to answer stands behind that Cread. After `Machine::drain` turns go on.
+/// on: while an operation is pending, some turn reports something before each node has taken 64 (the laws of `sci_fair`).
+/// A machine that other events have led here may stand still for ever: two nodes may each keep a Cread of the other until
+/// its home answers, and what the home has to answer stands behind that Cread. After `Machine::drain` turns go on.
 ///
 /// Refused if memory is, for a lane; what was done before is kept.
 pub fn turn_on(machine: &mut Machine, policy: &mut Policy, node: u8) -> Result<Progress, AllocError>
