@@ -1,12 +1,11 @@
 -- The operations of a node are looked at one after another, whether they keep the next one from being issued.
 use Rattle.std.proofs.Common.{◌≡◌, ◌≢◌, ℕ, ◌+◌, ◌<◌, ◌≤◌, ◌&&◌, ◌==◌, nat_lt, not, Bool, true, false, List, length, take, get_or, sym, ap, ◌∙◌, arith}
 use Rattle.std.proofs.lemmas.{Bool.{eq-eqb, ne_eqb}, List.{length-take, take_all, Sums.{count_by-le-length, count_by_more_no, count_by_more_yes}}}
-use Rattle.std.specs.{Prelude.{count_by}, List.{list_any, range_with_len}}
+use Rattle.std.specs.{List.{list_any, range_with_len}, Prelude.{count_by}}
 use Rattle.sci_words.specs.declared.operation.Op.{Op}
-use Rattle.sci_orders.specs.declared.standing.Answer.{Answer}
-use Rattle.sci_orders.specs.declared.standing.Answer.TheVariants as answer
-use Rattle.sci_orders.specs.Positions.{blocks, is_blocked, is_waiting, may_issue_next, no_operation}
 use Rattle.sci_orders.proofs.Places.{any_found, any_more}
+use Rattle.sci_orders.specs.{Positions.{blocks, is_blocked, is_waiting, may_issue_next, no_operation}, declared.standing.Answer.{Answer}}
+use Rattle.sci_orders.specs.declared.standing.Answer.TheVariants as answer
 
 -- none of the first operations blocks operation i, and this number of them waits
 pub record IsPassed (own : List Op) (as_ : List Answer) (i count waiting : ℕ) : Type 0 where

@@ -1,12 +1,11 @@
 -- The orders of a script: what its nodes may issue and perform, one event after another. And what is seen at their end.
-use Rattle.std.specs.Prelude.{◌≡◌, ◌<◌, ◌≤◌, ℕ, ◌+◌, ◌-◌, ◌*◌, ◌==◌, if◌then◌else◌, IsTrue, List, [], ◌∷◌, length, slice_index, slice_index_or}
 use Rattle.std.specs.List.{Contains}
-use Rattle.sci_words.specs.{declared.limits.TheConstants.{WORDS_PER_LINE}, Operation.{has_words}}
-use Rattle.sci_words.specs.declared.{event.Event.{Event}, operation.Op.{Op}, stamped.Stamped.{Stamped}}
-use Rattle.sci_history.specs.{declared.entry.Entry.{Entry}, Memory.{stamped_at}}
+use Rattle.std.specs.Prelude.{◌≡◌, ◌<◌, ◌≤◌, ℕ, ◌+◌, ◌-◌, ◌*◌, ◌==◌, if◌then◌else◌, IsTrue, List, [], ◌∷◌, length, slice_index, slice_index_or}
+use Rattle.sci_words.specs.Operation.{has_words}
+use Rattle.sci_words.specs.declared.{event.Event.{Event}, limits.TheConstants.{WORDS_PER_LINE}, operation.Op.{Op}, stamped.Stamped.{Stamped}}
+use Rattle.sci_history.specs.{Memory.{stamped_at}, declared.entry.Entry.{Entry}}
 use Rattle.sci_core.specs.{Core.{run}, Done.{done}, Sharing.{last_of}, Size.{Size}}
-use Rattle.sci_orders.specs.Positions.{Operations, Position, answer_at, answer_of, operation_at, operation_count, own_of}
-use Rattle.sci_orders.specs.Witness.{seen}
+use Rattle.sci_orders.specs.{Positions.{Operations, Position, answer_at, answer_of, operation_at, operation_count, own_of}, Witness.{seen}}
 use Rattle.sci_words.specs.declared.event.Event.TheVariants as event
 
 -- an operation of the machine

@@ -1,8 +1,7 @@
 -- What is seen of a schedule from outside, and a schedule for each order.
-use Rattle.std.specs.{Prelude.{◌≡◌, ◌<◌, ◌≤◌, ◌==◌, ◌%◌, ◌&&◌, ◌++◌, ℕ, Bool, true, false, if◌then◌else◌}, List.{AllByRecursion}}
-use Rattle.std.specs.Prelude.{IsTrue, List, [], ◌∷◌, count_by, is_some}
-use Rattle.sci_words.specs.declared.{event.{AskKind.{AskKind}, Event.{Event}}, limits.TheConstants.{WORDS_PER_LINE}}
-use Rattle.sci_words.specs.Operation.{has_words}
+use Rattle.std.specs.List.{AllByRecursion}
+use Rattle.std.specs.Prelude.{◌≡◌, ◌<◌, ◌≤◌, ◌==◌, ◌%◌, ◌&&◌, ◌++◌, ℕ, Bool, true, false, if◌then◌else◌, IsTrue, List, [], ◌∷◌, count_by, is_some}
+use Rattle.sci_words.specs.{Operation.{has_words}, declared.{event.{AskKind.{AskKind}, Event.{Event}}, limits.TheConstants.{WORDS_PER_LINE}}}
 use Rattle.sci_history.specs.Oracle.{Issue, oracle_entries, oracle_last}
 use Rattle.sci_core.specs.{Core.{Core, along, opening, stepping, run}, Done.{done}, Sharing.{last_of}, Size.{Size}}
 use Rattle.sci_orders.specs.Plain.{AreAllowed, opening_plain, plain_done, plain_run}
