@@ -44,14 +44,11 @@ module _ (size : Size) (operations : Operations) (plain : Plain) (done : List En
   abbrev op : Op
   op = operation_at operations n next
 
-  node_known : n < length operations
-  node_known = list_below operations n next below
-
   is_node : n < size.nodes
-  is_node = let few = known.nodes in let low = node_known in omega arith
+  is_node = (known.each n next below).node
 
   has_answers : n < length p.answers
-  has_answers = let long = stands.fits.nodes in let low = node_known in omega arith
+  has_answers = let long = stands.fits.nodes in let low = list_below operations n next below in omega arith
 
   has_port : n < length plain.ports
   has_port = let long = stands.nodes in let low = is_node in omega arith

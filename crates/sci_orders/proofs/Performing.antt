@@ -45,7 +45,7 @@ module _ (size : Size) (operations : Operations) (plain : Plain) (done : List En
   has_answers = list_below p.answers n i issued_below
 
   is_node : n < size.nodes
-  is_node = let few = known.nodes in let low = list_below operations n i own_below in omega arith
+  is_node = (known.each n i own_below).node
 
   has_port : n < length plain.ports
   has_port = let long = stands.nodes in let low = is_node in omega arith

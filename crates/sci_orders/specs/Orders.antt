@@ -8,16 +8,16 @@ use Rattle.sci_core.specs.{Core.{run}, Done.{done}, Sharing.{last_of}, Size.{Siz
 use Rattle.sci_orders.specs.{Positions.{Operations, Position, answer_at, answer_of, operation_at, operation_count, own_of}, Witness.{seen}}
 use Rattle.sci_words.specs.declared.event.Event.TheVariants as event
 
--- an operation of the machine
-pub record IsOperation (size : Size) (op : Op) : Type 0 where
+-- an operation of a node of the machine
+pub record IsOperation (size : Size) (n : ℕ) (op : Op) : Type 0 where
+  pub node : n < size.nodes
   pub line : op.line < size.lines
   pub word : op.word < WORDS_PER_LINE
   pub words : IsTrue (has_words op.act)
 
 -- each operation is one of the machine's, and no node has more than it may issue
 pub record IsScriptOf (size : Size) (operations : Operations) : Type 0 where
-  pub nodes : length operations ≤ size.nodes
-  pub each : (n i : ℕ) → i < length (own_of operations n) → IsOperation size (operation_at operations n i)
+  pub each : (n i : ℕ) → i < length (own_of operations n) → IsOperation size n (operation_at operations n i)
   pub few : (n : ℕ) → length (own_of operations n) ≤ size.limit
 
 -- ---- the orders of a script
