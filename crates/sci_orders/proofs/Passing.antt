@@ -1,6 +1,6 @@
 -- The operations of a node are looked at one after another, whether they keep the next one from being issued.
 use Rattle.std.proofs.Common.{◌≡◌, ℕ, ◌+◌, ◌<◌, ◌&&◌, ◌==◌, nat_lt, not, Bool, true, false, List, length, take, get_or, sym, ap, ◌∙◌, arith}
-use Rattle.std.proofs.lemmas.{Bool.{eq-eqb}, List.{Sums.{count_by_more_no, count_by_more_yes}}}
+use Rattle.std.proofs.lemmas.{Bool.{eq-eqb}, List.Sums.{count_by_more_no, count_by_more_yes}}
 use Rattle.std.specs.{List.{list_any, range_with_len}, Prelude.{count_by}}
 use Rattle.sci_words.specs.declared.operation.Op.{Op}
 use Rattle.sci_orders.proofs.Places.{any_found, any_more}

@@ -1,8 +1,7 @@
 -- One level after another.
 use Rattle.std.proofs.Common.{◌≡◌, ℕ, zero, suc, ◌+◌, ◌<◌, Bool, true, false, if◌then◌else◌, List, [], ◌∷◌, length, Option, Some, None, refl, sym, ap, subst}
 use Rattle.std.proofs.Common.{◌∙◌, arith, inl, inr, add-one}
-use Rattle.std.proofs.lemmas.Bool.{and_parts, eqb-true}
-use Rattle.std.proofs.lemmas.List.{Elements.{All-contains, All-weaker}, FromFn.{get_or-range_with_len, length-range_with_len}}
+use Rattle.std.proofs.lemmas.{Bool.{and_parts, eqb-true}, List.{Elements.{All-contains, All-weaker}, FromFn.{get_or-range_with_len, length-range_with_len}}}
 use Rattle.std.specs.{List.{All, Contains, cons_option, filter_map, range_with_len}, Prelude.{IfSome, ◌==◌, slice_get}}
 use Rattle.sci_core.proofs.Basics.Options.{of_some}
 use Rattle.sci_orders.proofs.Changes.{issued_fits, list_below, performed_fits}

@@ -164,7 +164,7 @@ read_one core n line idle lt inside =
       },
     )
 
--- nobody is to join before the node
+-- no node joins before it
 none_joins : (core : Core) (n line : ℕ) → IsHeld core n line → (m : ℕ) → joins_before (state_at core line m) n ≡ false
 none_joins core n line held m = elim (cases_eq m n) [
   | inl e ↦ ap (λ (k : ℕ). joins_before (state_at core line k) n) e ∙ ap (λ (s : CacheState). joins_before s n) held.here
