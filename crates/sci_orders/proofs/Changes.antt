@@ -1,19 +1,19 @@
 -- What a step changes in a position: the answers of one node, and one word.
-use Rattle.std.proofs.Common.{◌≡◌, ◌≢◌, ℕ, suc, ◌+◌, ◌-◌, ◌<◌, Bool, true, false, cond, if◌then◌else◌, List, [], ◌∷◌, ◌++◌, length, drop, set, get_or}
-use Rattle.std.proofs.Common.{refl, sym, ap, ◌∙◌, arith, inl, inr}
+use Rattle.std.proofs.Common.{◌≡◌, ◌≢◌, ℕ, suc, ◌+◌, ◌-◌, ◌<◌, Bool, true, false, cond, if◌then◌else◌, List, [], ◌∷◌, ◌++◌, length, drop, set, get_or, refl}
+use Rattle.std.proofs.Common.{sym, ap, ◌∙◌, arith, inl, inr}
 use Rattle.std.proofs.Math.Seq.{drop-cons, get_or-append_seam}
 use Rattle.std.proofs.lemmas.Bool.{cases_eq, cases_lt, eq-eqb, ne_eqb}
-use Rattle.std.proofs.lemmas.List.{get_or_append_left, get_or_past, get_or-set_same, get_or-set_other, length-set, length_push, Sums.{sum_by_push, sum_by-set}}
+use Rattle.std.proofs.lemmas.List.{get_or_append_left, get_or_past, get_or-set_same, get_or-set_other, length-set, length_push}
+use Rattle.std.proofs.lemmas.List.Sums.{sum_by_push, sum_by-set}
 use Rattle.std.specs.Prelude.{count_by}
-use Rattle.sci_words.specs.declared.{operation.{Op.{Op}, Reply.{Reply}}}
-use Rattle.sci_words.specs.declared.operation.Reply.TheVariants as reply
-use Rattle.sci_words.specs.Operation.{effect}
-use Rattle.sci_orders.specs.declared.standing.Answer.{Answer}
-use Rattle.sci_orders.specs.declared.standing.Answer.TheVariants as answer
+use Rattle.sci_words.specs.{Operation.{effect}, declared.operation.{Op.{Op}, Reply.{Reply}}}
 use Rattle.sci_orders.specs.Orders.{issues_at, one_less_at, one_more_at}
-use Rattle.sci_orders.specs.Positions.{Fits, Operations, Position, answer_at, answer_of, answers_of, is_waiting, no_operation, operation_at, own_of, waiting_at}
-use Rattle.sci_orders.specs.Positions.{with_issued_at, with_performed_at, word_place}
+use Rattle.sci_orders.specs.Positions.{Fits, Operations, Position, answer_at, answer_of, answers_of, is_waiting, no_operation, operation_at, own_of}
+use Rattle.sci_orders.specs.Positions.{waiting_at, with_issued_at, with_performed_at, word_place}
+use Rattle.sci_orders.specs.declared.standing.Answer.{Answer}
+use Rattle.sci_words.specs.declared.operation.Reply.TheVariants as reply
 use Rattle.sci_words.specs.declared.event.Event.TheVariants as event
+use Rattle.sci_orders.specs.declared.standing.Answer.TheVariants as answer
 
 -- ---- answers
 

@@ -1,6 +1,5 @@
 -- One of a list of lists is changed.
-use Rattle.std.proofs.Common.{◌≡◌, ℕ, ◌<◌, List, [], length, set, get_or, sym, ap, ◌∙◌, arith}
-use Rattle.std.proofs.lemmas.List.{get_or-map, length-map, map-set}
+use Rattle.std.proofs.{Common.{◌≡◌, ℕ, ◌<◌, List, [], length, set, get_or, sym, ap, ◌∙◌, arith}, lemmas.List.{get_or-map, length-map, map-set}}
 use Rattle.std.specs.Prelude.{Vec}
 use Rattle.sci_orders.specs.Positions.{lists_of}
 

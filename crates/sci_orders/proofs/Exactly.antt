@@ -4,15 +4,12 @@ use Rattle.std.proofs.lemmas.List.{append-nil, drop_all, Elements.{All-weaker}}
 use Rattle.std.specs.{List.{All}, Prelude.{count_by}}
 use Rattle.sci_words.specs.declared.{event.Event.{Event}, operation.Op.{Op}, stamped.Stamped.{Stamped}}
 use Rattle.sci_history.specs.declared.entry.Entry.{Entry}
-use Rattle.sci_core.specs.{Core.{run}, Done.{done}, Sharing.{last_of}, Size.{Size, IsMachineSize, IsSize}}
-use Rattle.sci_core.proofs.WellFormed.WellFormedSteps.{is_size}
-use Rattle.sci_orders.specs.declared.standing.Answer.{Answer}
-use Rattle.sci_orders.specs.Orders.{HasRun, IsAmong, IsOrderOf, IsOutcomeOf, IsScriptOf, issues_at}
-use Rattle.sci_orders.specs.Plain.{Plain, opening_plain, plain_done, plain_run}
+use Rattle.sci_core.{proofs.WellFormed.WellFormedSteps.{is_size}, specs.{Core.{run}, Done.{done}, Sharing.{last_of}, Size.{Size, IsMachineSize, IsSize}}}
+use Rattle.sci_orders.proofs.{Following.{follows, order_for}, Progress.{AreAnswered, all_answered}, Sound.{explained}}
+use Rattle.sci_orders.proofs.{Stands.{Stands, none_first, opening_stands, within}, Turns.{order_seen}}
+use Rattle.sci_orders.specs.{Orders.{HasRun, IsAmong, IsOrderOf, IsOutcomeOf, IsScriptOf, issues_at}, Plain.{Plain, opening_plain, plain_done, plain_run}}
 use Rattle.sci_orders.specs.Positions.{AreReachedIn, IsReachedIn, Operations, Position, answers_of, is_waiting, opening_position, operation_count, own_of}
-use Rattle.sci_orders.specs.Witness.{schedule_of, seen}
-use Rattle.sci_orders.proofs.{Following.{follows, order_for}, Progress.{AreAnswered, all_answered}, Sound.{explained}, Turns.{order_seen}}
-use Rattle.sci_orders.proofs.{Stands.{Stands, none_first, opening_stands, within}}
+use Rattle.sci_orders.specs.{Witness.{schedule_of, seen}, declared.standing.Answer.{Answer}}
 
 outcome_of : (size : Size) (operations : Operations) (plain : Plain) (entries : List Entry) (p : Position) → Stands size operations plain entries p
     → AreAnswered operations p → IsOutcomeOf size operations entries plain.contents p

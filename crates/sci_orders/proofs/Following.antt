@@ -1,29 +1,25 @@
 -- Each order of a script leads to a position that is reached, and each such position is that of an order.
-use Rattle.std.proofs.Common.{◌≡◌, ℕ, zero, suc, ◌+◌, ◌<◌, ◌==◌, ◌&&◌, nat_lt, not, Bool, true, false, if◌then◌else◌, List, [], ◌∷◌, ◌++◌, length, drop, get_or}
-use Rattle.std.proofs.Common.{Option, Some, None, refl, sym, ap, subst, ◌∙◌, append_assoc, arith, inl, inr}
+use Rattle.std.proofs.Common.{◌≡◌, ℕ, zero, suc, ◌+◌, ◌<◌, ◌==◌, ◌&&◌, nat_lt, not, Bool, true, false, if◌then◌else◌, List, [], ◌∷◌, ◌++◌, length, drop}
+use Rattle.std.proofs.Common.{get_or, Option, Some, None, refl, sym, ap, subst, ◌∙◌, append_assoc, arith, inl, inr}
 use Rattle.std.proofs.Math.Seq.{drop-cons}
 use Rattle.std.proofs.lemmas.Bool.{and_parts, cases_lt, eq-eqb, eqb-true, lt-ltb, ltb-true}
-use Rattle.std.proofs.lemmas.List.{append-nil, append_cancel_left, length_push, Sums.{fold-append}}
-use Rattle.std.proofs.lemmas.{List.{length-drop}, Option.{get_or_from_slice_get, slice_get-get_or, slice_get_past}}
-use Rattle.std.specs.{Prelude.{IsSome, count_by, is_none, option_to_list, slice_get, unwrap_or}}
-use Rattle.sci_words.specs.declared.{event.Event.{Event}, limits.TheConstants.{WORDS_PER_LINE}, operation.Op.{Op}}
-use Rattle.sci_words.specs.Operation.{has_words}
+use Rattle.std.proofs.lemmas.List.{append-nil, append_cancel_left, length_push, length-drop, Sums.{fold-append}}
+use Rattle.std.proofs.lemmas.Option.{get_or_from_slice_get, slice_get-get_or, slice_get_past}
+use Rattle.std.specs.Prelude.{IsSome, count_by, is_none, option_to_list, slice_get, unwrap_or}
+use Rattle.sci_words.specs.{Operation.{has_words}, declared.{event.Event.{Event}, limits.TheConstants.{WORDS_PER_LINE}, operation.Op.{Op}}}
 use Rattle.sci_history.specs.declared.entry.Entry.{Entry}
-use Rattle.sci_core.specs.{declared.pending.Pending.{Pending}, Size.{Size}}
-use Rattle.sci_core.proofs.Basics.Options.{found, same_some}
-use Rattle.sci_orders.specs.declared.standing.Answer.{Answer}
-use Rattle.sci_orders.specs.declared.standing.Answer.TheVariants as answer
+use Rattle.sci_core.{proofs.Basics.Options.{found, same_some}, specs.{Size.{Size}, declared.pending.Pending.{Pending}}}
+use Rattle.sci_orders.proofs.{Changes.{rest_of, waiting_below, waiting_is}, Issuing.{Goes, IsFree, issue_goes, waiting_after}}
+use Rattle.sci_orders.proofs.{Orders.{after-append, after_same, allowed_more, done_more, few-append, issues-append}, Performing.{perform_goes}}
+use Rattle.sci_orders.proofs.{Places.{any_found, none_any}, Stands.{Stands, none_first, opening_stands, pending_of}, Turns.{both_tests, no_test, one_test}}
 use Rattle.sci_orders.specs.Orders.{AreFew, IsScriptOf, issues_at}
 use Rattle.sci_orders.specs.Plain.{AreAllowed, Plain, can_issue, opening_plain, plain_done, plain_made, plain_run, plain_step, plain_stepping, port_at}
 use Rattle.sci_orders.specs.Plain.{waits_at, with_issued, with_performed}
 use Rattle.sci_orders.specs.Positions.{IsReachedIn, Operations, Position, answer_at, answers_of, blocks, is_blocked, is_waiting, may_issue_next, no_operation}
-use Rattle.sci_orders.specs.Positions.{opening_position, operation_at, own_of}
-use Rattle.sci_orders.specs.Positions.{step_as, step_at, waiting_at, with_issued_at, with_performed_at}
-use Rattle.sci_orders.specs.Witness.{is_seen}
-use Rattle.sci_orders.proofs.{Changes.{rest_of, waiting_below, waiting_is}, Issuing.{Goes, IsFree, issue_goes, waiting_after}, Performing.{perform_goes}}
-use Rattle.sci_orders.proofs.Orders.{after-append, after_same, allowed_more, done_more, few-append, issues-append}
-use Rattle.sci_orders.proofs.{Places.{any_found, none_any}, Stands.{Stands, none_first, opening_stands, pending_of}, Turns.{both_tests, no_test, one_test}}
+use Rattle.sci_orders.specs.Positions.{opening_position, operation_at, own_of, step_as, step_at, waiting_at, with_issued_at, with_performed_at}
+use Rattle.sci_orders.specs.{Witness.{is_seen}, declared.standing.Answer.{Answer}}
 use Rattle.sci_words.specs.declared.event.Event.TheVariants as event
+use Rattle.sci_orders.specs.declared.standing.Answer.TheVariants as answer
 
 -- ---- nothing blocks an operation
 

@@ -4,17 +4,17 @@ use Rattle.std.proofs.lemmas.{Bool.{cases_eq}, List.{append-nil}}
 use Rattle.std.specs.Prelude.{Option, Some, None, option_to_list}
 use Rattle.sci_words.specs.declared.{event.Event.{Event}, operation.Op.{Op}}
 use Rattle.sci_history.specs.declared.entry.Entry.{Entry}
-use Rattle.sci_core.specs.{declared.pending.Pending.{Pending}, Size.{Size}}
-use Rattle.sci_orders.specs.declared.standing.Answer.{Answer}
-use Rattle.sci_orders.specs.declared.standing.Answer.TheVariants as answer
-use Rattle.sci_orders.specs.Orders.{IsScriptOf, issues_at, one_less_at, one_more_at}
-use Rattle.sci_orders.specs.Plain.{Plain, Port, can_issue, plain_made, plain_stepping, port_at, waits_at, with_issued}
-use Rattle.sci_orders.specs.Positions.{Operations, Position, answer_at, answers_of, operation_at, own_of, waiting_at, with_issued_at}
+use Rattle.sci_core.specs.{Size.{Size}, declared.pending.Pending.{Pending}}
 use Rattle.sci_orders.proofs.Changes.{issued_apart, issued_fits, issued_here, issued_length, issued_other, issued_rest, issued_waits, list_below, rest_of}
 use Rattle.sci_orders.proofs.Changes.{waiting_before}
 use Rattle.sci_orders.proofs.{Plains.{can_issue_by, memory_issues, plain_makes}, Ports.{issue_changes, issued_waits_here, issued_waits_other}}
 use Rattle.sci_orders.proofs.Stands.{Stands, Waiter, pending_of}
+use Rattle.sci_orders.specs.Orders.{IsScriptOf, issues_at, one_less_at, one_more_at}
+use Rattle.sci_orders.specs.Plain.{Plain, Port, can_issue, plain_made, plain_stepping, port_at, waits_at, with_issued}
+use Rattle.sci_orders.specs.Positions.{Operations, Position, answer_at, answers_of, operation_at, own_of, waiting_at, with_issued_at}
+use Rattle.sci_orders.specs.declared.standing.Answer.{Answer}
 use Rattle.sci_words.specs.declared.event.Event.TheVariants as event
+use Rattle.sci_orders.specs.declared.standing.Answer.TheVariants as answer
 
 -- how many wait after events
 abbrev pub waiting_after : List Event → (ℕ → ℕ) → ℕ → ℕ
@@ -44,14 +44,11 @@ module _ (size : Size) (operations : Operations) (plain : Plain) (done : List En
   abbrev op : Op
   op = operation_at operations n next
 
-  node_known : n < length operations
-  node_known = list_below operations n next below
-
   is_node : n < size.nodes
-  is_node = let few = known.nodes in let low = node_known in omega arith
+  is_node = (known.each n next below).node
 
   has_answers : n < length p.answers
-  has_answers = let long = stands.fits.nodes in let low = node_known in omega arith
+  has_answers = let long = stands.fits.nodes in let low = list_below operations n next below in omega arith
 
   has_port : n < length plain.ports
   has_port = let long = stands.nodes in let low = is_node in omega arith

@@ -1,6 +1,5 @@
 -- A sort and a `dedup` keep what is there.
-use Rattle.std.proofs.Common.{◌≡◌, zero, suc, ◌⊎◌, Bool, true, List, [], ◌∷◌, map}
-use Rattle.std.proofs.Common.{refl, sym, subst, ◌∙◌, arith, inl, inr}
+use Rattle.std.proofs.Common.{◌≡◌, zero, suc, ◌⊎◌, Bool, true, List, [], ◌∷◌, map, refl, sym, subst, ◌∙◌, arith, inl, inr}
 use Rattle.std.proofs.lemmas.List.{Elements.{Contains-append_cases, Contains-append_left, Contains-append_right}, Kept.{Any-dedup, Contains-from_dedup}}
 use Rattle.std.specs.{Cmp.{IsEquivalence}, List.{Contains, dedup, flat_map}}
 

@@ -1,10 +1,9 @@
 -- What one step from a level leads to, sorted and each once.
 use Rattle.std.proofs.Common.{◌≡◌, ℕ, Bool, true, List, map, sym, subst}
 use Rattle.std.proofs.lemmas.List.{Elements.{All-weaker, All-contains_itself}, Sorted.{Contains-permutation, IsPermutation-map, IsPermutation-sym}}
-use Rattle.std.specs.{Cmp.{IsEquivalence}, List.{Contains, dedup, flat_map}, List.Sorted.{IsPermutation}}
-use Rattle.sci_orders.specs.declared.standing.Standing.{Standing}
-use Rattle.sci_orders.specs.Positions.{AreStepsFrom, Operations, Position, position_of, steps_from}
+use Rattle.std.specs.{Cmp.{IsEquivalence}, List.{Contains, dedup, flat_map, Sorted.{IsPermutation}}}
 use Rattle.sci_orders.proofs.Keeping.{contains_flat, flat_contains, kept, left}
+use Rattle.sci_orders.specs.{Positions.{AreStepsFrom, Operations, Position, position_of, steps_from}, declared.standing.Standing.{Standing}}
 
 pub steps_kept : (operations : Operations) (window : ℕ) (E : Standing → Standing → Bool) (old : List Position) (next sorted final : List Standing)
     → IsEquivalence E → ((a b : Standing) → E a b ≡ true → position_of a ≡ position_of b) → map position_of next ≡ flat_map (steps_from operations window) old

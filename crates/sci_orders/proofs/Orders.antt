@@ -4,9 +4,9 @@ use Rattle.std.proofs.lemmas.List.{append-nil}
 use Rattle.std.specs.Prelude.{IsSome, option_to_list}
 use Rattle.sci_words.specs.declared.{event.Event.{Event}, operation.Op.{Op}}
 use Rattle.sci_history.specs.declared.entry.Entry.{Entry}
+use Rattle.sci_orders.proofs.Issuing.{waiting_after}
 use Rattle.sci_orders.specs.Orders.{AreFew, issues_at, one_less_at, one_more_at}
 use Rattle.sci_orders.specs.Plain.{AreAllowed, Plain, plain_done, plain_made, plain_run, plain_step, plain_stepping}
-use Rattle.sci_orders.proofs.Issuing.{waiting_after}
 use Rattle.sci_words.specs.declared.event.Event.TheVariants as event
 
 pub allowed_more : (plain : Plain) (order : List Event) (e : Event) → AreAllowed plain order → IsSome (plain_stepping (plain_run plain order) e)

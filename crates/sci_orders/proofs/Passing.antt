@@ -1,12 +1,11 @@
 -- The operations of a node are looked at one after another, whether they keep the next one from being issued.
-use Rattle.std.proofs.Common.{◌≡◌, ◌≢◌, ℕ, ◌+◌, ◌<◌, ◌≤◌, ◌&&◌, ◌==◌, nat_lt, not, Bool, true, false, List, length, take, get_or, sym, ap, ◌∙◌, arith}
-use Rattle.std.proofs.lemmas.{Bool.{eq-eqb, ne_eqb}, List.{length-take, take_all, Sums.{count_by-le-length, count_by_more_no, count_by_more_yes}}}
-use Rattle.std.specs.{Prelude.{count_by}, List.{list_any, range_with_len}}
+use Rattle.std.proofs.Common.{◌≡◌, ℕ, ◌+◌, ◌<◌, ◌&&◌, ◌==◌, nat_lt, not, Bool, true, false, List, length, take, get_or, sym, ap, ◌∙◌, arith}
+use Rattle.std.proofs.lemmas.{Bool.{eq-eqb}, List.Sums.{count_by_more_no, count_by_more_yes}}
+use Rattle.std.specs.{List.{list_any, range_with_len}, Prelude.{count_by}}
 use Rattle.sci_words.specs.declared.operation.Op.{Op}
-use Rattle.sci_orders.specs.declared.standing.Answer.{Answer}
-use Rattle.sci_orders.specs.declared.standing.Answer.TheVariants as answer
-use Rattle.sci_orders.specs.Positions.{blocks, is_blocked, is_waiting, may_issue_next, no_operation}
 use Rattle.sci_orders.proofs.Places.{any_found, any_more}
+use Rattle.sci_orders.specs.{Positions.{blocks, is_blocked, is_waiting, may_issue_next, no_operation}, declared.standing.Answer.{Answer}}
+use Rattle.sci_orders.specs.declared.standing.Answer.TheVariants as answer
 
 -- none of the first operations blocks operation i, and this number of them waits
 pub record IsPassed (own : List Op) (as_ : List Answer) (i count waiting : ℕ) : Type 0 where
@@ -28,28 +27,9 @@ passed_no own as_ i j waiting so below is =
     let free : blocks own as_ i j ≡ false = ap (λ (b : Bool). b && ((get_or own j no_operation).line == (get_or own i no_operation).line)) is in
     record { none = any_more (blocks own as_ i) j so.none free; many = omega arith }
 
-pub few_passed : (own : List Op) (as_ : List Answer) (i j waiting : ℕ) → IsPassed own as_ i j waiting → j ≤ length as_ → waiting ≤ j
-few_passed own as_ i j waiting so below =
-    let many = so.many in
-    let less = count_by-le-length is_waiting (take j as_) in
-    let long = length-take j as_ in
-    omega arith
-
-pub not_next : (own : List Op) (as_ : List Answer) (window i : ℕ) → length as_ ≢ i → false ≡ may_issue_next own as_ window i
-not_next own as_ window i other =
-    sym (ap (λ (b : Bool). b && (not (is_blocked own as_ i) && nat_lt (count_by is_waiting as_) window))
-    (ne_eqb (length as_) i other))
-
 pub blocked : (own : List Op) (as_ : List Answer) (window i j : ℕ) → length as_ ≡ i → j < length as_
     → blocks own as_ i j ≡ true → false ≡ may_issue_next own as_ window i
 blocked own as_ window i j next below is =
     sym (ap (λ (b : Bool). b && (not (is_blocked own as_ i) && nat_lt (count_by is_waiting as_) window))
     (eq-eqb (length as_) i next)
     ∙ ap (λ (b : Bool). not b && nat_lt (count_by is_waiting as_) window) (any_found (blocks own as_ i) (length as_) j below is))
-
-pub passed_all : (own : List Op) (as_ : List Answer) (window i waiting : ℕ) → length as_ ≡ i
-    → IsPassed own as_ i (length as_) waiting → nat_lt waiting window ≡ may_issue_next own as_ window i
-passed_all own as_ window i waiting next so =
-    ap (λ (k : ℕ). nat_lt k window) (so.many ∙ ap (count_by is_waiting) (take_all (length as_) as_ (omega arith)))
-    ∙ sym (ap (λ (b : Bool). b && (not (is_blocked own as_ i) && nat_lt (count_by is_waiting as_) window))
-    (eq-eqb (length as_) i next) ∙ ap (λ (b : Bool). not b && nat_lt (count_by is_waiting as_) window) so.none)

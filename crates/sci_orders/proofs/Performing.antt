@@ -2,21 +2,19 @@
 use Rattle.std.proofs.Common.{◌≡◌, ◌≢◌, ℕ, ◌+◌, ◌*◌, ◌<◌, List, [], ◌∷◌, ◌++◌, length, refl, sym, ap, subst, ◌∙◌, arith, inl, inr}
 use Rattle.std.proofs.lemmas.Bool.{cases_eq}
 use Rattle.std.proofs.lemmas.List.{get_or-set_same, get_or-set_other, length-set, Elements.{Contains-append_left, Contains-push, Contains-push_cases}}
-use Rattle.std.specs.{Prelude.{Option, Some, None, option_map, option_to_list, slice_index, slice_index_or}, List.{Contains}}
-use Rattle.sci_words.specs.declared.{limits.TheConstants.{WORDS_PER_LINE}, operation.Op.{Op}, stamped.Stamped.{Stamped}}
+use Rattle.std.specs.{List.{Contains}, Prelude.{Option, Some, None, option_map, option_to_list, slice_index, slice_index_or}}
 use Rattle.sci_words.specs.{Operation.{effect}, Stamped.{after, zero_stamped}}
-use Rattle.sci_history.specs.{declared.entry.Entry.{Entry}, Memory.{stamped_at}}
-use Rattle.sci_core.specs.{declared.pending.Pending.{Pending}, Size.{Size}}
-use Rattle.sci_core.proofs.Basics.Options.{same_some}
-use Rattle.sci_orders.specs.declared.standing.Answer.TheVariants as answer
-use Rattle.sci_orders.specs.Orders.{HasEntry, IsScriptOf}
-use Rattle.sci_orders.specs.Plain.{Plain, Port, entry_at, plain_made, port_at, waits_at, with_performed}
-use Rattle.sci_orders.specs.Positions.{Operations, Position, answer_at, answer_of, answers_of, operation_at, own_of, with_performed_at, word_place}
+use Rattle.sci_words.specs.declared.{limits.TheConstants.{WORDS_PER_LINE}, operation.Op.{Op}, stamped.Stamped.{Stamped}}
+use Rattle.sci_history.specs.{Memory.{stamped_at}, declared.entry.Entry.{Entry}}
+use Rattle.sci_core.{proofs.Basics.Options.{same_some}, specs.{Size.{Size}, declared.pending.Pending.{Pending}}}
 use Rattle.sci_orders.proofs.Changes.{list_below, performed_fits, performed_here, performed_length, performed_other, performed_rest, performed_waits}
 use Rattle.sci_orders.proofs.Changes.{reply_done, waiting_below}
 use Rattle.sci_orders.proofs.{Issuing.{Goes}, Plains.{memory_performs, plain_makes}, Ports.{perform_changes, performed_waits_here, performed_waits_other}}
 use Rattle.sci_orders.proofs.Stands.{IsAnswered, Stands, Waiter, pending_of}
+use Rattle.sci_orders.specs.{Orders.{HasEntry, IsScriptOf}, Plain.{Plain, Port, entry_at, plain_made, port_at, waits_at, with_performed}}
+use Rattle.sci_orders.specs.Positions.{Operations, Position, answer_at, answer_of, answers_of, operation_at, own_of, with_performed_at, word_place}
 use Rattle.sci_words.specs.declared.event.Event.TheVariants as event
+use Rattle.sci_orders.specs.declared.standing.Answer.TheVariants as answer
 
 -- two words of memory
 other_place : (a b x y : ℕ) → x < 8 → y < 8 → a * 8 + x ≡ b * 8 + y → (a ≡ b) × (x ≡ y)
@@ -47,7 +45,7 @@ module _ (size : Size) (operations : Operations) (plain : Plain) (done : List En
   has_answers = list_below p.answers n i issued_below
 
   is_node : n < size.nodes
-  is_node = let few = known.nodes in let low = list_below operations n i own_below in omega arith
+  is_node = (known.each n i own_below).node
 
   has_port : n < length plain.ports
   has_port = let long = stands.nodes in let low = is_node in omega arith

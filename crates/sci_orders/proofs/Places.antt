@@ -1,10 +1,10 @@
 -- Tests of the numbers below a bound, one after another.
-use Rattle.std.proofs.Common.{◌≡◌, ℕ, zero, suc, ◌+◌, ◌<◌, ◌||◌, Bool, true, false, List, [], ◌∷◌, ◌++◌, map, refl, sym, ap, ◌∙◌, arith}
-use Rattle.std.proofs.Common.{Option, Some, None, append_assoc}
+use Rattle.std.proofs.Common.{◌≡◌, ℕ, zero, suc, ◌+◌, ◌<◌, ◌||◌, Bool, true, false, List, [], ◌∷◌, ◌++◌, map, refl, sym, ap, ◌∙◌, arith, Option, Some, None}
+use Rattle.std.proofs.Common.{append_assoc}
 use Rattle.std.proofs.lemmas.Grind.{flat_map-append}
-use Rattle.std.proofs.lemmas.List.{append-nil, map-append, Elements.{filter_map-append}, Folds.{list_any-append, list_any_at}}
-use Rattle.std.proofs.lemmas.List.FromFn.{get_or-range_with_len, length-range_with_len}
-use Rattle.std.specs.{List.{cons_option, filter_map, flat_map, list_any, range_with_len}}
+use Rattle.std.proofs.lemmas.List.{append-nil, map-append}
+use Rattle.std.proofs.lemmas.List.{Elements.{filter_map-append}, Folds.{list_any-append, list_any_at}, FromFn.{get_or-range_with_len, length-range_with_len}}
+use Rattle.std.specs.List.{cons_option, filter_map, flat_map, list_any, range_with_len}
 
 from_more : (a n : ℕ) → range_with_len a (n + 1) ≡ range_with_len a n ++ (a + n) ∷ []
 from_more a zero = ap (λ (k : ℕ). k ∷ []) (omega arith)

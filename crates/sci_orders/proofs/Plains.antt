@@ -1,26 +1,23 @@
 -- What the machine does at a step, seen from outside, is what one memory does.
-use Rattle.std.proofs.Common.{◌≡◌, ℕ, ◌+◌, ◌<◌, nat_lt, ◌&&◌, Bool, true, false, if◌then◌else◌, length, map, set}
-use Rattle.std.proofs.Common.{Option, Some, None, refl, sym, ap, subst, ◌∙◌, arith, inl, inr}
-use Rattle.std.proofs.{Math.ListN.{get_or-map}, Math.Seq.{map-set_same}, lemmas.Bool.{cases_eq, lt-ltb}}
-use Rattle.std.proofs.lemmas.List.{map-set, length-set, get_or-set_same, get_or-set_other}
-use Rattle.std.proofs.lemmas.List.FromFn.{fill_by_all, length-map-range_with_len}
+use Rattle.std.proofs.Common.{◌≡◌, ℕ, ◌+◌, ◌<◌, nat_lt, ◌&&◌, Bool, true, false, if◌then◌else◌, length, map, set, Option, Some, None, refl, sym, ap, subst}
+use Rattle.std.proofs.Common.{◌∙◌, arith, inl, inr}
+use Rattle.std.proofs.Math.{ListN.{get_or-map}, Seq.{map-set_same}}
+use Rattle.std.proofs.lemmas.Bool.{cases_eq, lt-ltb}
+use Rattle.std.proofs.lemmas.List.{map-set, length-set, get_or-set_same, get_or-set_other, FromFn.{fill_by_all, length-map-range_with_len}}
 use Rattle.std.specs.Prelude.{IfSome, is_none, option_map, slice_index_or, unwrap_or}
-use Rattle.sci_words.specs.declared.{event.Event.{Event}, limits.TheConstants.{WORDS_PER_LINE}, operation.Op.{Op}, stamped.Stamped.{Stamped}}
 use Rattle.sci_words.specs.{Operation.{has_words}, Stamped.{after, reply_of, zero_stamped}}
-use Rattle.sci_history.specs.{declared.entry.Entry.{Entry}, Memory.{contents_after, stamped_at}}
+use Rattle.sci_words.specs.declared.{event.Event.{Event}, limits.TheConstants.{WORDS_PER_LINE}, operation.Op.{Op}, stamped.Stamped.{Stamped}}
+use Rattle.sci_history.specs.{Memory.{contents_after, stamped_at}, declared.entry.Entry.{Entry}}
 use Rattle.sci_cache.specs.Cache.{Letter}
-use Rattle.sci_core.specs.{declared.pending.Pending.{Pending}, Core.{Core, node_at, step, stepping, with_node}, Size.{Size}}
-use Rattle.sci_core.specs.Node.{NodeOf, lines_of, may_issue, no_node, node_issued, node_issuing, node_performing, pending_on}
-use Rattle.sci_core.specs.{Done.{Changes, ChangesBy, made_by, performed}, Reached.{IsReachable}, Sharing.{last_at, last_of}}
-use Rattle.sci_core.specs.{WellFormed.{IsWellFormed}}
-use Rattle.sci_core.proofs.{Basics.Options.{of_some}, ReachedLaws.{any_effects, last_within}}
-use Rattle.sci_core.proofs.History.Works.{SameWork, ask_work, serve_work, accept_work}
-use Rattle.sci_core.proofs.Shape.ShapeRuns.{pending_known}
-use Rattle.sci_core.proofs.Step.NodeSides.{PerformedAs, perform_as, serve_as, refuse_as, reply_as, RefusedAs, ServedAs}
-use Rattle.sci_core.proofs.{Settling.Drains.{some_node, made_by as made_one}, Step.Sides.{steps_by_sides}}
+use Rattle.sci_core.proofs.{Basics.Options.{of_some}, History.Works.{SameWork, ask_work, serve_work, accept_work}, ReachedLaws.{any_effects, last_within}}
+use Rattle.sci_core.proofs.{Settling.Drains.{some_node, made_by as made_one}, Shape.ShapeRuns.{pending_known}}
+use Rattle.sci_core.proofs.Step.{NodeSides.{PerformedAs, perform_as, serve_as, refuse_as, reply_as, RefusedAs, ServedAs}, Sides.{steps_by_sides}}
 use Rattle.sci_core.proofs.Step.Steps.{Stepped, By_issue, By_perform, By_ask, By_serve, By_refuse, By_reply, By_accept, stepping_stepped}
 use Rattle.sci_core.proofs.WellFormed.WellFormedSteps.{any_well, step_well}
-use Rattle.sci_core.specs.Node.{node_asking, node_serving, node_refusing, node_replying, node_accepting}
+use Rattle.sci_core.specs.{Core.{Core, node_at, step, stepping, with_node}, Done.{Changes, ChangesBy, made_by, performed}}
+use Rattle.sci_core.specs.Node.{NodeOf, lines_of, may_issue, no_node, node_issued, node_issuing, node_performing, pending_on, node_asking, node_serving}
+use Rattle.sci_core.specs.Node.{node_refusing, node_replying, node_accepting}
+use Rattle.sci_core.specs.{Reached.{IsReachable}, Sharing.{last_at, last_of}, Size.{Size}, WellFormed.{IsWellFormed}, declared.pending.Pending.{Pending}}
 use Rattle.sci_orders.specs.Plain.{Plain, Port, can_issue, entry_at, plain_made, plain_of, plain_performed, plain_stepping, port_at, port_of, waits_at}
 use Rattle.sci_orders.specs.Plain.{with_issued, with_performed}
 use Rattle.sci_orders.specs.Witness.{is_seen}

@@ -1,19 +1,15 @@
 -- Each step brings one operation one step further, so two steps for each bring each to its answer.
 use Rattle.std.proofs.Common.{◌≡◌, ℕ, zero, suc, ◌+◌, ◌*◌, ◌<◌, ◌≤◌, not, Bool, true, false, cond, if◌then◌else◌, List, [], ◌∷◌, ◌++◌, length, set, get_or}
-use Rattle.std.proofs.Common.{replicate}
-use Rattle.std.proofs.Common.{Option, Some, None, refl, sym, ap, ◌∙◌, arith}
-use Rattle.std.proofs.lemmas.{List.{length_push, length-set, Sums.{count_by-le-length, sum_by_push, sum_by-cons, sum_by-set}}}
-use Rattle.std.proofs.lemmas.{Option.{get_or_from_slice_get}}
-use Rattle.std.specs.{Prelude.{count_by, slice_get}, List.{sum_by}}
-use Rattle.sci_words.specs.declared.operation.{Op.{Op}}
-use Rattle.sci_words.specs.Operation.{effect}
+use Rattle.std.proofs.Common.{replicate, Option, Some, None, refl, sym, ap, ◌∙◌, arith}
+use Rattle.std.proofs.lemmas.{List.{length_push, length-set, Sums.{count_by-le-length, sum_by_push, sum_by-cons, sum_by-set}}, Option.{get_or_from_slice_get}}
+use Rattle.std.specs.{List.{sum_by}, Prelude.{count_by, slice_get}}
+use Rattle.sci_words.specs.{Operation.{effect}, declared.operation.Op.{Op}}
 use Rattle.sci_core.proofs.Basics.Options.{same_some}
-use Rattle.sci_orders.specs.declared.standing.Answer.{Answer}
-use Rattle.sci_orders.specs.declared.standing.Answer.TheVariants as answer
+use Rattle.sci_orders.proofs.{Changes.{answer_given, list_below, not_waiting, reply_done, waiting_below}, Reaching.{reached_fits}}
 use Rattle.sci_orders.specs.Positions.{AreWithin, Fits, IsReachedIn, Operations, Position, answer_at, answers_of, is_waiting, may_issue_next, operation_at}
 use Rattle.sci_orders.specs.Positions.{operation_count, own_of, step_as, step_at, with_issued_at, with_performed_at, word_place}
-use Rattle.sci_orders.proofs.Changes.{answer_given, list_below, not_waiting, reply_done, waiting_below}
-use Rattle.sci_orders.proofs.{Reaching.{reached_fits}}
+use Rattle.sci_orders.specs.declared.standing.Answer.{Answer}
+use Rattle.sci_orders.specs.declared.standing.Answer.TheVariants as answer
 
 abbrev pub is_answered : Answer → Bool
 is_answered a = not (is_waiting a)

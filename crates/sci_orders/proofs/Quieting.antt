@@ -3,15 +3,15 @@ use Rattle.std.proofs.Common.{◌≡◌, ◌⊎◌, ℕ, zero, suc, ◌<◌, ◌
 use Rattle.std.proofs.lemmas.Bool.{cases_Bool, cases_eq}
 use Rattle.sci_words.specs.declared.event.{AskKind.{AskKind}, Event.{Event}}
 use Rattle.sci_cache.specs.State.{Out}
-use Rattle.sci_core.specs.{Core.{Core, node_at, stepping}, Draining.{CanDrain, Drained, Drains, IsDrained, brings_on, weight}, Node.{node_asking}}
-use Rattle.sci_core.specs.{Reached.{IsReached}, Rounds.{IsNext, Joins, Parts, Tells, is_head, is_telling, joins_before, parting, rank}, Shape.{state_at}}
 use Rattle.sci_core.proofs.Basics.Options.{found}
-use Rattle.sci_core.proofs.Settling.{Drains.{can_drain}, Emptying.{next_lowers}, EmptyRuns.{all_out_beyond}, Moves.{move_weighs}, Resting.{all_out}}
+use Rattle.sci_core.proofs.Settling.{Drains.{can_drain}, EmptyRuns.{all_out_beyond}, Emptying.{next_lowers}, Moves.{move_weighs}, Resting.{all_out}}
 use Rattle.sci_core.proofs.Settling.Rounds.{rounds}
 use Rattle.sci_core.proofs.WellFormed.WellFormedSteps.{reachable, reached_stepping}
-use Rattle.sci_orders.specs.{Plain.{AreAllowed, Plain, plain_of, plain_run}, Witness.{is_seen, round_with, schedule_of, seen_from}}
+use Rattle.sci_core.specs.{Core.{Core, node_at, stepping}, Draining.{CanDrain, Drained, Drains, IsDrained, brings_on, weight}, Node.{node_asking}}
+use Rattle.sci_core.specs.{Reached.{IsReached}, Rounds.{IsNext, Joins, Parts, Tells, is_head, is_telling, joins_before, parting, rank}, Shape.{state_at}}
 use Rattle.sci_orders.proofs.Sound.{events_sound}
 use Rattle.sci_orders.proofs.Turns.{IsIdle, Passes, order_passes, passes_append, passes_hidden, passes_none, round_passes, round_quiet, round_reached}
+use Rattle.sci_orders.specs.{Plain.{AreAllowed, Plain, plain_of, plain_run}, Witness.{is_seen, round_with, schedule_of, seen_from}}
 use Rattle.sci_words.specs.declared.event.Event.TheVariants as event
 use Rattle.sci_words.specs.declared.event.AskKind.TheVariants as kind
 

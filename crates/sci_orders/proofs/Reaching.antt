@@ -1,19 +1,15 @@
 -- One level after another.
-use Rattle.std.proofs.Common.{◌≡◌, ℕ, zero, suc, ◌+◌, ◌<◌, Bool, true, false, if◌then◌else◌, List, [], ◌∷◌, length}
-use Rattle.std.proofs.Common.{Option, Some, None, refl, sym, ap, subst, ◌∙◌, arith, inl, inr, add-one}
-use Rattle.std.proofs.lemmas.List.{Elements.{All-contains, All-weaker, All-contains_itself}}
-use Rattle.std.proofs.lemmas.List.FromFn.{get_or-range_with_len, length-range_with_len}
-use Rattle.std.specs.{Prelude.{IfSome}, List.{All, Contains, cons_option, filter_map, range_with_len}}
+use Rattle.std.proofs.Common.{◌≡◌, ℕ, zero, suc, ◌+◌, ◌<◌, Bool, true, false, if◌then◌else◌, List, [], ◌∷◌, length, Option, Some, None, refl, sym, ap, subst}
+use Rattle.std.proofs.Common.{◌∙◌, arith, inl, inr, add-one}
+use Rattle.std.proofs.lemmas.{Bool.{and_parts, eqb-true}, List.{Elements.{All-contains, All-weaker}, FromFn.{get_or-range_with_len, length-range_with_len}}}
+use Rattle.std.specs.{List.{All, Contains, cons_option, filter_map, range_with_len}, Prelude.{IfSome, ◌==◌, slice_get}}
+use Rattle.sci_core.proofs.Basics.Options.{of_some}
+use Rattle.sci_orders.proofs.Changes.{issued_fits, list_below, performed_fits}
+use Rattle.sci_orders.proofs.{Keeping.{contains_flat, contains_here, contains_there, contains_cases, contains_none, flat_contains}, Stands.{opening_fits}}
+use Rattle.sci_orders.specs.Positions.{AreReachedIn, AreStepsFrom, AreWithin, Fits, IsReachedIn, Operations, Position, answers_of, may_issue_next}
+use Rattle.sci_orders.specs.Positions.{operation_at, own_of, step_as, step_at, steps_from, steps_of, with_issued_at}
 use Rattle.sci_orders.specs.declared.standing.Answer.{Answer}
 use Rattle.sci_orders.specs.declared.standing.Answer.TheVariants as answer
-use Rattle.sci_orders.specs.Positions.{AreReachedIn, AreStepsFrom, AreWithin, Fits, IsReachedIn, Operations, Position, answers_of, may_issue_next}
-use Rattle.sci_orders.specs.Positions.{opening_position}
-use Rattle.sci_orders.specs.Positions.{operation_at, own_of, step_as, step_at, steps_from, steps_of, with_issued_at}
-use Rattle.sci_orders.proofs.Keeping.{contains_flat, contains_here, contains_there, contains_cases, contains_none, flat_contains}
-use Rattle.sci_orders.proofs.{Changes.{issued_fits, list_below, performed_fits}, Stands.{opening_fits}}
-use Rattle.std.proofs.lemmas.Bool.{and_parts, eqb-true}
-use Rattle.std.specs.Prelude.{◌==◌, slice_get}
-use Rattle.sci_core.proofs.Basics.Options.{of_some}
 
 -- ---- what a function gives of some element
 
@@ -122,15 +118,3 @@ pub all_fit : (lines : ℕ) (operations : Operations) (window count : ℕ) (posi
 all_fit lines operations window count positions within so =
     All-weaker (IsReachedIn lines operations window count) (Fits operations) (λ p way. reached_fits lines operations window count p within way) positions
     so.each
-
-pub reached_first : (lines : ℕ) (operations : Operations) (window : ℕ) (positions : List Position) → positions ≡ opening_position lines operations ∷ []
-    → AreReachedIn lines operations window 0 positions
-reached_first lines operations window positions is =
-    let first = opening_position lines operations in
-    subst (AreReachedIn lines operations window 0) (sym is) (record {
-      each = All-weaker (Contains (first ∷ [])) (IsReachedIn lines operations window 0) (λ p has. elim (contains_cases first p [] has) [
-        | inl here ↦ sym here
-        | inr later ↦ contains_none p later
-      ]) (first ∷ []) (All-contains_itself (first ∷ []));
-      all = λ p way. subst (Contains (first ∷ [])) (sym way) (contains_here first []);
-    })

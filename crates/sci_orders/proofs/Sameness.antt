@@ -1,11 +1,9 @@
 -- Standings that a comparison finds equal are one position.
-use Rattle.std.proofs.Common.{◌≡◌, nat_eq, Bool, true, List, [], ◌∷◌, refl, sym, ap, ◌∙◌, rules, arith}
-use Rattle.std.proofs.lemmas.Bool.{and_parts, eqb-true}
-use Rattle.std.specs.{Prelude.{Vec}, Cmp.Lexicographic.{pointwise, same_text}}
-use Rattle.sci_orders.specs.declared.standing.{Answer.{Answer}, Standing.{Standing}}
-use Rattle.sci_orders.specs.declared.standing.Answer.TheVariants as answer
-use Rattle.sci_orders.specs.Positions.{Position, lists_of, position_of}
+use Rattle.std.proofs.{Common.{◌≡◌, nat_eq, Bool, true, List, [], ◌∷◌, refl, sym, ap, ◌∙◌, rules, arith}, lemmas.Bool.{and_parts, eqb-true}}
+use Rattle.std.specs.{Cmp.Lexicographic.{pointwise, same_text}, Prelude.{Vec}}
+use Rattle.sci_orders.specs.{Positions.{Position, lists_of, position_of}, declared.standing.{Answer.{Answer}, Standing.{Standing}}}
 use Rattle.sci_orders.specs.contracts.standing.StandingPartialEq.TheImpl
+use Rattle.sci_orders.specs.declared.standing.Answer.TheVariants as answer
 use Rattle.sci_orders.specs.contracts.standing.AnswerPartialEq.TheImpl as answers
 
 pub same_answer : (a b : Answer) → (answers.ghosts).eq a b ≡ true → a ≡ b

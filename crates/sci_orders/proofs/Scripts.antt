@@ -2,23 +2,22 @@
 use Rattle.std.proofs.Common.{◌≡◌, ℕ, zero, suc, ◌+◌, ◌<◌, ◌≤◌, eqb, cond, Bool, true, false, if◌then◌else◌, List, [], ◌∷◌, ◌++◌, length, get_or, replicate}
 use Rattle.std.proofs.Common.{Option, Some, None, refl, sym, ap, subst, ◌∙◌, append_assoc, arith, inl, inr}
 use Rattle.std.proofs.lemmas.Bool.{cases_eq, eq-eqb, ne_eqb}
-use Rattle.std.proofs.lemmas.List.{append-nil, length-replicate, get_or-replicate}
-use Rattle.std.proofs.lemmas.List.Sums.{sum_by-cons}
-use Rattle.std.specs.{Prelude.{IsSome, count_by, option_map, option_to_list, unwrap_or}, List.{AllByRecursion}}
-use Rattle.sci_words.specs.declared.{event.Event.{Event}, limits.TheConstants.{MAX_NODES}, stamped.Stamped.{Stamped}}
+use Rattle.std.proofs.lemmas.List.{append-nil, length-replicate, get_or-replicate, FromFn.{fill_by_all}, Sums.{sum_by-cons}}
+use Rattle.std.specs.{List.{AllByRecursion}, Prelude.{IsSome, count_by, option_map, option_to_list, unwrap_or}}
 use Rattle.sci_words.specs.{Operation.{is_maker}, Stamped.{after, reply_of, zero_stamped}}
-use Rattle.sci_history.specs.{declared.entry.Entry.{Entry}, Memory.{contents_after, stamped_at}, Placed.{is_of_node}}
-use Rattle.sci_history.specs.Oracle.{Issue, contents_left, done_after, entry_after, makes_on}
+use Rattle.sci_words.specs.declared.{event.Event.{Event}, limits.TheConstants.{MAX_NODES}, stamped.Stamped.{Stamped}}
 use Rattle.sci_history.proofs.OracleSteps.{contents_of-push}
 use Rattle.sci_history.proofs.Oracles.{Traced, IsNext, count_push, line_at-zero, stamped_at-contents_of, stamped_of, traced_none, traced_push}
-use Rattle.std.proofs.lemmas.List.FromFn.{fill_by_all}
-use Rattle.sci_core.specs.{declared.pending.Pending.{Pending}, Size.{Size, IsMachineSize}}
+use Rattle.sci_history.specs.{Memory.{contents_after, stamped_at}, Oracle.{Issue, contents_left, done_after, entry_after, makes_on}, Placed.{is_of_node}}
+use Rattle.sci_history.specs.declared.entry.Entry.{Entry}
 use Rattle.sci_core.proofs.{Shape.ShapeRuns.{replicated}, WellFormed.WellFormedSteps.{is_size}}
+use Rattle.sci_core.specs.{Size.{Size, IsMachineSize}, declared.pending.Pending.{Pending}}
+use Rattle.sci_orders.proofs.Plains.{can_issue_by, memory_issues, memory_performs, plain_makes, same_entry}
+use Rattle.sci_orders.proofs.Ports.{issue_changes, issued_waits_here, issued_waits_other, perform_changes, performed_waits_here, performed_waits_other}
+use Rattle.sci_orders.proofs.{Sound.{explained}, Turns.{order_seen}}
 use Rattle.sci_orders.specs.Plain.{AreAllowed, Plain, Port, can_issue, entry_at, no_port, opening_plain, plain_done, plain_made, plain_run, plain_step}
 use Rattle.sci_orders.specs.Plain.{plain_stepping, port_at, waits_at, with_issued, with_performed}
 use Rattle.sci_orders.specs.Witness.{AreFor, IsFor, IsOracleRun, one_by_one, schedule_of}
-use Rattle.sci_orders.proofs.Ports.{issue_changes, issued_waits_here, issued_waits_other, perform_changes, performed_waits_here, performed_waits_other}
-use Rattle.sci_orders.proofs.{Plains.{can_issue_by, memory_issues, memory_performs, plain_makes, same_entry}, Sound.{explained}, Turns.{order_seen}}
 use Rattle.sci_words.specs.declared.event.Event.TheVariants as event
 
 -- ---- nothing waits, and these entries are made

@@ -1,17 +1,16 @@
 -- What is seen of a schedule is possible for one memory, with the same entries and the same last contents.
-use Rattle.std.proofs.Common.{◌≡◌, ℕ, zero, suc, ◌+◌, ◌&&◌, Bool, true, false, if◌then◌else◌, List, [], ◌∷◌, ◌++◌, map, replicate}
-use Rattle.std.proofs.Common.{Option, Some, None, refl, sym, ap, subst, ◌∙◌}
+use Rattle.std.proofs.Common.{◌≡◌, ℕ, zero, suc, ◌+◌, ◌&&◌, Bool, true, false, if◌then◌else◌, List, [], ◌∷◌, ◌++◌, map, replicate, Option, Some, None, refl}
+use Rattle.std.proofs.Common.{sym, ap, subst, ◌∙◌}
 use Rattle.std.proofs.lemmas.List.{get_or-replicate, length-replicate, FromFn.{fill_by_all}}
-use Rattle.std.specs.{Prelude.{IsSome, is_some, option_to_list, unwrap_or}, List.{range_with_len}}
-use Rattle.sci_words.specs.declared.{event.Event.{Event}}
-use Rattle.sci_words.specs.Stamped.{zero_stamped}
+use Rattle.std.specs.{List.{range_with_len}, Prelude.{IsSome, is_some, option_to_list, unwrap_or}}
+use Rattle.sci_words.specs.{Stamped.{zero_stamped}, declared.event.Event.{Event}}
 use Rattle.sci_history.specs.declared.entry.Entry.{Entry}
-use Rattle.sci_core.specs.{Core.{Core, opening, run_from, step, stepping}, Done.{done_from, made_by, performed}}
-use Rattle.sci_core.specs.{Node.{opening_node}, Reached.{IsReachable}, Sharing.{last_at}, Size.{Size, IsSize}}
 use Rattle.sci_core.proofs.{ReachedLaws.{schedule_history}, WellFormed.WellFormedSteps.{reachable_next}}
+use Rattle.sci_core.specs.{Core.{Core, opening, run_from, step, stepping}, Done.{done_from, made_by, performed}, Node.{opening_node}, Reached.{IsReachable}}
+use Rattle.sci_core.specs.{Sharing.{last_at}, Size.{Size, IsSize}}
+use Rattle.sci_orders.proofs.Plains.{SeenAs, Stays, event_seen, hidden_stays, same_plain, step_is}
 use Rattle.sci_orders.specs.Plain.{AreAllowed, Plain, Port, opening_plain, plain_done, plain_made, plain_of, plain_run, plain_step, port_of}
 use Rattle.sci_orders.specs.Witness.{IsExplainedBy, is_seen, seen, seen_from}
-use Rattle.sci_orders.proofs.Plains.{SeenAs, Stays, event_seen, hidden_stays, same_plain, step_is}
 
 -- what is seen of events, and the memory beside it
 pub record Sound (core : Core) (events order : List Event) : Type 0 where

@@ -1,18 +1,15 @@
 -- One memory stands where a position says: what is issued, what waits, what was answered, and each word.
 use Rattle.std.proofs.Common.{◌≡◌, ℕ, ◌*◌, ◌+◌, ◌<◌, List, [], length, get_or, replicate, refl, sym, ap, ◌∙◌, arith}
 use Rattle.std.proofs.lemmas.List.{get_or-replicate, length-replicate}
-use Rattle.std.specs.{Prelude.{Some, None, slice_index, slice_index_or}, List.{Contains}}
-use Rattle.sci_words.specs.declared.{limits.TheConstants.{WORDS_PER_LINE}, stamped.Stamped.{Stamped}}
-use Rattle.sci_words.specs.Stamped.{zero_stamped}
-use Rattle.sci_history.specs.{declared.entry.Entry.{Entry}, Memory.{stamped_at}}
-use Rattle.sci_core.specs.{declared.pending.Pending.{Pending}, Size.{Size}}
-use Rattle.sci_core.proofs.Shape.ShapeRuns.{replicated}
+use Rattle.std.specs.{List.{Contains}, Prelude.{Some, None, slice_index, slice_index_or}}
+use Rattle.sci_words.specs.{Stamped.{zero_stamped}, declared.{limits.TheConstants.{WORDS_PER_LINE}, stamped.Stamped.{Stamped}}}
+use Rattle.sci_history.specs.{Memory.{stamped_at}, declared.entry.Entry.{Entry}}
+use Rattle.sci_core.{proofs.Shape.ShapeRuns.{replicated}, specs.{Size.{Size}, declared.pending.Pending.{Pending}}}
+use Rattle.sci_orders.proofs.{Keeping.{contains_none}, Scripts.{free_at}}
+use Rattle.sci_orders.specs.{Orders.{HasEntry, IsEntryAt, IsScriptOf}, Plain.{Plain, Port, no_port, opening_plain, port_at, waits_at}}
+use Rattle.sci_orders.specs.Positions.{AreWithin, Fits, Operations, Position, answer_at, answers_of, opening_position, operation_at}
 use Rattle.sci_orders.specs.declared.standing.Answer.{Answer}
 use Rattle.sci_orders.specs.declared.standing.Answer.TheVariants as answer
-use Rattle.sci_orders.specs.Orders.{HasEntry, IsEntryAt, IsScriptOf}
-use Rattle.sci_orders.specs.Plain.{Plain, Port, no_port, opening_plain, port_at, waits_at}
-use Rattle.sci_orders.specs.Positions.{AreWithin, Fits, Operations, Position, answer_at, answers_of, opening_position, operation_at}
-use Rattle.sci_orders.proofs.{Keeping.{contains_none}, Scripts.{free_at}}
 
 abbrev pub pending_of : Operations → (n i : ℕ) → Pending
 pending_of operations n i = record { serial = i; op = operation_at operations n i }

@@ -1,34 +1,27 @@
 -- Where nothing is under way and no cache has an entry, each operation that is pending can be performed by itself, and then it is
 -- so again.
-use Rattle.std.proofs.Common.{◌≡◌, ℕ, ◌%◌, ◌<◌, ◌&&◌, Bool, true, false, if◌then◌else◌, List, [], ◌∷◌, ◌++◌}
-use Rattle.std.proofs.Common.{Option, Some, None, refl, sym, ap, subst, ◌∙◌, append_assoc, arith, inl, inr}
-use Rattle.std.proofs.lemmas.{Bool.{cases_eq}, List.{Sums.{fold-append}}}
+use Rattle.std.proofs.Common.{◌≡◌, ℕ, ◌%◌, ◌<◌, ◌&&◌, Bool, true, false, if◌then◌else◌, List, [], ◌∷◌, ◌++◌, Option, Some, None, refl, sym, ap, subst, ◌∙◌}
+use Rattle.std.proofs.Common.{append_assoc, arith, inl, inr, ◌*◌, nat_lt}
+use Rattle.std.proofs.lemmas.{Bool.{cases_eq, ltb-true}, List.Sums.{fold-append}}
 use Rattle.std.specs.Prelude.{IsSome, is_some, option_map}
 use Rattle.sci_words.specs.declared.{event.{AskKind.{AskKind}, Event.{Event}}, operation.Op.{Op}, stamped.Stamped.{Stamped}}
-use Rattle.sci_home.specs.Serving.{home_serving}
-use Rattle.sci_cache.specs.{Asking.{Asked, asking}, Cache.{Letter, line_of, letter_asking}, Line.{LineState}}
+use Rattle.sci_home.specs.{Serving.{home_serving}, declared.state.HomeState.{HomeState}}
+use Rattle.sci_cache.specs.{Asking.{Asked, asking}, Cache.{Letter, line_of, letter_asking}, Line.{LineState, untouched}}
 use Rattle.sci_cache.specs.State.{CacheState, Asking, Head, Out, Returning}
-use Rattle.sci_core.specs.{Core.{Core, node_at, run_from, step, stepping, with_node}, Draining.{IsDrained}, Shape.{state_at}, Size.{Size}}
-use Rattle.sci_core.specs.{Node.{NodeOf, no_node, node_asking, pending_on}, Reached.{IsReached}, Rounds.{AreOut, Parts}}
-use Rattle.sci_core.specs.{Fresh.{is_fresh}, Rounds.{is_head, joins_before, parting}, Sharing.{home_at}}
-use Rattle.sci_home.specs.declared.state.HomeState.{HomeState}
-use Rattle.sci_core.proofs.Basics.Options.{found, of_some, same_some}
+use Rattle.sci_core.proofs.Basics.{Lists.{at_place_set}, Options.{found, of_some, same_some}}
 use Rattle.sci_core.proofs.Settling.{Emptying.{home_round, if_same, known, next_lowers}, Leading.{made_append}}
 use Rattle.sci_core.proofs.Settling.{PendingRuns.{Read, can_perform, can_read, has_read, performs_one_read}, Resting.{head_first, home_gone, quiet}}
 use Rattle.sci_core.proofs.Settling.{RoundSteps.{round_drained}, Rounds.{Rounds, rounds}, Shifts.{AskedAs, asked_as}}
-use Rattle.sci_core.proofs.Step.{Sides.{steps_by_sides}}
-use Rattle.sci_core.proofs.WellFormed.WellFormedSteps.{reached_stepping, reached_well}
-use Rattle.sci_core.specs.{Core.{opening}, Node.{may_issue, node_issued, opening_node}, Size.{IsMachineSize}}
-use Rattle.sci_core.proofs.{Basics.Lists.{at_place_set}, Shape.ShapeRuns.{each_mapped, replicated}, Step.Nodes.{some_below}}
-use Rattle.sci_core.proofs.WellFormed.WellFormedSteps.{is_size, reachable}
-use Rattle.sci_cache.specs.Line.{untouched}
-use Rattle.std.proofs.Common.{◌*◌, nat_lt}
-use Rattle.std.proofs.lemmas.Bool.{ltb-true}
+use Rattle.sci_core.proofs.{Shape.ShapeRuns.{each_mapped, replicated}, Step.{Nodes.{some_below}, Sides.{steps_by_sides}}}
+use Rattle.sci_core.proofs.WellFormed.WellFormedSteps.{reached_stepping, reached_well, is_size, reachable}
+use Rattle.sci_core.specs.{Core.{Core, node_at, run_from, step, stepping, with_node, opening}, Draining.{IsDrained}, Fresh.{is_fresh}}
+use Rattle.sci_core.specs.{Node.{NodeOf, no_node, node_asking, pending_on, may_issue, node_issued, opening_node}, Reached.{IsReached}}
+use Rattle.sci_core.specs.{Rounds.{AreOut, Parts, is_head, joins_before, parting}, Settling.{AreMade}, Shape.{state_at}, Sharing.{home_at}}
+use Rattle.sci_core.specs.Size.{Size, IsMachineSize}
+use Rattle.sci_orders.proofs.{Plains.{can_issue_is, step_is, waits_is}, Sound.{events_sound, plain_opening}}
 use Rattle.sci_orders.specs.Plain.{AreAllowed, Plain, can_issue, opening_plain, plain_of, plain_run, plain_step, plain_stepping, waits_at, with_issued}
 use Rattle.sci_orders.specs.Plain.{with_performed}
-use Rattle.sci_core.specs.Settling.{AreMade}
 use Rattle.sci_orders.specs.Witness.{any_event, is_seen, round_of, round_with, schedule_of, seen, seen_from, turn_of}
-use Rattle.sci_orders.proofs.{Plains.{can_issue_is, step_is, waits_is}, Sound.{events_sound, plain_opening}}
 use Rattle.sci_words.specs.declared.event.Event.TheVariants as event
 use Rattle.sci_words.specs.declared.event.AskKind.TheVariants as kind
 use Rattle.sci_packets.specs.declared.body.Body.TheVariants as body
@@ -171,7 +164,7 @@ read_one core n line idle lt inside =
       },
     )
 
--- nobody is to join before the node
+-- no node joins before it
 none_joins : (core : Core) (n line : ℕ) → IsHeld core n line → (m : ℕ) → joins_before (state_at core line m) n ≡ false
 none_joins core n line held m = elim (cases_eq m n) [
   | inl e ↦ ap (λ (k : ℕ). joins_before (state_at core line k) n) e ∙ ap (λ (s : CacheState). joins_before s n) held.here

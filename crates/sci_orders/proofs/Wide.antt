@@ -2,8 +2,7 @@
 use Rattle.std.proofs.Common.{◌≡◌, ℕ, suc, ◌+◌, ◌-◌, ◌*◌, ◌≤◌, Bool, if◌then◌else◌, List, [], ◌∷◌, length, refl, sym, ap, arith, inl, inr}
 use Rattle.std.proofs.lemmas.{Bool.{cases_eq, cases_lt, eq-eqb, ne_eqb}, List.{get_or_past, Sums.{get_or-le-sum_by}}}
 use Rattle.sci_words.specs.declared.{event.Event.{Event}, operation.Op.{Op}}
-use Rattle.sci_orders.specs.Positions.{Operations, operation_count, own_of}
-use Rattle.sci_orders.specs.Orders.{AreFew, IsOrderOf, issues_at, one_less_at, one_more_at}
+use Rattle.sci_orders.specs.{Orders.{AreFew, IsOrderOf, issues_at, one_less_at, one_more_at}, Positions.{Operations, operation_count, own_of}}
 use Rattle.sci_words.specs.declared.event.Event.TheVariants as event
 
 issue_here : (n : ℕ) (op : Op) (order : List Event) → length (issues_at n (event.Issue n op ∷ order)) ≡ suc (length (issues_at n order))

@@ -1,24 +1,14 @@
 -- The orders of a script: what its nodes may issue and perform, one event after another. And what is seen at their end.
-use Rattle.std.specs.Prelude.{◌≡◌, ◌<◌, ◌≤◌, ℕ, ◌+◌, ◌-◌, ◌*◌, ◌==◌, if◌then◌else◌, IsTrue, List, [], ◌∷◌, length, slice_index, slice_index_or}
-use Rattle.std.specs.List.{Contains}
-use Rattle.sci_words.specs.{declared.limits.TheConstants.{WORDS_PER_LINE}, Operation.{has_words}}
-use Rattle.sci_words.specs.declared.{event.Event.{Event}, operation.Op.{Op}, stamped.Stamped.{Stamped}}
-use Rattle.sci_history.specs.{declared.entry.Entry.{Entry}, Memory.{stamped_at}}
+use Rattle.std.specs.{List.{Contains}, Prelude.{◌≡◌, ◌<◌, ◌≤◌, ℕ, ◌+◌, ◌-◌, ◌*◌, ◌==◌, if◌then◌else◌, List, [], ◌∷◌, length, slice_index, slice_index_or}}
+use Rattle.sci_words.specs.declared.{event.Event.{Event}, limits.TheConstants.{WORDS_PER_LINE}, operation.Op.{Op}, stamped.Stamped.{Stamped}}
+use Rattle.sci_history.specs.{Memory.{stamped_at}, declared.entry.Entry.{Entry}}
 use Rattle.sci_core.specs.{Core.{run}, Done.{done}, Sharing.{last_of}, Size.{Size}}
-use Rattle.sci_orders.specs.Positions.{Operations, Position, answer_at, answer_of, operation_at, operation_count, own_of}
-use Rattle.sci_orders.specs.Witness.{seen}
+use Rattle.sci_orders.specs.{Positions.{Operations, Position, answer_at, answer_of, operation_at, operation_count, own_of}, Witness.{IsOperation, seen}}
 use Rattle.sci_words.specs.declared.event.Event.TheVariants as event
-
--- an operation of the machine
-pub record IsOperation (size : Size) (op : Op) : Type 0 where
-  pub line : op.line < size.lines
-  pub word : op.word < WORDS_PER_LINE
-  pub words : IsTrue (has_words op.act)
 
 -- each operation is one of the machine's, and no node has more than it may issue
 pub record IsScriptOf (size : Size) (operations : Operations) : Type 0 where
-  pub nodes : length operations ≤ size.nodes
-  pub each : (n i : ℕ) → i < length (own_of operations n) → IsOperation size (operation_at operations n i)
+  pub each : (n i : ℕ) → i < length (own_of operations n) → IsOperation size n (operation_at operations n i)
   pub few : (n : ℕ) → length (own_of operations n) ≤ size.limit
 
 -- ---- the orders of a script

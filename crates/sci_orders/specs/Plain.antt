@@ -1,12 +1,12 @@
 -- One memory of one thread in the machine's place. An operation that a node issues waits on its line, one at a time. A Perform
 -- does it on the memory, at any time and by itself.
-use Rattle.std.specs.Prelude.{ℕ, ◌+◌, ◌&&◌, nat_lt, Bool, if◌then◌else◌, List, [], ◌∷◌, ◌++◌, map, replicate, slice_index_or, slice_set}
-use Rattle.std.specs.Prelude.{Option, Some, None, is_none, option_map, option_to_list, unwrap_or, IsSome}
 use Rattle.std.specs.List.{fold}
-use Rattle.sci_words.specs.declared.{event.Event.{Event}, limits.TheConstants.{WORDS_PER_LINE}, operation.Op.{Op}, stamped.Stamped.{Stamped}}
+use Rattle.std.specs.Prelude.{ℕ, ◌+◌, ◌&&◌, nat_lt, Bool, if◌then◌else◌, List, [], ◌∷◌, ◌++◌, map, replicate, slice_index_or, slice_set, Option, Some, None}
+use Rattle.std.specs.Prelude.{is_none, option_map, option_to_list, unwrap_or, IsSome}
 use Rattle.sci_words.specs.{Operation.{has_words}, Stamped.{after, reply_of, zero_stamped}}
-use Rattle.sci_history.specs.{declared.entry.Entry.{Entry}, Memory.{contents_after, stamped_at}}
-use Rattle.sci_core.specs.{declared.pending.Pending.{Pending}, Core.{Core, node_of}, Node.{NodeOf}, Sharing.{last_of}, Size.{Size}}
+use Rattle.sci_words.specs.declared.{event.Event.{Event}, limits.TheConstants.{WORDS_PER_LINE}, operation.Op.{Op}, stamped.Stamped.{Stamped}}
+use Rattle.sci_history.specs.{Memory.{contents_after, stamped_at}, declared.entry.Entry.{Entry}}
+use Rattle.sci_core.specs.{Core.{Core, node_of}, Node.{NodeOf}, Sharing.{last_of}, Size.{Size}, declared.pending.Pending.{Pending}}
 use Rattle.sci_words.specs.declared.event.Event.TheVariants as event
 
 -- a node's side of the memory: the operation that waits on each line, if any, and how many operations were issued

@@ -1,10 +1,10 @@
 -- How far the operations of a script have come on one memory of one thread, and where they can come.
-use Rattle.std.specs.Prelude.{◌≡◌, ◌<◌, ◌≤◌, ℕ, zero, suc, ◌+◌, ◌*◌, ◌&&◌, ◌==◌, ◌++◌, not, nat_lt, Bool, true, false, if◌then◌else◌}
-use Rattle.std.specs.Prelude.{List, [], ◌∷◌, length, map, replicate, slice_get, slice_index_or, slice_set, Option, Some, None, count_by, Vec}
 use Rattle.std.specs.List.{All, Contains, filter_map, flat_map, list_any, range_with_len, sum_by}
+use Rattle.std.specs.Prelude.{◌≡◌, ◌<◌, ◌≤◌, ℕ, zero, suc, ◌+◌, ◌*◌, ◌&&◌, ◌==◌, ◌++◌, not, nat_lt, Bool, true, false, if◌then◌else◌, List, [], ◌∷◌, length}
+use Rattle.std.specs.Prelude.{map, replicate, slice_get, slice_index_or, slice_set, Option, Some, None, count_by, Vec}
+use Rattle.sci_words.specs.Operation.{effect}
 use Rattle.sci_words.specs.declared.limits.TheConstants.{WORDS_PER_LINE}
 use Rattle.sci_words.specs.declared.operation.{Act.TheVariants.{Load}, Op.{Op}, Reply.{Reply, TheVariants.{Stored, Got}}}
-use Rattle.sci_words.specs.Operation.{effect}
 use Rattle.sci_orders.specs.declared.standing.{Answer.{Answer}, Standing.{Standing}}
 use Rattle.sci_orders.specs.declared.standing.Answer.TheVariants as answer
 

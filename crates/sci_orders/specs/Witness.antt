@@ -1,8 +1,8 @@
 -- What is seen of a schedule from outside, and a schedule for each order.
-use Rattle.std.specs.{Prelude.{◌≡◌, ◌<◌, ◌≤◌, ◌==◌, ◌%◌, ◌&&◌, ◌++◌, ℕ, Bool, true, false, if◌then◌else◌}, List.{AllByRecursion}}
-use Rattle.std.specs.Prelude.{IsTrue, List, [], ◌∷◌, count_by, is_some}
-use Rattle.sci_words.specs.declared.{event.{AskKind.{AskKind}, Event.{Event}}, limits.TheConstants.{WORDS_PER_LINE}}
+use Rattle.std.specs.List.{AllByRecursion}
+use Rattle.std.specs.Prelude.{◌≡◌, ◌<◌, ◌≤◌, ◌==◌, ◌%◌, ◌&&◌, ◌++◌, ℕ, Bool, true, false, if◌then◌else◌, IsTrue, List, [], ◌∷◌, count_by, is_some}
 use Rattle.sci_words.specs.Operation.{has_words}
+use Rattle.sci_words.specs.declared.{event.{AskKind.{AskKind}, Event.{Event}}, limits.TheConstants.{WORDS_PER_LINE}, operation.Op.{Op}}
 use Rattle.sci_history.specs.Oracle.{Issue, oracle_entries, oracle_last}
 use Rattle.sci_core.specs.{Core.{Core, along, opening, stepping, run}, Done.{done}, Sharing.{last_of}, Size.{Size}}
 use Rattle.sci_orders.specs.Plain.{AreAllowed, opening_plain, plain_done, plain_run}
@@ -67,12 +67,15 @@ abbrev pub one_by_one : List Issue → List Event
 one_by_one [] = []
 one_by_one (issue ∷ script) = event.Issue issue.0 issue.1 ∷ event.Perform issue.0 issue.1.line ∷ one_by_one script
 
--- node, line and word are the machine's, and the operands are words
-pub record IsFor (size : Size) (issue : Issue) : Type 0 where
-  pub node : issue.0 < size.nodes
-  pub line : issue.1.line < size.lines
-  pub word : issue.1.word < WORDS_PER_LINE
-  pub words : IsTrue (has_words issue.1.act)
+-- an operation of a node of the machine: node, line and word are the machine's, and the operands are words
+pub record IsOperation (size : Size) (n : ℕ) (op : Op) : Type 0 where
+  pub node : n < size.nodes
+  pub line : op.line < size.lines
+  pub word : op.word < WORDS_PER_LINE
+  pub words : IsTrue (has_words op.act)
+
+abbrev pub IsFor : Size → Issue → Type 0
+IsFor size issue = IsOperation size issue.0 issue.1
 
 -- each operation is one of the machine's, and no node has more than it may issue
 pub record AreFor (size : Size) (script : List Issue) : Type 0 where

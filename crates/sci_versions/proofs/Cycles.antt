@@ -1,11 +1,10 @@
 -- Stretches of a word: from a value's writer to the next one's. They can't go round in a cycle.
-use Rattle.std.proofs.Common.{◌≡◌, ℕ, zero, suc, ◌+◌, ◌-◌, ◌<◌, ◌≤◌, List, [], ◌∷◌, length, sym, ap, ◌∙◌, arith, inl, inr}
-use Rattle.std.proofs.lemmas.Bool.{cases_eq, cases_lt}
+use Rattle.std.proofs.{Common.{◌≡◌, ℕ, zero, suc, ◌+◌, ◌-◌, ◌<◌, ◌≤◌, List, [], ◌∷◌, length, sym, ap, ◌∙◌, arith, inl, inr}, lemmas.Bool.{cases_eq, cases_lt}}
 use Rattle.sci_words.specs.declared.{limits.TheConstants.{MAX_NODES, WORDS_PER_LINE}, stamped.Stamped.{Stamped}}
-use Rattle.sci_history.specs.{declared.entry.Entry.{Entry}, Lawful.{Lawful}, Memory.{stamped_at}, Placed.{AreOwn}}
 use Rattle.sci_history.proofs.{Consequences.{among_all}, LawLemmas.{not_stale}}
-use Rattle.sci_versions.specs.Stretches.{left_by, IsWriter, IsWrittenOnce, FollowsIn, IsChain, IsCycle}
+use Rattle.sci_history.specs.{Lawful.{Lawful}, Memory.{stamped_at}, Placed.{AreOwn}, declared.entry.Entry.{Entry}}
 use Rattle.sci_versions.proofs.Words.{IsLine, got_old, is_placed, leaves_at, word_at, word_step, zero_at_start}
+use Rattle.sci_versions.specs.Stretches.{left_by, IsWriter, IsWrittenOnce, FollowsIn, IsChain, IsCycle}
 
 -- a writer of this value between two versions
 record IsBetween (logs : List (List Entry)) (line word value low high : ℕ) : Type 0 where

@@ -3,13 +3,13 @@ use Rattle.std.proofs.Common.{◌≡◌, ℕ, zero, suc, ◌<◌, List, [], ◌�
 use Rattle.std.proofs.lemmas.{Bool.{cases_Bool, cases_lt, eq-eqb}, List.Elements.{recursion_from_All}}
 use Rattle.std.specs.List.{filter, AllPairs}
 use Rattle.sci_words.specs.declared.{limits.TheConstants.{WORDS_PER_LINE}, stamped.Stamped.{Stamped}}
-use Rattle.sci_history.specs.{declared.entry.Entry.{Entry}, Lawful.{IsLawfulLine}, Memory.{stamped_at}, Placed.{AreOwn, is_making, is_on_line, log_of}}
-use Rattle.sci_history.specs.Seen.{DidOn, IsAmong}
 use Rattle.sci_history.proofs.{AuditFinds.{no_entry}, Consequences.{among_all, among_filter, among_whole}, Order.{filter_yes, filter_no}}
 use Rattle.sci_history.proofs.Placings.{among_back, among_begins}
+use Rattle.sci_history.specs.{Lawful.{IsLawfulLine}, Memory.{stamped_at}, Placed.{AreOwn, is_making, is_on_line, log_of}, Seen.{DidOn, IsAmong}}
+use Rattle.sci_history.specs.declared.entry.Entry.{Entry}
+use Rattle.sci_versions.proofs.Cycles.{no_cycle}
 use Rattle.sci_versions.specs.Stretches.{left_by, IsWriter, IsWrittenOnce, FollowsIn, IsChain, IsCycle}
 use Rattle.sci_versions.specs.Versions.{unversioned, without_versions, HasVersions, KnownWords}
-use Rattle.sci_versions.proofs.Cycles.{no_cycle}
 
 -- ---- lists that are the same but for versions
 

@@ -2,12 +2,12 @@
 use Rattle.std.proofs.Common.{◌≡◌, ◌⊎◌, ℕ, suc, ◌-◌, ◌<◌, ◌≤◌, true, false, List, length, get_or, refl, sym, ap, ◌∙◌, arith, inl, inr, eqb}
 use Rattle.std.proofs.lemmas.{Bool.{and_parts, eqb-true, cases_Bool, cases_eq}, List.{get_or-set_same, get_or-set_other, get_or-replicate}}
 use Rattle.std.specs.Prelude.{IsTrue}
-use Rattle.sci_words.specs.declared.{limits.TheConstants.{MAX_NODES, WORDS_PER_LINE}, operation.{Act.{Act}}, stamped.Stamped.{Stamped}}
-use Rattle.sci_words.specs.declared.operation.{Act.TheVariants.{Load, Store, Lock}, Reply.TheVariants.{Got}}
 use Rattle.sci_words.specs.{Operation.{effect_of_act, makes_version}, Stamped.{line_after, zero_line, zero_stamped}}
-use Rattle.sci_history.specs.{declared.entry.Entry.{Entry}, Lawful.{IsLawfulLine}, Placed.{AreOwn, is_making, placed}, Seen.{DidOn, IsAmong}}
+use Rattle.sci_words.specs.declared.limits.TheConstants.{MAX_NODES, WORDS_PER_LINE}
+use Rattle.sci_words.specs.declared.{operation.{Act.{Act, TheVariants.{Load, Store, Lock}}, Reply.TheVariants.{Got}}, stamped.Stamped.{Stamped}}
 use Rattle.sci_history.proofs.Consequences.{line_words, words_long, made_at, placed_did, placed_history, agreed, did_placed, among_all}
 use Rattle.sci_history.proofs.Histories.{versions-within, words_at-start, makers-after}
+use Rattle.sci_history.specs.{Lawful.{IsLawfulLine}, Placed.{AreOwn, is_making, placed}, Seen.{DidOn, IsAmong}, declared.entry.Entry.{Entry}}
 use Rattle.sci_versions.specs.Stretches.{left_by, left_by_act}
 
 -- the logs of a lawful line

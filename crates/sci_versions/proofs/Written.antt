@@ -2,10 +2,9 @@
 use Rattle.std.proofs.Common.{◌≡◌, ◌≢◌, ◌⊎◌, ℕ, zero, suc, ◌<◌, ◌≤◌, List, length, sym, ◌∙◌, arith, inl, inr}
 use Rattle.sci_words.specs.declared.{limits.TheConstants.{MAX_NODES, WORDS_PER_LINE}, operation.{Act.TheVariants.{Load}, Reply.TheVariants.{Got}}}
 use Rattle.sci_words.specs.declared.stamped.Stamped.{Stamped}
-use Rattle.sci_history.specs.{declared.entry.Entry.{Entry}, Lawful.{Lawful}, Memory.{stamped_at}, Placed.{AreOwn}, Seen.{DidOn}}
 use Rattle.sci_history.proofs.Consequences.{loaded}
-use Rattle.sci_versions.specs.Stretches.{IsWritten}
-use Rattle.sci_versions.proofs.Words.{IsLine, is_placed, word_at, word_step, zero_at_start}
+use Rattle.sci_history.specs.{Lawful.{Lawful}, Memory.{stamped_at}, Placed.{AreOwn}, Seen.{DidOn}, declared.entry.Entry.{Entry}}
+use Rattle.sci_versions.{proofs.Words.{IsLine, is_placed, word_at, word_step, zero_at_start}, specs.Stretches.{IsWritten}}
 
 -- the word at a version is 0, or some maker left it
 word_from : (logs : List (List Entry)) (line word : ℕ) (last : Stamped) (version : ℕ) → IsLine logs line word last → version ≤ last.version

@@ -1,9 +1,9 @@
 -- Which values a word had, one after another, as far as logs show it without versions. A stretch of a value is all
 -- operations that leave it, from the one that wrote it to the last that read it.
 use Rattle.std.specs.Prelude.{◌≡◌, ◌<◌, ◌++◌, ℕ, true, List, [], ◌∷◌, filter}
-use Rattle.sci_words.specs.declared.{limits.TheConstants.{MAX_NODES}, operation.{Act.{Act}, Reply.{Reply, TheVariants.{Stored, Got}}}}
 use Rattle.sci_words.specs.Operation.{effect_of_act}
-use Rattle.sci_history.specs.{declared.entry.Entry.{Entry}, Placed.{is_making, is_on_line, log_of}, Seen.{DidOn, IsAmong}}
+use Rattle.sci_words.specs.declared.{limits.TheConstants.{MAX_NODES}, operation.{Act.{Act}, Reply.{Reply, TheVariants.{Stored, Got}}}}
+use Rattle.sci_history.specs.{Placed.{is_making, is_on_line, log_of}, Seen.{DidOn, IsAmong}, declared.entry.Entry.{Entry}}
 
 -- the word that an operation leaves, by what it does and its reply alone: a load leaves what it read
 abbrev pub left_by_act : Act → Reply → ℕ

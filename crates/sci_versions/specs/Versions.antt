@@ -1,7 +1,7 @@
 -- Logs whose versions aren't known, and versions for them.
 use Rattle.std.specs.Prelude.{◌≡◌, ℕ, List, length, map, Option, Some, slice_index_or}
 use Rattle.sci_words.specs.declared.{limits.TheConstants.{MAX_NODES}, stamped.Stamped.{Stamped}}
-use Rattle.sci_history.specs.{declared.entry.Entry.{Entry}, Lawful.{Lawful}, Memory.{stamped_at}, Placed.{AreOwn}}
+use Rattle.sci_history.specs.{Lawful.{Lawful}, Memory.{stamped_at}, Placed.{AreOwn}, declared.entry.Entry.{Entry}}
 
 -- an entry without its version
 abbrev pub unversioned : Entry → Entry

@@ -1,7 +1,6 @@
 use Rattle.std.proofs.{Common.{map}, lemmas.Result.{IfOk-weaker}}
 use Rattle.sci_core.specs.Size.{size_of}
-use Rattle.sci_orders.specs.Positions.{lists_of, position_of}
-use Rattle.sci_orders.proofs.{Exactly.{each_has_run, each_run_among}, Stands.{within}}
+use Rattle.sci_orders.{proofs.{Exactly.{each_has_run, each_run_among}, Stands.{within}}, specs.Positions.{lists_of, position_of}}
 use Rattle.sci_orders.proofs.levels.all_outcomes.Goals as goal
 
 pub last_standings-requires : goal.last_standings-requires

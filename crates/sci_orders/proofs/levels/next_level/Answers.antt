@@ -1,12 +1,10 @@
 -- The sort moves what was collected, and of those that are the same one is kept.
-use Rattle.std.proofs.Common.{◌≡◌, ℕ, ◌<◌, List, length, map, take, get_or, subst, sym, ap, ◌∙◌, arith}
-use Rattle.std.proofs.Math.Seq.{take-length}
+use Rattle.std.proofs.{Common.{◌≡◌, ℕ, ◌<◌, List, length, map, take, get_or, subst, sym, ap, ◌∙◌, arith}, Math.Seq.{take-length}}
 use Rattle.std.proofs.lemmas.List.{get_or-map, length-map, Elements.{All-get_or}, Filters.{dedup_is}}
 use Rattle.std.specs.List.{flat_map}
-use Rattle.sci_orders.specs.declared.standing.Standing.{Standing}
-use Rattle.sci_orders.specs.Positions.{Fits, lists_of, position_of, steps_from}
 use Rattle.sci_orders.proofs.{LevelSteps.{steps_kept}, Sameness.{same_standing}}
-use Rattle.sci_orders.specs.contracts.standing.StandingEq.TheImpl.Laws.{laws-law}
+use Rattle.sci_orders.specs.{Positions.{Fits, lists_of, position_of, steps_from}, contracts.standing.StandingEq.TheImpl.Laws.{laws-law}}
+use Rattle.sci_orders.specs.declared.standing.Standing.{Standing}
 use Rattle.sci_orders.proofs.levels.next_level.Goals as goal
 
 pub push_steps-requires : goal.push_steps-requires

@@ -1,6 +1,5 @@
 -- What one step from the standings so far leads to was collected.
-use Rattle.std.proofs.Common.{◌≡◌, map, take}
-use Rattle.std.specs.List.{flat_map}
+use Rattle.std.{proofs.Common.{◌≡◌, map, take}, specs.List.{flat_map}}
 use Rattle.sci_orders.specs.Positions.{lists_of, position_of, steps_from}
 use Rattle.sci_orders.proofs.levels.next_level.Given as goal
 

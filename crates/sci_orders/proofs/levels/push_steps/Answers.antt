@@ -1,8 +1,6 @@
 -- One node more takes a step.
-use Rattle.std.proofs.Common.{◌++◌, map, List, append_assoc, sym, ap, ◌∙◌}
-use Rattle.std.specs.List.{flat_map, range_with_len}
-use Rattle.sci_orders.specs.Positions.{Position, lists_of, position_of, steps_of}
-use Rattle.sci_orders.proofs.Places.{flat_more}
+use Rattle.std.{proofs.Common.{◌++◌, map, List, append_assoc, sym, ap, ◌∙◌}, specs.List.{flat_map, range_with_len}}
+use Rattle.sci_orders.{proofs.Places.{flat_more}, specs.Positions.{Position, lists_of, position_of, steps_of}}
 use Rattle.sci_orders.proofs.levels.push_steps.Goals as goal
 
 pub loop-n-preserved : goal.loop-n-preserved

@@ -1,6 +1,5 @@
 -- What one step of each node so far leads to was appended.
-use Rattle.std.proofs.Common.{◌≡◌, ◌++◌, map}
-use Rattle.std.specs.List.{flat_map, range_with_len}
+use Rattle.std.{proofs.Common.{◌≡◌, ◌++◌, map}, specs.List.{flat_map, range_with_len}}
 use Rattle.sci_orders.specs.Positions.{lists_of, position_of, steps_of}
 use Rattle.sci_orders.proofs.levels.push_steps.Given as goal
 

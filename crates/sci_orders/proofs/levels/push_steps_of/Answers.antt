@@ -1,9 +1,7 @@
 -- One more operation comes a step further, or can't.
-use Rattle.std.proofs.Common.{◌≡◌, ◌++◌, ◌∷◌, [], map, Some, None, ap, sym, ◌∙◌, rules}
-use Rattle.std.specs.Prelude.{option_map}
+use Rattle.std.{proofs.Common.{◌≡◌, ◌++◌, ◌∷◌, [], map, Some, None, ap, sym, ◌∙◌, rules}, specs.Prelude.{option_map}}
+use Rattle.sci_orders.proofs.{Places.{gives_none, gives_some}, levels.push_steps_of.Goals.{in-Some+in_ok-push, in_default}}
 use Rattle.sci_orders.specs.Positions.{lists_of, position_of, step_at}
-use Rattle.sci_orders.proofs.Places.{gives_none, gives_some}
-use Rattle.sci_orders.proofs.levels.push_steps_of.Goals.{in-Some+in_ok-push, in_default}
 use Rattle.sci_orders.proofs.levels.push_steps_of.Goals as goal
 
 pub loop-i-preserved : goal.loop-i-preserved

@@ -1,6 +1,5 @@
 -- What one step of each operation so far leads to was appended.
-use Rattle.std.proofs.Common.{◌≡◌, ◌++◌, map}
-use Rattle.std.specs.List.{filter_map, range_with_len}
+use Rattle.std.{proofs.Common.{◌≡◌, ◌++◌, map}, specs.List.{filter_map, range_with_len}}
 use Rattle.sci_orders.specs.Positions.{lists_of, position_of, step_at}
 use Rattle.sci_orders.proofs.levels.push_steps_of.Given as goal
 

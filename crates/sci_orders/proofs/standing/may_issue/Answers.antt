@@ -1,11 +1,7 @@
 -- Each operation of the node is looked at.
-use Rattle.std.proofs.Common.{◌≡◌, ◌==◌, ◌&&◌, Bool, true, false, get_or, sym, ap, ◌∙◌}
-use Rattle.std.proofs.lemmas.Bool.{eq-eqb, ne_eqb}
-use Rattle.std.proofs.lemmas.List.{get_or_default}
-use Rattle.sci_orders.specs.declared.standing.Answer.TheVariants.{Stored}
-use Rattle.sci_orders.specs.Positions.{blocks, is_waiting, no_operation}
-use Rattle.sci_orders.proofs.Passing.{blocked, passed_no, passed_yes}
-use Rattle.sci_orders.proofs.standing.may_issue.Goals.{then-is_waiting+else-own-j, else-is_waiting}
+use Rattle.std.proofs.{Common.{◌≡◌, ◌==◌, ◌&&◌, Bool, true, false, get_or, sym, ap, ◌∙◌}, lemmas.{Bool.{eq-eqb, ne_eqb}, List.{get_or_default}}}
+use Rattle.sci_orders.proofs.{Passing.{blocked, passed_no, passed_yes}, standing.may_issue.Goals.{then-is_waiting+else-own-j, else-is_waiting}}
+use Rattle.sci_orders.specs.{Positions.{blocks, is_waiting, no_operation}, declared.standing.Answer.TheVariants.{Stored}}
 use Rattle.sci_orders.proofs.standing.may_issue.Goals as goal
 
 pub returns-then-own-j : goal.returns-then-own-j

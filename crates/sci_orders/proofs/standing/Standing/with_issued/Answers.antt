@@ -1,7 +1,6 @@
 -- The node's answers end with one more.
 use Rattle.std.proofs.Common.{◌++◌, ◌∷◌, [], ◌∙◌, rules}
-use Rattle.sci_orders.specs.declared.standing.Answer.TheVariants.{Waiting}
-use Rattle.sci_orders.proofs.{Copies.{list_changed}, Sameness.{same_position}}
+use Rattle.sci_orders.{proofs.{Copies.{list_changed}, Sameness.{same_position}}, specs.declared.standing.Answer.TheVariants.{Waiting}}
 use Rattle.sci_orders.proofs.standing.Standing.with_issued.Goals as goal
 
 pub returns : goal.returns

@@ -1,10 +1,7 @@
 -- One answer of the node is another, and one word.
-use Rattle.std.proofs.Common.{◌≡◌, set, get_or, ◌∙◌, ap, rules, arith}
-use Rattle.std.proofs.lemmas.Grind.{common_steps}
+use Rattle.std.proofs.{Common.{◌≡◌, set, get_or, ◌∙◌, ap, rules, arith}, lemmas.Grind.{common_steps}}
 use Rattle.sci_words.specs.Operation.{effect}
-use Rattle.sci_orders.specs.declared.standing.Answer.{Answer}
-use Rattle.sci_orders.specs.Positions.{answer_of, word_place}
-use Rattle.sci_orders.proofs.{Copies.{list_changed}, Sameness.{same_position}}
+use Rattle.sci_orders.{proofs.{Copies.{list_changed}, Sameness.{same_position}}, specs.{Positions.{answer_of, word_place}, declared.standing.Answer.{Answer}}}
 use Rattle.sci_orders.proofs.standing.Standing.with_performed.Goals as goal
 
 pub returns : goal.returns
