@@ -11,7 +11,7 @@
 
 /* A node has at most one packet about each of its lines under way, for no more lines than it has slots. So the bag never has
 ** more than NODES * SLOTS packets. */
-enum { NODES = 4, LINES = 4, SLOTS = 2, OPERATIONS = 250, ROOM = NODES * SLOTS };
+enum { NODES = 4, LINES = 16, SLOTS = 8, OPERATIONS = 1000, ROOM = NODES * SLOTS };
 
 typedef struct packet {
     uint8_t bytes[SCI_PACKET_BYTES];
@@ -92,33 +92,47 @@ static void note(const sci_entry *entry) {
     }
 }
 
-/* One node does one thing that it can do. */
-static void step(unsigned n, unsigned losses) {
+/* Node n issues an operation and asks something about its line, as far as it may. */
+static void work(unsigned n) {
+    const sci_op op = { (uint8_t)(drawn(2) ? SCI_STORE : SCI_LOAD), (uint8_t)drawn(LINES), (uint8_t)drawn(2), 0, 0, drawn(1000) };
     packet p = { { 0 }, 0 };
-    sci_op op = { (uint8_t)(drawn(2) ? SCI_STORE : SCI_LOAD), (uint8_t)drawn(LINES), (uint8_t)drawn(2), 0, 0, drawn(1000) };
     uint32_t serial;
+    (void)sci_node_issue(&node[n], &op, &serial);
+    if (sci_node_ask(&node[n], op.line, (uint8_t)drawn(SCI_SETBACK + 1), p.bytes, &p.length) == SCI_OK) {
+        send(&p);
+    }
+}
+
+/* An answer that waits at node n goes into the bag. */
+static void reply(unsigned n) {
+    packet p = { { 0 }, 0 };
+    if (sci_node_take_answer(&node[n], p.bytes, &p.length) == SCI_OK) {
+        send(&p);
+    }
+}
+
+/* The network gives some packet of the bag to its target, or loses it. */
+static void carry(unsigned losses) {
+    const size_t place = in_bag > 0 ? drawn((unsigned)in_bag) : 0;
+    if (in_bag > 0 && lost < losses && drawn(200) == 0) {
+        take_out(place);
+        lost++;
+    } else if (in_bag > 0) {
+        deliver(place);
+    }
+}
+
+static void step(unsigned n, unsigned losses) {
     sci_entry entry;
-    switch (drawn(6)) {
+    switch (drawn(8)) {
     case 0:
-        (void)sci_node_issue(&node[n], &op, &serial);
+        reply(n);
         break;
     case 1:
-        if (sci_node_ask(&node[n], op.line, (uint8_t)drawn(SCI_SETBACK + 1), p.bytes, &p.length) == SCI_OK) {
-            send(&p);
-        }
-        break;
-    case 2:
-        if (sci_node_take_answer(&node[n], p.bytes, &p.length) == SCI_OK) {
-            send(&p);
-        }
+        carry(losses);
         break;
     default:
-        if (in_bag > 0 && lost < losses && drawn(200) == 0) {
-            take_out(drawn((unsigned)in_bag));
-            lost++;
-        } else if (in_bag > 0) {
-            deliver(drawn((unsigned)in_bag));
-        }
+        work(n);
     }
     for (uint8_t line = 0; line < LINES; line++) {
         if (sci_node_perform(&node[n], line, &entry) == SCI_OK) {
