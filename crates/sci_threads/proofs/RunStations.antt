@@ -1,23 +1,21 @@
 -- The stations of a run, before it and after it.
-use Rattle.std.proofs.Common.{◌≡◌, ◌≤◌, ◌<◌, ℕ, arith, Bool, true, List, [], ◌∷◌, ◌++◌, All, length, filter, map, take, drop, Some, None, Result, Ok, Err}
-use Rattle.std.proofs.{Common.{IfOk, Vec, refl, sym, ap, subst, ◌∙◌, inl, inr}, lemmas.Bool.{cases_lt}}
+use Rattle.std.proofs.Common.{◌≡◌, ◌<◌, ℕ, arith, Bool, true, List, [], ◌∷◌, ◌++◌, All, length, map, take, drop, Some, Result, Ok, Err}
+use Rattle.std.proofs.{Common.{IfOk, Vec, refl, sym, ap, subst, ◌∙◌}}
 use Rattle.std.proofs.lemmas.List.{append-nil, drop_all, get_or-map, length-map, take_all, Elements.{All-map}}
-use Rattle.std.proofs.lemmas.List.{FromFn.{get_or-map-range_with_len, length-map-range_with_len}, Sums.{length-filter}}
+use Rattle.std.proofs.lemmas.List.{FromFn.{get_or-map-range_with_len, length-map-range_with_len}}
 use Rattle.std.proofs.lemmas.Option.{get_or_from_slice_get, slice_get-get_or, slice_get-map, slice_get_within}
-use Rattle.std.specs.Prelude.{slice_get, slice_index_or, ◌==◌, option_map}
+use Rattle.std.specs.Prelude.{slice_get, slice_index_or, option_map}
 use Rattle.atomic_table.specs.Seated.{TableId}
-use Rattle.sci_words.specs.declared.{extent.Extent.{Extent}, limits.TheConstants.{MAX_NODES, MAX_OPERATIONS}}
+use Rattle.sci_words.specs.declared.{extent.Extent.{Extent}, limits.TheConstants.{MAX_OPERATIONS}}
 use Rattle.sci_words.specs.declared.{operation.Op.{Op}, stamped.Stamped.{Stamped}}
 use Rattle.sci_history.specs.{declared.entry.Entry.{Entry}, Placed.{log_of}}
-use Rattle.sci_history.specs.Sequential.{AreInProgramOrder, IsInProgramOrder}
-use Rattle.sci_text.specs.Script.{ScriptValue, IsScript}
-use Rattle.sci_core.specs.{Size.{Size, size_of}, Node.{opening_node}, Core.{Core}, Outcome.{logs_of}}
-use Rattle.sci_core.specs.{Reached.{IsReached}, Sharing.{last_of}}
+use Rattle.sci_text.specs.Script.{ScriptValue}
+use Rattle.sci_core.specs.{Size.{Size, size_of}, Core.{Core}, Outcome.{logs_of}}
+use Rattle.sci_core.specs.{Sharing.{last_of}}
 use Rattle.sci_lanes.specs.{Shown.{me_of, opening_part}, Ends.{EndOf, LanesOf, opening_ends}}
 use Rattle.sci_lanes.specs.Gathering.{AreAll, AreOf, HaveLogs, IsLedTo, IsOf}
-use Rattle.sci_lanes.proofs.{Gathered.{logs_made}, Opening.{replicated}}
+use Rattle.sci_lanes.proofs.{Gathered.{logs_made}}
 use Rattle.sci_drive.specs.{Driving.{HasSubmittedNothing}, Script.{IsWholeLogOf}}
-use Rattle.sci_core.proofs.{WellFormed.WellFormedSteps.{reached_well}, ReachedLaws.{log_at, log_beyond, beyond_log}}
 use Rattle.sci_drive.proofs.Fresh.{opened_fresh, sized_for}
 use Rattle.sci_station.specs.{Ends.{IsSameEnd}, Station.{StationOf, end_in, node_in, opening_station}}
 use Rattle.sci_station.proofs.Belonging.{opened_of, same_of}

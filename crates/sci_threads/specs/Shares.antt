@@ -1,14 +1,12 @@
 -- What each node of a machine does of a script.
-use Rattle.std.specs.Prelude.{◌≡◌, ◌<◌, ◌≤◌, ◌==◌, ◌+◌, ◌⊎◌, ℕ, All, Bool, true, false, List, [], filter, length, map, Result, Ok, IfOk}
+use Rattle.std.specs.Prelude.{◌≡◌, ◌<◌, ◌≤◌, ◌+◌, ◌⊎◌, ℕ, All, Bool, true, false, List, [], length, map, Result, Ok, IfOk}
 use Rattle.std.specs.{Prelude.{slice_index_or, Vec}, List.{sum}}
-use Rattle.sci_words.specs.declared.{limits.TheConstants.{MAX_OPERATIONS}, operation.Op.{Op}, stamped.Stamped.{Stamped}}
-use Rattle.sci_history.specs.{declared.entry.Entry.{Entry}, Placed.{log_of}}
-use Rattle.sci_text.specs.Script.{ScriptValue}
+use Rattle.sci_words.specs.declared.{operation.Op.{Op}, stamped.Stamped.{Stamped}}
+use Rattle.sci_history.specs.{declared.entry.Entry.{Entry}}
 use Rattle.sci_core.specs.{Size.{Size}, Core.{Core}, Outcome.{logs_of}, Sharing.{last_of}}
 use Rattle.sci_lanes.specs.{Shown.{me_of}, Ends.{EndOf}, Gathering.{AreMadeBy, IsLedTo}}
 use Rattle.sci_drive.specs.declared.driver.Issuing.{Issuing, TheVariants.{InOrder}}
 use Rattle.sci_drive.specs.{Calls.{Call, EndWithAllDone, IsHeard}, Driving.{DriverOf, IsDriven, IsInOrder, opening_driver}}
-use Rattle.sci_drive.specs.Script.{IsFrontOf, IsLogOf, IsWholeLogOf}
 use Rattle.sci_policy.specs.Deeds.{Deed}
 use Rattle.sci_station.specs.{Deeds.{Does}, Ends.{IsSameEnd}}
 use Rattle.sci_threads.specs.{declared.share.Share.{Share}, Slices.{GoSlices}}
