@@ -16,7 +16,7 @@ from thread_faults import try_threads
 Case = namedtuple("Case", "name words given status output errors usage")
 
 # Of each program a word that chooses a command, and the stored case with no word.
-PROGRAMS = {"scimem": (b"oracle", "no-word"), "sciview": (b"order", "sciview-no-word")}
+PROGRAMS = {"scimem": (b"oracle", "words.txt: no word"), "sciview": (b"order", "sciview-words.txt: no word")}
 
 # How many operations and entries of each of 16 nodes the larger inputs have. A list takes memory for each event, so those of
 # `sciview` have fewer.
@@ -30,8 +30,7 @@ def odd_words(word):
 
 def usage_of(top, name):
     """What a program writes on standard error if the words of its command line choose no command."""
-    with open(f"{top}/cases/{PROGRAMS[name][1]}/errors", "rb") as file:
-        return file.read()
+    return next(it.errors for it in stored_cases(top) if it.name == PROGRAMS[name][1])
 
 
 def refusal(case, kind):

@@ -10,7 +10,7 @@ OTHERS = {
     "docs/scimem.1": r'^\.TH .* "Lichenknit (\S+)"',
     "docs/sciview.1": r'^\.TH .* "Lichenknit (\S+)"',
     "bench/Cargo.toml": r'^version = "(.*)"',
-    "cases/sciview-version/output": r"^sciview (\S+)",
+    "cases/sciview-words.txt": r"^sciview (\d\S*)",
 }
 # The header of the C library has the first two numbers.
 HEADER = "include/sci.h"

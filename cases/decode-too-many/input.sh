@@ -1,1 +1,0 @@
-head -c 134217729 /dev/zero

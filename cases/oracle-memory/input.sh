@@ -1,1 +1,0 @@
-head -c 134217728 /dev/zero
