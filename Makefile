@@ -8,14 +8,20 @@ NEED_CARGO = command -v cargo > /dev/null || { echo "cargo is missing: install R
 PROGRAMS = crates/scimem/out/scimem crates/sciview/out/sciview crates/sci_circle/out/sci_circle
 SOURCES = crates.txt HANDLES $(shell find crates -name out -prune -o -path '*_tests' -prune -o \( -name '*.rt' -o -name '*.antt' \) -print)
 
-.PHONY: run test check fmt bench growth instructions fuzz soak faults install build library install-library plants cases examples charts clean
+.PHONY: try run test check fmt bench growth instructions fuzz soak faults install build library install-library plants cases examples charts clean
 
 PREFIX = /usr/local
 
-# Builds the program and runs its stored example.
+# Shows the first example of the README without a proof: a script, its schedule, its log, the audit, and a chart.
+try:
+	@$(NEED_RT)
+	@scripts/make/try.sh
+
+# Proves what scimem stands on, side by side, builds it and runs its stored example.
 run:
 	@$(NEED_RT)
-	@cd crates/scimem && rt run -- $$(cat args) < stdin
+	@scripts/gate/check.py scimem
+	@cd crates/scimem && rt run -- $$(cat args) < stdin 2> ../../out/check/run.log || { cat ../../out/check/run.log >&2; exit 1; }
 
 # The gate: every proof from nothing, the edits that must fail, and the tests; then the programs that it built, on the
 # stored cases, the examples and charts; then programs and tests with memory, reads and writes refused. The last line is

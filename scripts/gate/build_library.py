@@ -2,30 +2,18 @@
 """Builds crates/sci_c/out/libsci_c.a over the libraries that rt ci has proved and built. rt lib would prove those again."""
 
 import os
-import re
 import subprocess
 import sys
 
-TOP = os.path.dirname(os.path.dirname(os.path.dirname(os.path.abspath(__file__))))
+from crates import TOP, libraries, with_all_below
+
 CRATE = "sci_c"
-
-
-def libraries():
-    """The libraries that each crate of crates.txt uses."""
-    with open(f"{TOP}/crates.txt", encoding="utf-8") as file:
-        return {it[1]: it[2].split() for it in re.finditer(r"^(\w+)[^#:\n]*:([^#\n]*)", file.read(), re.M)}
-
-
-def below(crate, uses):
-    """The repository's crates that a crate stands on."""
-    found = {it for it in uses[crate] if it in uses}
-    return found.union(*(below(it, uses) for it in found))
 
 
 def main():
     page = subprocess.run(["rt", "doc"], stdout=subprocess.PIPE, text=True, check=True).stdout.strip()
     kit, uses = os.path.dirname(page), libraries()
-    built = {it: f"{TOP}/crates/{it}/out/rlib/{it}.rlib" for it in below(CRATE, uses)}
+    built = {it: f"{TOP}/crates/{it}/out/rlib/{it}.rlib" for it in with_all_below(uses[CRATE], uses)}
     of_kit = ["std", *(it for it in uses[CRATE] if it not in uses)]
     words = ["--crate-name", CRATE, "--crate-type", "staticlib", "src/lib.rt", "-L", f"dependency={kit}/rlibs"]
     for name in of_kit:

@@ -1,24 +1,25 @@
 #!/usr/bin/env python3
-"""Proves each crate that changed since it was last proved here, or that stands on one that did, the lowest first.
+"""Proves each crate that changed since it was last proved here, or that stands on one that did: check.py [CRATE ..] of these
+crates and those below them, and without a name of all.
 
-out/proved.json keeps a digest for each crate that was proved: of its files, of the crates that it stands on, and of the kit.
-An edit of a crate that nothing stands on is one check; the others aren't looked through."""
+Crates that don't stand on one another are proved side by side, as many as there are processors and memory. A line says which
+crate is proved, how many are, and how long it took; what rt prints is kept in out/check, and shown if a crate isn't proved.
+out/proved.json keeps a digest for each crate that was proved: of its files, of the crates that it stands on, and of the kit."""
 
 import hashlib
 import json
 import os
+import re
 import subprocess
 import sys
+import time
 
-TOP = os.path.dirname(os.path.dirname(os.path.dirname(os.path.abspath(__file__))))
+from crates import TOP, libraries, with_all_below
+
 KEPT = f"{TOP}/out/proved.json"
-
-
-def crates():
-    """Each crate with the names that it stands on, from the lowest up."""
-    with open(f"{TOP}/crates.txt", encoding="utf-8") as file:
-        lines = [line.split(":") for line in file if ":" in line and not line.startswith("#")]
-    return {name: stands_on.split() for name, stands_on in lines}
+LOGS = f"{TOP}/out/check"
+# What a check may take of memory.
+BYTES = 3 << 30
 
 
 def digest_of(name, below):
@@ -48,18 +49,69 @@ def keep(digests):
         json.dump(digests, file)
 
 
-def main():
+def most_at_a_time():
+    """How many checks may run side by side."""
+    with open("/proc/meminfo", encoding="utf-8") as file:
+        memory = int(re.search(r"MemAvailable: +(\d+) kB", file.read())[1]) << 10
+    return max(1, min(len(os.sched_getaffinity(0)), memory // BYTES))
+
+
+class Checks:
+    """Checks of crates, each begun once all that it stands on is proved; first those on which most others stand."""
+
+    def __init__(self, names, uses):
+        above = lambda name: sum(name in with_all_below([it], uses) for it in names)
+        self.uses, self.left = uses, sorted(names, key=above, reverse=True)
+        self.count, self.done, self.running = len(names), set(), {}
+
+    def is_ready(self, name):
+        return not any(it in self.left or it in self.running for it in self.uses[name])
+
+    def begin(self, most):
+        for name in [it for it in self.left if self.is_ready(it)][: most - len(self.running)]:
+            self.left.remove(name)
+            with open(f"{LOGS}/{name}.log", "wb") as log:
+                run = subprocess.Popen(["rt", "check"], cwd=f"{TOP}/crates/{name}", stdout=log, stderr=log)
+            self.running[name] = run, time.monotonic()
+
+    def ended(self):
+        """Waits for a check to end, and gives its crate and whether it is proved."""
+        while True:
+            for name, (run, start) in self.running.items():
+                if run.poll() is not None:
+                    del self.running[name]
+                    return name, run.returncode == 0, (time.monotonic() - start) / 60
+            time.sleep(0.2)
+
+
+def show(name):
+    """Shows what rt said of a crate that isn't proved."""
+    with open(f"{LOGS}/{name}.log", encoding="utf-8", errors="replace") as log:
+        print(log.read())
+    print(f"{name} isn't proved", flush=True)
+
+
+def main(names):
+    uses = libraries()
     kit = subprocess.run(["rt", "version"], capture_output=True, check=True, text=True).stdout
+    wanted = with_all_below(names or uses, uses)
     proved, now = kept(), {}
-    for name, stands_on in crates().items():
-        now[name] = digest_of(name, [kit, *(now.get(it, it) for it in stands_on)])
-        if proved.get(name) == now[name]:
-            continue
-        if subprocess.run(["rt", "check"], cwd=f"{TOP}/crates/{name}", check=False).returncode:
-            return 1
-        keep(proved := {**proved, name: now[name]})
-    print("every crate is proved")
-    return 0
+    for name, libraries_of in uses.items():
+        now[name] = digest_of(name, [kit, *(now.get(it, it) for it in libraries_of)])
+    checks, failed = Checks([it for it in uses if it in wanted and proved.get(it) != now[it]], uses), False
+    os.makedirs(LOGS, exist_ok=True)
+    while checks.running or (checks.left and not failed):
+        if not failed:
+            checks.begin(most_at_a_time())
+        name, passed, minutes = checks.ended()
+        if passed:
+            checks.done.add(name)
+            keep(proved := {**proved, name: now[name]})
+            print(f"proved {name} ({len(checks.done)} of {checks.count}), {minutes:.1f} min", flush=True)
+        else:
+            failed = True
+            show(name)
+    return 1 if failed else 0
 
 
-sys.exit(main())
+sys.exit(main(sys.argv[1:]))

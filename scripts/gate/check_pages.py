@@ -19,9 +19,9 @@ import re
 import sys
 from fnmatch import fnmatch
 
+from crates import TOP, libraries, with_all_below
 from version import wrong_versions
 
-TOP = os.path.dirname(os.path.dirname(os.path.dirname(os.path.abspath(__file__))))
 MOST_LINES = 60
 MOST_COLUMNS = 160
 BUILT = {".git", "out", "target", "__pycache__"}
@@ -74,9 +74,8 @@ class Sources:
     """The names and the files of each crate, of those that it stands on, and of the rest of the repository."""
 
     def __init__(self, files):
-        lines = re.findall(r"^(\w+)[^:#\n]*:(.*)$", read("crates.txt"), re.MULTILINE)
-        self.below = {crate: deps.split() for crate, deps in lines}
-        self.files = {crate: [it for it in files if it.startswith(f"crates/{crate}/")] for crate in self.below}
+        self.uses = libraries()
+        self.files = {crate: [it for it in files if it.startswith(f"crates/{crate}/")] for crate in self.uses}
         self.files[""] = [it for it in files if not it.startswith("crates/")]
         self.words = {crate: self.words_of(of) for crate, of in self.files.items()}
 
@@ -85,15 +84,10 @@ class Sources:
         code = [read(it) for it in files if it.endswith((".rt", ".antt")) or it == "crates.txt"]
         return set(re.findall(r"\w+", " ".join([*code, *files])))
 
-    def all_below(self, crates):
-        """These crates and all that they stand on; every crate if there are none."""
-        found, new = {""}, list(crates or self.below)
-        while new:
-            crate = new.pop()
-            if crate in self.below and crate not in found:
-                found.add(crate)
-                new += self.below[crate]
-        return found
+    def words_below(self, crates):
+        """The names of these crates, of all that they stand on, and of the rest; of all if there are none."""
+        below = with_all_below(crates or self.uses, self.uses)
+        return set().union(OTHER, *(self.words[it] for it in [*below, ""]))
 
 
 def paragraphs(path):
@@ -110,8 +104,8 @@ def paragraphs(path):
 def wrong_names(path, sources):
     """Names of the code, and of files, that don't stand where their paragraph says."""
     for text, crates in paragraphs(path):
-        files = [it for crate in [*(crates or sources.below), ""] for it in sources.files.get(crate, [])]
-        words = set().union(OTHER, *(sources.words[crate] for crate in sources.all_below(crates)))
+        files = [it for crate in [*(crates or sources.uses), ""] for it in sources.files.get(crate, [])]
+        words = sources.words_below(crates)
         for quoted in sorted(set(re.findall(r"`([^`]+)`", text))):
             if re.search(r"\.(antt|rt|py|txt)$", quoted):
                 if not any(fnmatch(it, quoted) or fnmatch(it, "*/" + quoted) for it in files):
