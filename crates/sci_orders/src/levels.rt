@@ -97,7 +97,8 @@ pub fn last_standings(
 }
 
 /// All outcomes of a script on a machine of this size: where its runs end, if each node issues its operations in their
-/// order with at most `window` of them waiting. Each is the end of a run, and each such run ends in one of them.
+/// order with at most `window` of them waiting. They are the standings of `last_standings`. Each is the end of a run, and
+/// each such run ends in one of them.
 /// Requires that the operations are the machine's. Refused if memory is.
 pub fn all_outcomes(
     alloc: Global,
@@ -108,6 +109,8 @@ pub fn all_outcomes(
 ) -> Result<Vec<Standing>, AllocError>
     requires size { IsMachineSize (size_of extent limit) }
     requires script { IsScriptOf (size_of extent limit) (lists_of operations.now) }
+    ensures reached { IfOk result (λ outcomes. AreReachedIn extent.lines (lists_of operations.now) window
+        (operation_count (lists_of operations.now) * 2) (map position_of outcomes.items)) }
     ensures each { IfOk result (λ outcomes. All
         (λ p. (schedule : List Event) × HasRun (size_of extent limit) (lists_of operations.now) window p schedule)
         (map position_of outcomes.items)) }
