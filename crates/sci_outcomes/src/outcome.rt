@@ -11,42 +11,42 @@ use std::alloc::{AllocError, Global};
 
 /// What an operation replied.
 #[derive(Clone, Copy, Debug, PartialEq, Eq, PartialOrd, Ord)]
-pub struct Replied {
+pub(crate) struct Replied {
     /// The operation's node, below 16.
-    pub node: u8,
+    pub(crate) node: u8,
     /// Its serial at the node, from 0: its place among the node's operations in the script.
-    pub serial: u32,
+    pub(crate) serial: u32,
     /// The word that it replied.
-    pub word: Word,
+    pub(crate) word: Word,
 }
 
 /// What a word of memory holds.
 #[derive(Clone, Copy, Debug, PartialEq, Eq, PartialOrd, Ord)]
-pub struct Held {
+pub(crate) struct Held {
     /// The line, below 64.
-    pub line: u8,
+    pub(crate) line: u8,
     /// The word's place in the line, below 8.
-    pub word: u8,
+    pub(crate) word: u8,
     /// What it holds.
-    pub value: Word,
+    pub(crate) value: Word,
 }
 
 /// The outcome of a run.
 #[derive(Debug, Drop, PartialEq, Eq, PartialOrd, Ord)]
-pub struct Outcome {
+pub(crate) struct Outcome {
     /// What each load and each lock operation replied, by node, then by serial.
-    pub replies: Vec<Replied>,
+    pub(crate) replies: Vec<Replied>,
     /// What each word that the script may write holds at the end, by line, then by place.
-    pub last: Vec<Held>,
+    pub(crate) last: Vec<Held>,
 }
 
 /// What was seen of a run.
 #[derive(Drop)]
-pub struct Sighting {
+pub(crate) struct Sighting {
     /// Its outcome.
-    pub outcome: Outcome,
+    pub(crate) outcome: Outcome,
     /// Whether one memory of one thread explains its logs with each node's entries by serial.
-    pub in_order: bool,
+    pub(crate) in_order: bool,
 }
 
 /// What an entry replied. None if it is a store's.

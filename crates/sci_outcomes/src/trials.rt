@@ -29,13 +29,13 @@ pub enum Turns {
 
 /// How a script is run many times.
 #[derive(Clone, Copy)]
-pub struct Trials {
+pub(crate) struct Trials {
     /// How many runs there are.
-    pub runs: u64,
+    pub(crate) runs: u64,
     /// In which order the nodes take turns.
-    pub turns: Turns,
+    pub(crate) turns: Turns,
     /// When the operations of a node are submitted.
-    pub issuing: Issuing,
+    pub(crate) issuing: Issuing,
 }
 
 impl Turns {
@@ -132,7 +132,7 @@ fn one_run<R: Threads + Sync>(
 /// frequent by what was replied and then by the words. Each run is whole: each operation of the script has just one entry.
 /// The logs of each run are lawful. Refused if memory is, and as too many if a run isn't done after 1,000,000,000 turns, by
 /// threads of one node and else of all together, or if a run in an order that is drawn has more than 500,000 events.
-pub fn outcomes<R: Threads + Sync>(
+pub(crate) fn outcomes<R: Threads + Sync>(
     rt: &R,
     alloc: Global,
     script: &Script,

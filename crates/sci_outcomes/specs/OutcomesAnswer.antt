@@ -3,11 +3,9 @@ use Rattle.std.specs.Prelude.{◌≡◌, ℕ, ◌+◌, ◌%◌, ◌^◌, Bool, t
 use Rattle.std.specs.List.{flat_map}
 use Rattle.sci_text.specs.{Number.{number, field}, Script.{IsScript, ScriptValue, script_text}}
 use Rattle.sci_command.specs.Answer.{IsDoneBy}
-use Rattle.sci_outcomes.specs.declared.{histogram.Row.{Row}, outcome.{Held.{Held}, Outcome.{Outcome}}}
-use Rattle.sci_outcomes.specs.declared.{outcome.Replied.{Replied}, trials.Turns.{Turns, TheVariants.{Drawn, Threads}}}
-use Rattle.sci_outcomes.specs.Trials.{AreOutcomes, OneIsGivenUp}
-use Rattle.sci_run_reports.specs.declared.outcomes.{OutcomesRequest.{OutcomesRequest}, TheConstants.{RUNS, SEED}}
-use Rattle.sci_run_reports.specs.RunAnswer.{IsRunRefusal}
+use Rattle.sci_outcomes.specs.declared.{histogram.Row.{Row}, outcome.{Held.{Held}, Outcome.{Outcome}, Replied.{Replied}}}
+use Rattle.sci_outcomes.specs.declared.outcomes_report.{OutcomesRequest.{OutcomesRequest}, TheConstants.{RUNS, SEED}}
+use Rattle.sci_outcomes.specs.{declared.trials.Turns.{Turns, TheVariants.{Drawn, Threads}}, RunAnswer.{IsRunRefusal}, Trials.{AreOutcomes, OneIsGivenUp}}
 use Rattle.sci_command.specs.declared.outcome.Outcome as ending
 
 -- ---- texts

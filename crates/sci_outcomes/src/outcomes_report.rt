@@ -3,14 +3,15 @@
 ghost use Rattle.std.specs.{Prelude.{◌≡◌, ◌++◌, false, IfOk, OnOk}, List.{flat_map}};
 ghost use Rattle.sci_text.specs.Tap.{has_failed};
 ghost use Rattle.sci_command.specs.{Answer.{HasAnswered}, declared.outcome.Outcome.{Outcome}};
-ghost use Rattle.sci_run_reports.specs.RunAnswer.{IsRunRefusal};
-ghost use Rattle.sci_run_reports.specs.OutcomesAnswer.{IsGivenUpScript, IsOutcomesAnswer, count_text, held_text, outcome_text, outcomes_text as outcomes_text_of};
-ghost use Rattle.sci_run_reports.specs.OutcomesAnswer.{replied_text, row_text, seed_text, sense_text, total_text};
+ghost use Rattle.sci_outcomes.specs.OutcomesAnswer.{IsGivenUpScript, IsOutcomesAnswer, count_text, held_text, outcome_text, outcomes_text as outcomes_text_of};
+ghost use Rattle.sci_outcomes.specs.{OutcomesAnswer.{replied_text, row_text, seed_text, sense_text, total_text}, RunAnswer.{IsRunRefusal}};
 
-use crate::running::fault_of;
+use crate::histogram::Row;
+use crate::outcome::{Held, Replied};
+use crate::run_report::fault_of;
+use crate::trials::{Trials, Turns, outcomes};
 use sci_command::{Answer, Answered, Outcome, push_labelled};
 use sci_drive::Issuing;
-use sci_outcomes::{Held, Replied, Row, Trials, Turns, outcomes};
 use sci_text::{Tap, push_number, push_text, read_script};
 use std::alloc::{AllocError, Global};
 use std::io::Read;
