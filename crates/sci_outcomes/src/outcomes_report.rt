@@ -147,8 +147,7 @@ fn push_total(out: &mut Vec<u8>, outcomes: u64, runs: u64) -> Result<(), AllocEr
 
 /// The text of the rows of runs.
 fn outcomes_text(alloc: Global, trials: Trials, rows: &[Row]) -> Result<Vec<u8>, AllocError>
-    ensures { IfOk result
-        (λ text. text.items ≡ outcomes_text_of trials.turns trials.runs rows.now) }
+    ensures { IfOk result (λ text. text.items ≡ outcomes_text_of trials rows.now) }
 {
     let mut text = Vec::new(alloc);
     for row in rows {
@@ -162,10 +161,10 @@ fn outcomes_text(alloc: Global, trials: Trials, rows: &[Row]) -> Result<Vec<u8>,
 /// next seed or by one thread a node, and gives a line for each outcome: what each load and each lock operation replied, by
 /// node and then by serial; what each word that the script may write holds at the end; how many runs gave the outcome; the
 /// seed of the first of them, unless they are by threads; and whether the log of one of them is sequentially consistent in
-/// program order. The most frequent stands first, and those that are as frequent by their numbers. The last line says how many outcomes and runs there were. That the log of each run
-/// is lawful is a theorem, and isn't looked at. A script with a fault is refused, as are a reader that fails, too long an
-/// input and running out of memory, at line 0, and a run of more than 500,000 events or 1,000,000,000 turns, as `too-many` at
-/// line 0. After a failed read nothing more is read.
+/// program order. The most frequent stands first, and those that are as frequent by their numbers. The last line says how many
+/// outcomes and runs there were. That the log of each run is lawful is a theorem, and isn't looked at. A script with a fault is
+/// refused, as are a reader that fails, too long an input and running out of memory, at line 0, and a run of more than 500,000
+/// events or 1,000,000,000 turns, as `too-many` at line 0. After a failed read nothing more is read.
 pub fn outcomes_of<T: Threads + Sync, R: Read>(
     rt: &T,
     alloc: Global,

@@ -80,7 +80,7 @@ fn drawn_run(alloc: Global, litmus: Litmus<'_>, seed: u64) -> Result<Sighting, R
     if !run.done {
         return Err(RunFault::TooMany);
     }
-    Ok(seen(alloc, litmus.places, &run.logs, &run.last)?)
+    Ok(seen(alloc, litmus.places, run.machine)?)
 }
 
 /// Runs a script with one thread a node, each for at most 1,000,000,000 turns, and gives what is seen of the run. Refused if
@@ -106,8 +106,7 @@ fn threaded_run<R: Threads + Sync>(
     if !finished {
         return Err(RunFault::TooMany);
     }
-    let (logs, last) = machine.finish(alloc);
-    Ok(seen(alloc, litmus.places, &logs, &last)?)
+    Ok(seen(alloc, litmus.places, machine)?)
 }
 
 /// Runs a script in such an order of turns, and gives what is seen of the run. Refused as `outcomes` is.
@@ -138,10 +137,8 @@ pub(crate) fn outcomes<R: Threads + Sync>(
     script: &Script,
     trials: Trials,
 ) -> Result<Vec<Row>, RunFault>
-    ensures rows { IfOk result (λ rows.
-        AreOutcomes script.now trials.turns trials.issuing trials.runs rows.items) }
-    ensures given_up { IfErr result (λ fault. fault ≡ TooMany →
-        OneIsGivenUp script.now trials.turns trials.issuing trials.runs) }
+    ensures rows { IfOk result (λ rows. AreOutcomes script.now trials rows.items) }
+    ensures given_up { IfErr result (λ fault. fault ≡ TooMany → OneIsGivenUp script.now trials) }
 {
     let places = written_places(alloc, script.extent().lines, script.operations())?;
     let litmus = Litmus {
