@@ -1,8 +1,8 @@
-use Rattle.std.proofs.Common.{◌≡◌, ◌∙◌, ap, sym, subst, length, List}
+use Rattle.std.proofs.Common.{◌∙◌, ap, sym, subst, length, List}
 use Rattle.sci_words.specs.declared.stamped.Stamped.{Stamped}
 use Rattle.sci_history.specs.{declared.entry.Entry.{Entry}, Audit.{AreWithin}, Lawful.{Lawful}}
 use Rattle.sci_history.specs.Sequential.{IsSequentiallyConsistent}
-use Rattle.sci_core.specs.{Outcome.{logs_of}, Sharing.{last_of}}
+use Rattle.sci_core.specs.Outcome.{logs_of}
 use Rattle.sci_outcomes.specs.{declared.outcome.{Outcome.{Outcome}, Sighting.{Sighting}}, Outcomes.{IsSeen, replies_in}}
 use Rattle.sci_outcomes.proofs.outcome.seen.Goals as goal
 
