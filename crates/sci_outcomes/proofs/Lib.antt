@@ -3,3 +3,4 @@ pub mod WrittenWords
 pub mod Histograms
 pub mod Ranked
 pub mod Sightings
+pub mod Ran

@@ -1,3 +1,5 @@
 pub mod Outcomes
 pub mod Rows
 pub mod Trials
+pub mod RunAnswer
+pub mod OutcomesAnswer

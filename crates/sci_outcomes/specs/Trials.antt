@@ -9,7 +9,7 @@ use Rattle.sci_runs.specs.{Played.{IsPlayed, IsTooLong}, Runs.{IsRunOf, last_beh
 use Rattle.sci_drive.specs.ScriptLogs.{HaveWholeLogsOf, size_for}
 use Rattle.sci_threads.specs.Shares.{AreLedTo}
 use Rattle.sci_outcomes.specs.declared.{histogram.Row.{Row}, outcome.Sighting.{Sighting}, place.Place.{Place}}
-use Rattle.sci_outcomes.specs.declared.trials.Turns.{Turns, TheVariants.{Drawn, Threads}}
+use Rattle.sci_outcomes.specs.declared.trials.{Trials.{Trials}, Turns.{Turns, TheVariants.{Drawn, Threads}}}
 use Rattle.sci_outcomes.specs.{Outcomes.{IsPlaceWithin, IsSeen, written_places}, Rows.{AreRowsOf}}
 
 -- the places are those of the words that the script may write
@@ -56,9 +56,9 @@ abbrev pub IsGivenUp : ScriptValue → Turns → Issuing → Type 0
 IsGivenUp script (Drawn seed) issuing = IsTooLong script issuing (Some seed) MAX_TURNS ⊎ IsUnfinished script issuing seed
 IsGivenUp script Threads issuing = Unit {0}
 
--- one of this many runs is
-abbrev pub OneIsGivenUp : ScriptValue → Turns → Issuing → ℕ → Type 0
-OneIsGivenUp script turns issuing runs = (number : ℕ) × (number < runs) × IsGivenUp script (turns_of_run turns number) issuing
+-- one of the runs is
+abbrev pub OneIsGivenUp : ScriptValue → Trials → Type 0
+OneIsGivenUp script trials = (number : ℕ) × (number < trials.runs) × IsGivenUp script (turns_of_run trials.turns number) trials.issuing
 
 -- what is seen of a run in such an order
 abbrev pub IsSightingOf : ScriptValue → Turns → Issuing → Sighting → Type 0
@@ -66,13 +66,13 @@ IsSightingOf script (Drawn seed) issuing sighting = IsDrawnSighting script issui
 IsSightingOf script Threads issuing sighting = IsThreadSighting script issuing sighting
 
 -- each is what is seen of the run with its number
-abbrev pub AreSightings : ScriptValue → Turns → Issuing → List Sighting → Type 0
-AreSightings script turns issuing seen =
-    (number : ℕ) (d : Sighting) → number < length seen → IsSightingOf script (turns_of_run turns number) issuing (slice_index_or seen number d)
+abbrev pub AreSightings : ScriptValue → Trials → List Sighting → Type 0
+AreSightings script trials seen =
+    (number : ℕ) (d : Sighting) → number < length seen → IsSightingOf script (turns_of_run trials.turns number) trials.issuing (slice_index_or seen number d)
 
--- the rows of what was seen of this many runs of the script, in their order
-pub record AreOutcomes (script : ScriptValue) (turns : Turns) (issuing : Issuing) (runs : ℕ) (rows : List Row) : Type 0 where
+-- the rows of what was seen of the runs of the script, in their order
+pub record AreOutcomes (script : ScriptValue) (trials : Trials) (rows : List Row) : Type 0 where
   pub seen : List Sighting
-  pub many : length seen ≡ runs
-  pub each : AreSightings script turns issuing seen
+  pub many : length seen ≡ trials.runs
+  pub each : AreSightings script trials seen
   pub rows_are : AreRowsOf seen rows

@@ -9,16 +9,16 @@ use std::collections::BTreeMap;
 
 /// An outcome, and the runs that gave it.
 #[derive(Debug, Drop)]
-pub struct Row {
+pub(crate) struct Row {
     /// The outcome.
-    pub outcome: Outcome,
+    pub(crate) outcome: Outcome,
     /// How many runs gave it.
-    pub runs: u64,
+    pub(crate) runs: u64,
     /// The number of the first of them, from 0.
-    pub first: u64,
+    pub(crate) first: u64,
     /// Whether one memory of one thread explains the logs of one of them with each node's operations in the order of the
     /// script.
-    pub in_order: bool,
+    pub(crate) in_order: bool,
 }
 
 /// The runs that gave an outcome.

@@ -1,11 +1,13 @@
-//! The outcomes of a script, a litmus test, that is run many times.
+//! Reports on the runs of a script: the schedule of one, and the outcomes of many.
 #![tactic(auto)]
 
 mod histogram;
 mod outcome;
+mod outcomes_report;
 mod place;
+mod run_report;
 mod trials;
 
-pub use histogram::Row;
-pub use outcome::{Held, Outcome, Replied, Sighting};
-pub use trials::{Trials, Turns, outcomes};
+pub use outcomes_report::{MAX_RUNS, OutcomesRequest, outcomes_of};
+pub use run_report::{RunRequest, run};
+pub use trials::Turns;

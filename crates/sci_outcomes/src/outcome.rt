@@ -1,52 +1,54 @@
 //! The outcome of a run: what its operations replied, and the words that they left.
 
 ghost use Rattle.std.specs.{Prelude.{◌≡◌, ◌↔◌, ◌++◌, true, length, map, All, IfOk, OnOk}, List.{filter_map}};
-ghost use Rattle.sci_history.specs.{Audit.{AreWithin}, Cycle.{IsOrdered}, Lawful.{Lawful}};
+ghost use Rattle.sci_history.specs.{Cycle.{IsOrdered}, Lawful.{Lawful}, Sequential.{IsSequentiallyConsistent}};
+ghost use Rattle.sci_core.specs.{Outcome.{logs_of}, Sharing.{last_of}};
 ghost use Rattle.sci_outcomes.specs.Outcomes.{IsPlaceWithin, IsSeen, held_at, replied, replies_in};
 
 use crate::place::Place;
+use sci_core::Machine;
 use sci_history::{Entry, Last, Logs, OrderVerdict, sequential_order, serial_order_is_lawful};
 use sci_words::{Reply, Word};
 use std::alloc::{AllocError, Global};
 
 /// What an operation replied.
 #[derive(Clone, Copy, Debug, PartialEq, Eq, PartialOrd, Ord)]
-pub struct Replied {
+pub(crate) struct Replied {
     /// The operation's node, below 16.
-    pub node: u8,
+    pub(crate) node: u8,
     /// Its serial at the node, from 0: its place among the node's operations in the script.
-    pub serial: u32,
+    pub(crate) serial: u32,
     /// The word that it replied.
-    pub word: Word,
+    pub(crate) word: Word,
 }
 
 /// What a word of memory holds.
 #[derive(Clone, Copy, Debug, PartialEq, Eq, PartialOrd, Ord)]
-pub struct Held {
+pub(crate) struct Held {
     /// The line, below 64.
-    pub line: u8,
+    pub(crate) line: u8,
     /// The word's place in the line, below 8.
-    pub word: u8,
+    pub(crate) word: u8,
     /// What it holds.
-    pub value: Word,
+    pub(crate) value: Word,
 }
 
 /// The outcome of a run.
 #[derive(Debug, Drop, PartialEq, Eq, PartialOrd, Ord)]
-pub struct Outcome {
+pub(crate) struct Outcome {
     /// What each load and each lock operation replied, by node, then by serial.
-    pub replies: Vec<Replied>,
+    pub(crate) replies: Vec<Replied>,
     /// What each word that the script may write holds at the end, by line, then by place.
-    pub last: Vec<Held>,
+    pub(crate) last: Vec<Held>,
 }
 
 /// What was seen of a run.
 #[derive(Drop)]
-pub struct Sighting {
+pub(crate) struct Sighting {
     /// Its outcome.
-    pub outcome: Outcome,
+    pub(crate) outcome: Outcome,
     /// Whether one memory of one thread explains its logs with each node's entries by serial.
-    pub in_order: bool,
+    pub(crate) in_order: bool,
 }
 
 /// What an entry replied. None if it is a store's.
@@ -109,28 +111,29 @@ fn is_found(verdict: &OrderVerdict) -> bool
     matches!(verdict, OrderVerdict::Order(_))
 }
 
-/// What is seen of a run by its logs and last contents: its outcome, with the words at these places, and whether it is in
-/// order. Refused if memory is.
+/// What is seen of a run by the machine that it leads to: its outcome, with the words at these places, and whether it is in
+/// order. The machine's logs are lawful. Refused if memory is.
 pub(crate) fn seen(
     alloc: Global,
     places: &[Place],
-    logs: &Logs,
-    last: &Last,
+    machine: Machine,
 ) -> Result<Sighting, AllocError>
-    requires places { All (IsPlaceWithin (length last.now)) places.now }
-    requires within { AreWithin (length last.now) logs.now }
-    requires lawful { Lawful logs.now last.now }
-    ensures { IfOk result (IsSeen places.now logs.now last.now) }
+    requires { All (IsPlaceWithin machine.size.lines) places.now }
+    ensures seen { IfOk result (IsSeen places.now (logs_of machine) (last_of machine)) }
+    ensures lawful { OnOk result (Lawful (logs_of machine) (last_of machine)) }
+    ensures consistent { OnOk result
+        (IsSequentiallyConsistent (logs_of machine) (last_of machine)) }
 {
     serial_order_is_lawful();
+    let (logs, last) = machine.finish(alloc);
     // Read, so that the prover knows that there are sixteen logs.
     let _nodes = logs.nodes();
     let by_serial = logs.by_serial(alloc)?;
     let outcome = Outcome {
         replies: replies_of(alloc, &by_serial)?,
-        last: words_of(alloc, places, last)?,
+        last: words_of(alloc, places, &last)?,
     };
-    let verdict = sequential_order(alloc, &by_serial, last)?;
+    let verdict = sequential_order(alloc, &by_serial, &last)?;
     Ok(Sighting {
         outcome,
         in_order: is_found(&verdict),

@@ -29,13 +29,13 @@ pub enum Turns {
 
 /// How a script is run many times.
 #[derive(Clone, Copy)]
-pub struct Trials {
+pub(crate) struct Trials {
     /// How many runs there are.
-    pub runs: u64,
+    pub(crate) runs: u64,
     /// In which order the nodes take turns.
-    pub turns: Turns,
+    pub(crate) turns: Turns,
     /// When the operations of a node are submitted.
-    pub issuing: Issuing,
+    pub(crate) issuing: Issuing,
 }
 
 impl Turns {
@@ -80,7 +80,7 @@ fn drawn_run(alloc: Global, litmus: Litmus<'_>, seed: u64) -> Result<Sighting, R
     if !run.done {
         return Err(RunFault::TooMany);
     }
-    Ok(seen(alloc, litmus.places, &run.logs, &run.last)?)
+    Ok(seen(alloc, litmus.places, run.machine)?)
 }
 
 /// Runs a script with one thread a node, each for at most 1,000,000,000 turns, and gives what is seen of the run. Refused if
@@ -106,8 +106,7 @@ fn threaded_run<R: Threads + Sync>(
     if !finished {
         return Err(RunFault::TooMany);
     }
-    let (logs, last) = machine.finish(alloc);
-    Ok(seen(alloc, litmus.places, &logs, &last)?)
+    Ok(seen(alloc, litmus.places, machine)?)
 }
 
 /// Runs a script in such an order of turns, and gives what is seen of the run. Refused as `outcomes` is.
@@ -132,16 +131,14 @@ fn one_run<R: Threads + Sync>(
 /// frequent by what was replied and then by the words. Each run is whole: each operation of the script has just one entry.
 /// The logs of each run are lawful. Refused if memory is, and as too many if a run isn't done after 1,000,000,000 turns, by
 /// threads of one node and else of all together, or if a run in an order that is drawn has more than 500,000 events.
-pub fn outcomes<R: Threads + Sync>(
+pub(crate) fn outcomes<R: Threads + Sync>(
     rt: &R,
     alloc: Global,
     script: &Script,
     trials: Trials,
 ) -> Result<Vec<Row>, RunFault>
-    ensures rows { IfOk result (λ rows.
-        AreOutcomes script.now trials.turns trials.issuing trials.runs rows.items) }
-    ensures given_up { IfErr result (λ fault. fault ≡ TooMany →
-        OneIsGivenUp script.now trials.turns trials.issuing trials.runs) }
+    ensures rows { IfOk result (λ rows. AreOutcomes script.now trials rows.items) }
+    ensures given_up { IfErr result (λ fault. fault ≡ TooMany → OneIsGivenUp script.now trials) }
 {
     let places = written_places(alloc, script.extent().lines, script.operations())?;
     let litmus = Litmus {

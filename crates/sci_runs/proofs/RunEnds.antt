@@ -2,7 +2,7 @@
 use Rattle.std.proofs.Common.{◌≡◌, ◌≤◌, ◌<◌, ℕ, zero, suc, Bool, true, false, arith, List, [], ◌∷◌, All, length, take, Some, refl, sym, ap, subst, ◌∙◌}
 use Rattle.std.proofs.Common.{inl, inr}
 use Rattle.std.specs.Prelude.{slice_get, slice_index_or}
-use Rattle.sci_words.specs.declared.{limits.TheConstants.{MAX_NODES, MAX_OPERATIONS}, stamped.Stamped.{Stamped}}
+use Rattle.sci_words.specs.declared.limits.TheConstants.{MAX_NODES, MAX_OPERATIONS}
 use Rattle.sci_words.specs.declared.operation.Op.{Op}
 use Rattle.sci_history.specs.{declared.entry.Entry.{Entry}, Placed.{log_of}, Sequential.{IsInProgramOrder}}
 use Rattle.sci_text.specs.{Script.{ScriptValue}, Schedule.{IsSchedule, ScheduleValue}}
@@ -16,7 +16,7 @@ use Rattle.sci_text.specs.Script.{operations_of}
 use Rattle.sci_drive.specs.ScriptLogs.{size_for}
 use Rattle.sci_core.proofs.History.InTurn.{in_order}
 use Rattle.sci_runs.specs.Players.{AreAtWork, IsAtWork, TableOf}
-use Rattle.sci_runs.specs.Recorded.{HasIssued, HasLed, IsKnown, IsOfSize, issues_at, raised}
+use Rattle.sci_runs.specs.Recorded.{HasIssued, HasLed, IsKnown, IsOfSize, issues_at, raised, with_limit}
 use Rattle.sci_runs.specs.Runs.{IsRunOf, last_behind, logs_behind}
 use Rattle.sci_runs.proofs.Limits.{last_raised, logs_raised}
 
@@ -63,9 +63,6 @@ module _ (table : TableOf) (schedule : ScheduleValue) (work : AreAtWork table) (
 
   behind : logs_behind script schedule ≡ logs_of core
   behind = ap logs_of leads ∙ logs_raised MAX_OPERATIONS core
-
-  last_is : last_behind script schedule ≡ last_of core
-  last_is = ap last_of leads ∙ last_raised MAX_OPERATIONS core
 
   nodes_are : core.size.nodes ≡ script.nodes
   nodes_are = ap (λ (z : Size). z.nodes) work.sized
@@ -121,20 +118,18 @@ run_of view table schedule is work led reached good sized =
     (is_run view schedule work led reached good sized)
 
 -- the state behind the schedule is the machine's
-pub behind_of : (view table : TableOf) (schedule : ScheduleValue) → view ≡ table → AreAtWork view → HasLed schedule.events view.recorder.core
-    → run (size_for table.script) schedule.events ≡ raised MAX_OPERATIONS table.recorder.core
-behind_of view table schedule is work led =
-    subst (λ (t : TableOf). run (size_for t.script) schedule.events ≡ raised MAX_OPERATIONS t.recorder.core) is
-    (subst (λ (z : Size). run z schedule.events ≡ raised MAX_OPERATIONS view.recorder.core) work.sized led.leads)
+pub led_to : (view table : TableOf) (schedule : ScheduleValue) (machine : Core) → view ≡ table → AreAtWork view → HasLed schedule.events view.recorder.core
+    → machine ≡ view.recorder.core → run (size_for table.script) schedule.events ≡ raised MAX_OPERATIONS machine
+led_to view table schedule machine is work led same =
+    subst (λ (t : TableOf). run (size_for t.script) schedule.events ≡ raised MAX_OPERATIONS machine) is
+    (subst (λ (z : Size). run z schedule.events ≡ raised MAX_OPERATIONS machine) work.sized
+    (subst (λ (core : Core). run (with_limit MAX_OPERATIONS view.recorder.core.size) schedule.events ≡ raised MAX_OPERATIONS core) (sym same) led.leads))
 
--- the logs and the last contents behind the schedule are those of the machine
-pub ends_of : (view table : TableOf) (schedule : ScheduleValue) (logs : List (List Entry)) (last : List Stamped) → view ≡ table → AreAtWork view
-    → HasLed schedule.events view.recorder.core → IsReached view.recorder.core → IsSchedule schedule → IsOfSize view.recorder.core.size schedule
-    → logs ≡ logs_of view.recorder.core → last ≡ last_of view.recorder.core
-    → (logs ≡ logs_behind table.script schedule) × (last ≡ last_behind table.script schedule)
-ends_of view table schedule logs last is work led reached good sized are_logs are_last =
-    subst (λ (t : TableOf). (logs ≡ logs_behind t.script schedule) × (last ≡ last_behind t.script schedule)) is
-    (are_logs ∙ sym (behind view schedule work led reached good sized), are_last ∙ sym (last_is view schedule work led reached good sized))
+-- so are the logs and the last contents behind it
+pub ends_of : (script : ScriptValue) (schedule : ScheduleValue) (machine : Core) → run (size_for script) schedule.events ≡ raised MAX_OPERATIONS machine
+    → (logs_of machine ≡ logs_behind script schedule) × (last_of machine ≡ last_behind script schedule)
+ends_of script schedule machine led =
+    (sym (ap logs_of led ∙ logs_raised MAX_OPERATIONS machine), sym (ap last_of led ∙ last_raised MAX_OPERATIONS machine))
 
 -- a run that is done, or not
 pub run_if : (own : ScriptValue) (issuing : Issuing) (drivers : List DriverOf) (schedule : ScheduleValue) (done : Bool) → (done ≡ true → All IsAnswered drivers)

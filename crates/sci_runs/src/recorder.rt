@@ -2,7 +2,7 @@
 
 use crate::fault::RunFault;
 use sci_core::Machine;
-use sci_history::{Entry, Last, Logs};
+use sci_history::Entry;
 use sci_locked::{perform_on, submit_on};
 use sci_policy::SubmitFault;
 use sci_text::{PushFault, Schedule};
@@ -49,12 +49,11 @@ impl Record {
     }
 }
 
-/// How a machine's run ended: the schedule of its events, and the logs and the last contents that they lead to.
+/// How a run ended: the schedule of its events, and the machine that they lead to.
 #[derive(Drop)]
 pub(crate) struct Ended {
     pub(crate) schedule: Schedule,
-    pub(crate) logs: Logs,
-    pub(crate) last: Last,
+    pub(crate) machine: Machine,
 }
 
 /// A machine, and the events that have led it where it stands, unless one was lost. Contracts see the machine's state, the
@@ -88,9 +87,7 @@ impl Recorder {
     ghost use Rattle.sci_words.specs.declared.event.Event.TheVariants.{Issue, Perform};
     ghost use Rattle.sci_words.specs.declared.limits.TheConstants.{MAX_EVENTS, MAX_OPERATIONS};
     ghost use Rattle.sci_runs.specs.declared.fault.RunFault.{RunFault, TheVariants.{TooMany}};
-    ghost use Rattle.sci_history.specs.{Audit.{AreWithin}, Lawful.{Lawful}, Sequential.{IsSequentiallyConsistent}};
-    ghost use Rattle.sci_core.specs.{Core.{IsEnabled, node_at, opening, stepping}, Node.{node_performing}};
-    ghost use Rattle.sci_core.specs.{Outcome.{logs_of}, Reached.{IsReached}, Sharing.{last_of}, Size.{size_of}};
+    ghost use Rattle.sci_core.specs.{Core.{IsEnabled, node_at, opening, stepping}, Node.{node_performing}, Reached.{IsReached}, Size.{size_of}};
     ghost use Rattle.sci_core.specs.Work.{IsIssued, IsLogged};
     ghost use Rattle.sci_policy.specs.Turn.{submit_fault};
     ghost use Rattle.sci_text.specs.Schedule.{IsSchedule};
@@ -208,29 +205,22 @@ impl Recorder {
         self.events.lost
     }
 
-    /// The schedule of all that has happened, with the logs and the last contents that it leads to. Requires that no event
-    /// was lost.
-    pub(crate) fn finish(self, alloc: Global) -> Ended
+    /// The schedule of all that has happened, and the machine that it leads to. Requires that no event was lost.
+    pub(crate) fn finish(self) -> Ended
         requires { self.lost ≡ None }
         ensures schedule { result.schedule ≡ self.schedule }
-        ensures logs { result.logs ≡ logs_of self.core }
-        ensures last { result.last ≡ last_of self.core }
+        ensures machine { result.machine ≡ self.core }
         ensures good { IsSchedule result.schedule }
         ensures reached { IsReached self.core }
         ensures led { HasLed result.schedule.events self.core }
         ensures sized { IsOfSize self.core.size result.schedule }
-        ensures lines { length result.last ≡ self.core.size.lines }
-        ensures within { AreWithin self.core.size.lines result.logs }
-        ensures lawful { Lawful result.logs result.last }
-        ensures consistent { IsSequentiallyConsistent result.logs result.last }
     {
-        // Read, so that the prover knows that the schedule is one.
+        // Read, so that the prover knows that the schedule is one, and that the state is reached.
         let _events = self.events.schedule.events();
-        let (logs, last) = self.machine.finish(alloc);
+        let _extent = self.machine.extent();
         Ended {
             schedule: self.events.schedule,
-            logs,
-            last,
+            machine: self.machine,
         }
     }
 }

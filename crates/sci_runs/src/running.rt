@@ -1,15 +1,16 @@
 //! A script that is run by the policy, one turn after another.
 
-ghost use Rattle.std.specs.Prelude.{◌≡◌, ◌≤◌, false, length, IfErr, IfOk};
-ghost use Rattle.sci_history.specs.{Audit.{AreWithin}, Lawful.{Lawful}, Sequential.{IsSequentiallyConsistent}};
-ghost use Rattle.sci_runs.specs.declared.fault.RunFault.TheVariants.{TooMany};
-ghost use Rattle.sci_runs.specs.{Played.{IsPlayed, IsTooLong}, Runs.{IsRunOf, last_behind, logs_behind}};
+ghost use Rattle.std.specs.Prelude.{◌≡◌, ◌≤◌, false, IfErr, IfOk};
+ghost use Rattle.sci_words.specs.declared.limits.TheConstants.{MAX_OPERATIONS};
+ghost use Rattle.sci_core.specs.Core.{run as run_of};
+ghost use Rattle.sci_drive.specs.ScriptLogs.{size_for};
+ghost use Rattle.sci_runs.specs.{declared.fault.RunFault.TheVariants.{TooMany}, Played.{IsPlayed, IsTooLong}, Recorded.{raised}, Runs.{IsRunOf}};
 
 use crate::fault::RunFault;
 use crate::order::Order;
 use crate::table::Table;
+use sci_core::Machine;
 use sci_drive::Issuing;
-use sci_history::{Last, Logs};
 use sci_text::{Schedule, Script, operations_by_node};
 use std::alloc::Global;
 
@@ -29,10 +30,8 @@ pub struct Plan {
 pub struct Run {
     /// All events of the run, in their order.
     pub schedule: Schedule,
-    /// The logs of all nodes.
-    pub logs: Logs,
-    /// The last contents of each line.
-    pub last: Last,
+    /// The machine that they lead to. Its nodes may issue only as many operations as a node of the script has at most.
+    pub machine: Machine,
     /// Whether each operation of the script was performed.
     pub done: bool,
     /// How many turns the nodes have taken, all together.
@@ -50,22 +49,18 @@ pub fn run_script(alloc: Global, script: &Script, plan: Plan) -> Result<Run, Run
         IsTooLong script.now plan.issuing plan.seed plan.turns) }
     ensures turns { IfOk result (λ run. run.turns ≤ plan.turns) }
     ensures all { IfOk result (λ run. run.done ≡ false → run.turns ≡ plan.turns) }
-    ensures logs { IfOk result (λ run. run.logs ≡ logs_behind script.now run.schedule) }
-    ensures last { IfOk result (λ run. run.last ≡ last_behind script.now run.schedule) }
-    ensures lines { IfOk result (λ run. length run.last ≡ script.now.lines) }
-    ensures within { IfOk result (λ run. AreWithin script.now.lines run.logs) }
-    ensures lawful { IfOk result (λ run. Lawful run.logs run.last) }
-    ensures consistent { IfOk result (λ run. IsSequentiallyConsistent run.logs run.last) }
+    ensures led { IfOk result (λ run. run_of (size_for script.now) run.schedule.events
+        ≡ raised MAX_OPERATIONS run.machine) }
+    ensures lines { IfOk result (λ run. run.machine.size.lines ≡ script.now.lines) }
 {
     let operations = operations_by_node(alloc, script)?;
     let mut table = Table::new(alloc, script, &operations, plan.issuing)?;
     let mut order = Order::new(plan.seed);
     let ran = table.go_on(&mut order, plan.turns)?;
-    let ended = table.finish(alloc);
+    let ended = table.finish();
     Ok(Run {
         schedule: ended.schedule,
-        logs: ended.logs,
-        last: ended.last,
+        machine: ended.machine,
         done: ran.done,
         turns: ran.turns,
     })

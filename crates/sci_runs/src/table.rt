@@ -78,8 +78,7 @@ impl<'a> Table<'a> {
     ghost use Rattle.sci_drive.specs.ScriptLogs.{size_for};
     ghost use Rattle.sci_runs.specs.{Played.{Begins, FillsAt, HasNoRoom, IsRound, Played}, Players.{moment_of}};
     ghost use Rattle.sci_drive.specs.Driving.{IsAnswered};
-    ghost use Rattle.sci_runs.specs.{Recorded.{raised}, Runs.{IsRunOf, last_behind, logs_behind}};
-    ghost use Rattle.sci_history.specs.{Audit.{AreWithin}, Lawful.{Lawful}, Sequential.{IsSequentiallyConsistent}};
+    ghost use Rattle.sci_runs.specs.{Recorded.{raised}, Runs.{IsRunOf}};
 
     /// A new machine of the size that the script says, whose nodes have done nothing. Requires the operations of each node.
     /// Refused if memory is.
@@ -166,22 +165,18 @@ impl<'a> Table<'a> {
         })
     }
 
-    /// The schedule of the run so far, with the logs and the last contents behind it. Requires that no event was lost.
-    pub(crate) fn finish(self, alloc: Global) -> Ended
+    /// The schedule of the run so far, and the machine that it leads to. Requires that no event was lost.
+    pub(crate) fn finish(self) -> Ended
         requires { self.recorder.lost ≡ None }
         ensures run { IsRunOf self.entry.script self.entry.issuing false result.schedule }
         ensures whole { All IsAnswered self.entry.drivers →
             IsRunOf self.entry.script self.entry.issuing true result.schedule }
         ensures events { result.schedule.events ≡ self.entry.recorder.schedule.events }
-        ensures behind { run (size_for self.entry.script) result.schedule.events
-            ≡ raised MAX_OPERATIONS self.entry.recorder.core }
-        ensures logs { result.logs ≡ logs_behind self.entry.script result.schedule }
-        ensures last { result.last ≡ last_behind self.entry.script result.schedule }
-        ensures lines { length result.last ≡ self.entry.script.lines }
-        ensures within { AreWithin self.entry.script.lines result.logs }
-        ensures lawful { Lawful result.logs result.last }
-        ensures consistent { IsSequentiallyConsistent result.logs result.last }
+        ensures machine { result.machine ≡ self.entry.recorder.core }
+        ensures led { run (size_for self.entry.script) result.schedule.events
+            ≡ raised MAX_OPERATIONS result.machine }
+        ensures lines { result.machine.size.lines ≡ self.entry.script.lines }
     {
-        self.recorder.finish(alloc)
+        self.recorder.finish()
     }
 }

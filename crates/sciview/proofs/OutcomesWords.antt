@@ -3,8 +3,8 @@ use Rattle.std.proofs.Common.{◌≡◌, ◌↔◌, ◌≤◌, ℕ, arith, lengt
 use Rattle.std.specs.Prelude.{codes, slice_index, option_map}
 use Rattle.sci_text.specs.Number.{number}
 use Rattle.sci_drive.specs.declared.driver.Issuing.{Issuing, TheVariants.{Ahead, InOrder}}
+use Rattle.sci_outcomes.specs.declared.outcomes_report.{OutcomesRequest.{OutcomesRequest}, TheConstants.{MAX_RUNS}}
 use Rattle.sci_outcomes.specs.declared.trials.Turns.{Turns, TheVariants.{Drawn, Threads}}
-use Rattle.sci_run_reports.specs.declared.outcomes.{OutcomesRequest.{OutcomesRequest}, TheConstants.{MAX_RUNS}}
 use Rattle.sciview.specs.Choice.{ChoosesOutcomes, ChoosesTurnOrder, flag, is_in_order, turn_order_words}
 use Rattle.sciview.proofs.WalkWords.{first}
 

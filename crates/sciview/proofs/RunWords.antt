@@ -2,7 +2,7 @@
 use Rattle.std.proofs.Common.{◌≡◌, ◌↔◌, ℕ, arith, length, List, ◌∷◌, ◌++◌, Option, Some, None, sym, ap, ◌∙◌}
 use Rattle.std.specs.Prelude.{codes, Bool, true, false, option_map}
 use Rattle.sci_drive.specs.declared.driver.Issuing.{Issuing, TheVariants.{Ahead, InOrder}}
-use Rattle.sci_run_reports.specs.declared.running.RunRequest.{RunRequest}
+use Rattle.sci_outcomes.specs.declared.run_report.RunRequest.{RunRequest}
 use Rattle.sciview.specs.Choice.{ChoosesPace, ChoosesRun, FitsTurns, flag, is_in_order, turns_words}
 use Rattle.sciview.proofs.WalkWords.{first}
 

@@ -7,9 +7,8 @@ use Rattle.sci_drive.specs.declared.driver.Issuing.{Issuing, TheVariants.{Ahead,
 use Rattle.sci_reports.specs.declared.ordering.NodeOrder.{NodeOrder, TheVariants.{Logged, BySerial}}
 use Rattle.sci_reports.specs.declared.ordering.OrderRequest.{OrderRequest}
 use Rattle.sci_walks.specs.declared.random.Walk.{Walk}
+use Rattle.sci_outcomes.specs.declared.{outcomes_report.{OutcomesRequest.{OutcomesRequest}, TheConstants.{MAX_RUNS}}, run_report.RunRequest.{RunRequest}}
 use Rattle.sci_outcomes.specs.declared.trials.Turns.{Turns, TheVariants.{Drawn, Threads}}
-use Rattle.sci_run_reports.specs.declared.outcomes.{OutcomesRequest.{OutcomesRequest}, TheConstants.{MAX_RUNS}}
-use Rattle.sci_run_reports.specs.declared.running.RunRequest.{RunRequest}
 use Rattle.sci_statistics.specs.declared.counting.StatsRequest.{StatsRequest}
 use Rattle.sci_traces.specs.declared.tracing.TraceRequest.{TraceRequest}
 use Rattle.sciview.specs.declared.choice.Command.{Command}

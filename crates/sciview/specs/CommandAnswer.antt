@@ -5,7 +5,7 @@ use Rattle.sciview.specs.declared.{choice.Command.{Command}, help.TheConstants.{
 use Rattle.sci_charts.specs.ChartAnswer.{IsChartAnswer}
 use Rattle.sci_reports.specs.{CheckAnswer.{IsCheckAnswer}, ExplainAnswer.{IsExplainAnswer}, OrderAnswer.{IsOrderAnswer}}
 use Rattle.sci_traces.specs.{ListsAnswer.{IsListsAnswer}, PacketsAnswer.{IsPacketsAnswer}, TraceAnswer.{IsTraceAnswer}}
-use Rattle.sci_run_reports.specs.{OutcomesAnswer.{IsOutcomesAnswer}, RunAnswer.{IsRunAnswer}}
+use Rattle.sci_outcomes.specs.{OutcomesAnswer.{IsOutcomesAnswer}, RunAnswer.{IsRunAnswer}}
 use Rattle.sci_walks.specs.RandomAnswer.{IsRandomAnswer}
 use Rattle.sci_statistics.specs.StatsAnswer.{IsStatsAnswer}
 use Rattle.sciview.specs.declared.choice.Command.TheVariants as commands

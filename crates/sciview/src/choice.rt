@@ -11,18 +11,15 @@ ghost use Rattle.sciview.specs.Choice.{FitsWalk, dead_words, events_words, flag,
 ghost use Rattle.sci_reports.specs.declared.ordering.OrderRequest.{OrderRequest};
 ghost use Rattle.sci_walks.specs.declared.random.Walk.{Walk};
 ghost use Rattle.sci_drive.specs.declared.driver.Issuing.{Issuing};
-ghost use Rattle.sci_outcomes.specs.declared.trials.Turns.{Turns};
-ghost use Rattle.sci_run_reports.specs.declared.outcomes.OutcomesRequest.{OutcomesRequest};
-ghost use Rattle.sci_run_reports.specs.declared.running.RunRequest.{RunRequest};
+ghost use Rattle.sci_outcomes.specs.declared.{outcomes_report.OutcomesRequest.{OutcomesRequest}, run_report.RunRequest.{RunRequest}, trials.Turns.{Turns}};
 ghost use Rattle.sci_statistics.specs.declared.counting.StatsRequest.{StatsRequest};
 ghost use Rattle.sci_traces.specs.declared.tracing.TraceRequest.{TraceRequest};
 
 use sci_charts::{ChartRequest, TextLines};
 use sci_command::texts_of;
 use sci_drive::Issuing;
-use sci_outcomes::Turns;
+use sci_outcomes::{MAX_RUNS, OutcomesRequest, RunRequest, Turns};
 use sci_reports::{NodeOrder, OrderRequest};
-use sci_run_reports::{MAX_RUNS, OutcomesRequest, RunRequest};
 use sci_statistics::StatsRequest;
 use sci_text::whole_number;
 use sci_traces::TraceRequest;

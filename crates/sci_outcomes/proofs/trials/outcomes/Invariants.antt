@@ -4,5 +4,4 @@ use Rattle.sci_outcomes.proofs.trials.outcomes.Given as goal
 
 -- what was seen of the runs so far
 abbrev pub invariant-loop-number : goal.invariant-loop-number
-invariant-loop-number g l = (seen : List Sighting) × (length seen ≡ l.number) × AreSightings l.script l.trials.turns l.trials.issuing seen
-    × HasCounted l.histogram seen
+invariant-loop-number g l = (seen : List Sighting) × (length seen ≡ l.number) × AreSightings l.script l.trials seen × HasCounted l.histogram seen

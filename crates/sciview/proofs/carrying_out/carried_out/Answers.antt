@@ -10,12 +10,12 @@ use Rattle.sci_charts.specs.ChartAnswer.{IsChartAnswer}
 use Rattle.sci_reports.specs.{CheckAnswer.{IsCheckAnswer, IsCheckFault}, ExplainAnswer.{IsExplainAnswer}}
 use Rattle.sci_reports.specs.OrderAnswer.{IsOrderAnswer}
 use Rattle.sci_traces.specs.{ListsAnswer.{IsListsAnswer}, PacketsAnswer.{IsPacketsAnswer}, TraceAnswer.{IsTraceAnswer}}
-use Rattle.sci_run_reports.specs.{OutcomesAnswer.{IsGivenUpScript, IsOutcomesAnswer}, RunAnswer.{IsLongRun, IsRunAnswer, IsRunRefusal}}
+use Rattle.sci_outcomes.specs.{OutcomesAnswer.{IsGivenUpScript, IsOutcomesAnswer}, RunAnswer.{IsLongRun, IsRunAnswer, IsRunRefusal}}
+use Rattle.sci_outcomes.proofs.Ran.{run_memory}
 use Rattle.sci_walks.specs.RandomAnswer.{IsRandomAnswer, IsWalkFault}
 use Rattle.sci_statistics.specs.StatsAnswer.{IsStatsAnswer, IsStatsFault}
 use Rattle.sci_statistics.proofs.Counted.{stats_memory}
 use Rattle.sci_reports.proofs.Checked.{refused_whole}
-use Rattle.sci_run_reports.proofs.Ran.{run_memory}
 use Rattle.sci_walks.proofs.RandomWalks.{walk_memory}
 use Rattle.sciview.proofs.carrying_out.carried_out.Goals as goal
 

@@ -1,6 +1,6 @@
 use Rattle.std.proofs.Common.{◌≡◌, ◌≤◌, ◌↔◌, ◌-◌, ℕ, Option, Some, List, [], ◌∷◌, length, map, take, drop, get_or, refl, sym, ap, subst, ◌∙◌, arith}
 use Rattle.std.specs.Prelude.{codes}
-use Rattle.sci_run_reports.specs.declared.outcomes.OutcomesRequest.{OutcomesRequest}
+use Rattle.sci_outcomes.specs.declared.outcomes_report.OutcomesRequest.{OutcomesRequest}
 use Rattle.sciview.specs.Choice.{ChoosesOutcomes}
 use Rattle.sciview.proofs.OutcomesWords.{runs_said, said_alone}
 use Rattle.sciview.proofs.choice.outcomes_choice.Goals as goal

@@ -1,7 +1,7 @@
 use Rattle.std.proofs.Common.{◌≡◌, ◌++◌, take}
 use Rattle.std.specs.List.{flat_map}
-use Rattle.sci_run_reports.specs.OutcomesAnswer.{replied_text}
-use Rattle.sci_run_reports.proofs.outcomes.push_replies.Given as goal
+use Rattle.sci_outcomes.specs.OutcomesAnswer.{replied_text}
+use Rattle.sci_outcomes.proofs.outcomes_report.push_replies.Given as goal
 
 -- the replies so far
 abbrev pub invariant-loop-replied : goal.invariant-loop-replied

@@ -2,7 +2,7 @@
 use Rattle.std.proofs.Common.{ℕ, List, Bool, Option, inl, inr, arith}
 use Rattle.sci_text.specs.ScriptFault.{IsScriptFault}
 use Rattle.sci_command.proofs.Refusals.{AllowsMemory, told_memory}
-use Rattle.sci_run_reports.specs.RunAnswer.{IsRunRefusal}
+use Rattle.sci_outcomes.specs.RunAnswer.{IsRunRefusal}
 
 pub run_memory : (is_long : List ℕ → Type 0) (known : Option (List ℕ)) (failed : Bool)
     → AllowsMemory (λ kind line. IsRunRefusal is_long kind known failed line)

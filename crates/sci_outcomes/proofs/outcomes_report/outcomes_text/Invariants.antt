@@ -1,7 +1,7 @@
 use Rattle.std.proofs.Common.{◌≡◌, take}
 use Rattle.std.specs.List.{flat_map}
-use Rattle.sci_run_reports.specs.OutcomesAnswer.{row_text}
-use Rattle.sci_run_reports.proofs.outcomes.outcomes_text.Given as goal
+use Rattle.sci_outcomes.specs.OutcomesAnswer.{row_text}
+use Rattle.sci_outcomes.proofs.outcomes_report.outcomes_text.Given as goal
 
 -- the rows so far
 abbrev pub invariant-loop-row : goal.invariant-loop-row

@@ -7,7 +7,7 @@ use Rattle.sci_text.specs.ScriptFault.{IsScriptFault}
 use Rattle.sci_command.specs.declared.outcome.Outcome.{Outcome, TheVariants.{Done, Unlawful, Refused}}
 use Rattle.sci_command.specs.{Input.{IsReadAs}, Refusal.{IsRefusalBy}}
 use Rattle.sci_runs.specs.{Played.{IsPlayed, IsTooLong}, Runs.{IsRunOf}}
-use Rattle.sci_run_reports.specs.declared.running.RunRequest.{RunRequest}
+use Rattle.sci_outcomes.specs.declared.run_report.RunRequest.{RunRequest}
 
 -- the input is the text of a script whose run makes as many events as a schedule can have
 pub record IsLongRun (request : RunRequest) (input : List ℕ) : Type 0 where

@@ -3,14 +3,15 @@
 ghost use Rattle.std.specs.{Prelude.{◌≡◌, ◌++◌, false, IfOk, OnOk}, List.{flat_map}};
 ghost use Rattle.sci_text.specs.Tap.{has_failed};
 ghost use Rattle.sci_command.specs.{Answer.{HasAnswered}, declared.outcome.Outcome.{Outcome}};
-ghost use Rattle.sci_run_reports.specs.RunAnswer.{IsRunRefusal};
-ghost use Rattle.sci_run_reports.specs.OutcomesAnswer.{IsGivenUpScript, IsOutcomesAnswer, count_text, held_text, outcome_text, outcomes_text as outcomes_text_of};
-ghost use Rattle.sci_run_reports.specs.OutcomesAnswer.{replied_text, row_text, seed_text, sense_text, total_text};
+ghost use Rattle.sci_outcomes.specs.OutcomesAnswer.{IsGivenUpScript, IsOutcomesAnswer, count_text, held_text, outcome_text, outcomes_text as outcomes_text_of};
+ghost use Rattle.sci_outcomes.specs.{OutcomesAnswer.{replied_text, row_text, seed_text, sense_text, total_text}, RunAnswer.{IsRunRefusal}};
 
-use crate::running::fault_of;
+use crate::histogram::Row;
+use crate::outcome::{Held, Replied};
+use crate::run_report::fault_of;
+use crate::trials::{Trials, Turns, outcomes};
 use sci_command::{Answer, Answered, Outcome, push_labelled};
 use sci_drive::Issuing;
-use sci_outcomes::{Held, Replied, Row, Trials, Turns, outcomes};
 use sci_text::{Tap, push_number, push_text, read_script};
 use std::alloc::{AllocError, Global};
 use std::io::Read;
@@ -146,8 +147,7 @@ fn push_total(out: &mut Vec<u8>, outcomes: u64, runs: u64) -> Result<(), AllocEr
 
 /// The text of the rows of runs.
 fn outcomes_text(alloc: Global, trials: Trials, rows: &[Row]) -> Result<Vec<u8>, AllocError>
-    ensures { IfOk result
-        (λ text. text.items ≡ outcomes_text_of trials.turns trials.runs rows.now) }
+    ensures { IfOk result (λ text. text.items ≡ outcomes_text_of trials rows.now) }
 {
     let mut text = Vec::new(alloc);
     for row in rows {
@@ -161,10 +161,10 @@ fn outcomes_text(alloc: Global, trials: Trials, rows: &[Row]) -> Result<Vec<u8>,
 /// next seed or by one thread a node, and gives a line for each outcome: what each load and each lock operation replied, by
 /// node and then by serial; what each word that the script may write holds at the end; how many runs gave the outcome; the
 /// seed of the first of them, unless they are by threads; and whether the log of one of them is sequentially consistent in
-/// program order. The most frequent stands first, and those that are as frequent by their numbers. The last line says how many outcomes and runs there were. That the log of each run
-/// is lawful is a theorem, and isn't looked at. A script with a fault is refused, as are a reader that fails, too long an
-/// input and running out of memory, at line 0, and a run of more than 500,000 events or 1,000,000,000 turns, as `too-many` at
-/// line 0. After a failed read nothing more is read.
+/// program order. The most frequent stands first, and those that are as frequent by their numbers. The last line says how many
+/// outcomes and runs there were. That the log of each run is lawful is a theorem, and isn't looked at. A script with a fault is
+/// refused, as are a reader that fails, too long an input and running out of memory, at line 0, and a run of more than 500,000
+/// events or 1,000,000,000 turns, as `too-many` at line 0. After a failed read nothing more is read.
 pub fn outcomes_of<T: Threads + Sync, R: Read>(
     rt: &T,
     alloc: Global,

@@ -3,7 +3,7 @@
 ghost use Rattle.std.specs.Prelude.{◌≡◌, ◌⊎◌, false, true};
 ghost use Rattle.sci_text.specs.{declared.fault.TextFaultKind.TheVariants.{Memory, TooMany}, Tap.{has_failed}};
 ghost use Rattle.sci_command.specs.{Answer.{HasAnswered}, declared.outcome.Outcome.{Outcome}};
-ghost use Rattle.sci_run_reports.specs.RunAnswer.{IsLongRun, IsRunAnswer, IsRunRefusal};
+ghost use Rattle.sci_outcomes.specs.RunAnswer.{IsLongRun, IsRunAnswer, IsRunRefusal};
 
 use sci_command::{Answer, Answered, Outcome};
 use sci_drive::Issuing;
@@ -37,7 +37,7 @@ fn outcome_of(done: bool) -> Outcome
 }
 
 /// Why a run is refused, as a fault of the whole input.
-pub fn fault_of(fault: RunFault) -> TextFault
+pub(crate) fn fault_of(fault: RunFault) -> TextFault
     ensures line { result.line ≡ 0 }
     ensures kind { (result.kind ≡ TooMany) ⊎ (result.kind ≡ Memory) }
     ensures many { result.kind ≡ TooMany → fault ≡ RunFault.TooMany }

@@ -1,7 +1,7 @@
 use Rattle.std.proofs.Common.{◌≡◌, ◌++◌, take}
 use Rattle.std.specs.List.{flat_map}
-use Rattle.sci_run_reports.specs.OutcomesAnswer.{held_text}
-use Rattle.sci_run_reports.proofs.outcomes.push_words.Given as goal
+use Rattle.sci_outcomes.specs.OutcomesAnswer.{held_text}
+use Rattle.sci_outcomes.proofs.outcomes_report.push_words.Given as goal
 
 -- the words so far
 abbrev pub invariant-loop-held : goal.invariant-loop-held

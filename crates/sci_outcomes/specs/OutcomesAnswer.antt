@@ -3,11 +3,10 @@ use Rattle.std.specs.Prelude.{◌≡◌, ℕ, ◌+◌, ◌%◌, ◌^◌, Bool, t
 use Rattle.std.specs.List.{flat_map}
 use Rattle.sci_text.specs.{Number.{number, field}, Script.{IsScript, ScriptValue, script_text}}
 use Rattle.sci_command.specs.Answer.{IsDoneBy}
-use Rattle.sci_outcomes.specs.declared.{histogram.Row.{Row}, outcome.{Held.{Held}, Outcome.{Outcome}}}
-use Rattle.sci_outcomes.specs.declared.{outcome.Replied.{Replied}, trials.Turns.{Turns, TheVariants.{Drawn, Threads}}}
-use Rattle.sci_outcomes.specs.Trials.{AreOutcomes, OneIsGivenUp}
-use Rattle.sci_run_reports.specs.declared.outcomes.{OutcomesRequest.{OutcomesRequest}, TheConstants.{RUNS, SEED}}
-use Rattle.sci_run_reports.specs.RunAnswer.{IsRunRefusal}
+use Rattle.sci_outcomes.specs.declared.{histogram.Row.{Row}, outcome.{Held.{Held}, Outcome.{Outcome}, Replied.{Replied}}}
+use Rattle.sci_outcomes.specs.declared.outcomes_report.{OutcomesRequest.{OutcomesRequest}, TheConstants.{RUNS, SEED}}
+use Rattle.sci_outcomes.specs.declared.trials.{Trials.{Trials}, Turns.{Turns, TheVariants.{Drawn, Threads}}}
+use Rattle.sci_outcomes.specs.{RunAnswer.{IsRunRefusal}, Trials.{AreOutcomes, OneIsGivenUp}}
 use Rattle.sci_command.specs.declared.outcome.Outcome as ending
 
 -- ---- texts
@@ -45,17 +44,14 @@ unfoldable pub total_text : ℕ → ℕ → List ℕ
 total_text outcomes runs = codes "outcomes" ++ (field outcomes ++ (codes " runs" ++ (field runs ++ 10 ∷ [])))
 
 -- a line for each row, and one for all
-abbrev pub outcomes_text : Turns → ℕ → List Row → List ℕ
-outcomes_text turns runs rows = flat_map (row_text turns) rows ++ total_text (length rows) runs
+abbrev pub outcomes_text : Trials → List Row → List ℕ
+outcomes_text trials rows = flat_map (row_text trials.turns) rows ++ total_text (length rows) trials.runs
 
 -- ---- the answer
 
--- in which order nodes take turns, and how many runs there are
-abbrev pub turns_asked : OutcomesRequest → Turns
-turns_asked request = unwrap_or request.turns (Drawn SEED)
-
-abbrev pub runs_asked : OutcomesRequest → ℕ
-runs_asked request = unwrap_or request.runs RUNS
+-- the runs that are asked for
+abbrev pub trials_of : OutcomesRequest → Trials
+trials_of request = record { runs = unwrap_or request.runs RUNS; turns = unwrap_or request.turns (Drawn SEED); issuing = request.issuing }
 
 -- the input is the text of a script, and the outcomes of its runs are written
 pub record IsOutcomesText (request : OutcomesRequest) (input text : List ℕ) : Type 0 where
@@ -63,15 +59,15 @@ pub record IsOutcomesText (request : OutcomesRequest) (input text : List ℕ) : 
   pub good : IsScript script
   pub read : input ≡ script_text script
   pub rows : List Row
-  pub outcomes : AreOutcomes script (turns_asked request) request.issuing (runs_asked request) rows
-  pub written : text ≡ outcomes_text (turns_asked request) (runs_asked request) rows
+  pub outcomes : AreOutcomes script (trials_of request) rows
+  pub written : text ≡ outcomes_text (trials_of request) rows
 
 -- the input is the text of a script, and one of its runs is given up
 pub record IsGivenUpScript (request : OutcomesRequest) (input : List ℕ) : Type 0 where
   pub script : ScriptValue
   pub good : IsScript script
   pub read : input ≡ script_text script
-  pub one : OneIsGivenUp script (turns_asked request) request.issuing (runs_asked request)
+  pub one : OneIsGivenUp script (trials_of request)
 
 -- what `outcomes` writes, and how it ends, for the bytes of a reader, which has failed or not
 abbrev pub IsOutcomesAnswer : OutcomesRequest → Option (List ℕ) → Bool → List ℕ → ending.Outcome → Type 0

@@ -1,2 +1,0 @@
-pub mod RunAnswer
-pub mod OutcomesAnswer
