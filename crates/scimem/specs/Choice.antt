@@ -1,7 +1,8 @@
 -- The words of a command line.
 use Rattle.std.specs.Prelude.{◌≡◌, ◌≤◌, ◌⊎◌, ℕ, List, [], ◌∷◌, codes}
+use Rattle.sci_words.specs.declared.limits.TheConstants.{MAX_TURNS}
 use Rattle.sci_text.specs.Number.{number}
-use Rattle.scimem.specs.declared.choice.{TheConstants.{MAX_TURNS}, Command.{Command}}
+use Rattle.scimem.specs.declared.choice.Command.{Command}
 use Rattle.scimem.specs.declared.choice.Command.TheVariants.{Oracle, Replay, Threads, Decode, Audit, Upgrade}
 
 -- `threads` alone, for the most turns, or with a number of turns from 1 to that

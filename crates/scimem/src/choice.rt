@@ -1,11 +1,13 @@
 //! The words of the command line.
 
 ghost use Rattle.std.specs.Prelude.{◌≡◌, ◌↔◌, ◌≤◌, ◌∷◌, [], ℕ, IfOk, Some, map};
+ghost use Rattle.sci_words.specs.declared.limits.TheConstants.{MAX_TURNS};
 ghost use Rattle.sci_text.specs.Number.{number};
 ghost use Rattle.scimem.specs.{declared.choice.Command.{Command}, Choice.{Chooses}};
 
 use sci_command::texts_of;
 use sci_text::whole_number;
+use sci_words::MAX_TURNS;
 use std::alloc::{AllocError, Global};
 use std::rt::Env;
 use std::{env, io};
@@ -17,9 +19,6 @@ pub const USAGE: &str =
 /// What stands below the usage line on standard error.
 pub const MANUAL: &str =
     "A command reads standard input to its end. The manual is scimem(1), and its formats are in scimem(5).";
-
-/// How many turns a node of `threads` takes at most, and does if the words don't say.
-pub const MAX_TURNS: u32 = 1_000_000_000;
 
 /// What the program is asked to do.
 #[derive(Clone, Copy)]
