@@ -425,7 +425,7 @@ sci_status sci_logs_close(sci_logs *logs);
 **
 **   SCI_OK
 **   SCI_RANGE       The logs have no such node or line, the word is above 7, or act or has_word is outside its table.
-**   SCI_FULL        The node's log has 65,536 entries.
+**   SCI_FULL        The entry is in range, and the node's log has 65,536 entries.
 **   SCI_NO_MEMORY
 **   SCI_MISUSE      The object keeps no logs. */
 sci_status sci_logs_push(sci_logs *logs, const sci_entry *entry);

@@ -39,9 +39,9 @@ class Tally:
             print(f"{what} FAILED: {str(found)[:300]} and not {str(wanted)[:300]}", flush=True)
 
     def ran(self, command, given, program=None, words=()):
-        """What the program writes, of both kinds."""
-        ran = subprocess.run([program or self.scimem, command, *words], input=given, stdout=subprocess.PIPE, stderr=subprocess.PIPE)
-        return ran.stdout + ran.stderr
+        """What the program writes on standard output."""
+        words = [program or self.scimem, command, *words]
+        return subprocess.run(words, input=given, stdout=subprocess.PIPE, stderr=subprocess.DEVNULL).stdout
 
 
 def operation(op):

@@ -2,6 +2,7 @@
 more."""
 
 import os
+import re
 import signal
 import subprocess
 import time
@@ -18,6 +19,9 @@ Case = namedtuple("Case", "name words given status output errors usage")
 # Of each program a word that chooses a command, and the stored case with no word.
 PROGRAMS = {"scimem": (b"oracle", "words.txt: no word"), "sciview": (b"order", "sciview-words.txt: no word")}
 
+# A standard output whose reader has left.
+NO_READER = "a pipe without a reader"
+
 # How many operations and entries of each of 16 nodes the larger inputs have. A list takes memory for each event, so those of
 # `sciview` have fewer.
 LARGER = {"scimem": 300, "sciview": 60}
@@ -33,9 +37,28 @@ def usage_of(top, name):
     return next(it.errors for it in stored_cases(top) if it.name == PROGRAMS[name][1])
 
 
-def refusal(case, kind):
-    """The refusal of a command's whole input."""
-    return b"refused at %s 0: %s\n" % (b"byte" if case.words == ["decode"] else b"line", kind)
+def told(program, case, words):
+    """What a program says of a command on standard error."""
+    command = [it for it in case.words[:1] if not it.startswith("-")]
+    return " ".join([os.path.basename(program), *command]).encode() + b": %s\n" % words
+
+
+def refused(program, case, kind, words):
+    """How the whole input of a command is refused: the status, the line of scimem's standard output, and what is said of it."""
+    place = b"byte" if case.words == ["decode"] else b"line"
+    output = b"refused at %s 0: %s\n" % (place, kind) if os.path.basename(program) == "scimem" else b""
+    return 2, output, told(program, case, words)
+
+
+def unread(program, case):
+    return refused(program, case, b"read", b"the input can't be read")
+
+
+def unwritten(program, case, has_left):
+    """What is said if the output can't be written, for a reader that has left or not. A refusal is told in its place."""
+    if case.status == 2:
+        return case.errors
+    return b"" if has_left else told(program, case, b"standard output can't be written")
 
 
 def plain_cases(top, program):
@@ -81,11 +104,20 @@ def is_whole(ran, case):
     return ran[:3] == (case.status, case.output, case.errors)
 
 
-def is_memory(ran, case):
+def is_memory(ran, case, program):
     """Whether memory is told and nothing else; or, if the command line couldn't be read, the usage line."""
     if ran.told != b"a" and ran[:3] == (2, b"", case.usage):
         return True
-    return ran[:3] == (2, refusal(case, b"memory"), b"")
+    return ran[:3] == refused(program, case, b"memory", b"out of memory")
+
+
+def is_bare(ran, case, program):
+    """Whether a refusal names the kind of its fault alone, since there was no memory to say more."""
+    if ran[:2] != (case.status, case.output) or case.status != 2:
+        return False
+    bare = re.fullmatch(rb"(.*: line \d+): (?:syntax|range|too-many)\n", ran.errors)
+    asked = ran.errors == told(program, case, b"a number is out of range") and b": --" in case.errors
+    return case.errors.startswith(bare[1]) if bare else asked
 
 
 def try_allocations(faults, program, case):
@@ -94,7 +126,7 @@ def try_allocations(faults, program, case):
     for number in range(1, 1_000_000):
         ran = faults.run([program, *case.words], case.given, fault=f"alloc:{number}")
         trial.count(ran.told)
-        if not (is_whole(ran, case) or ran.told and is_memory(ran, case)):
+        if not (is_whole(ran, case) or ran.told and (is_memory(ran, case, program) or is_bare(ran, case, program))):
             trial.fail(f"allocation {number}", ran)
         if not ran.told:
             return trial
@@ -108,8 +140,7 @@ def try_reads(faults, program, case):
             how = {"fault": f"read:{number}", "error": error, "most": 5}
             ran = faults.run([program, *case.words], case.given, **how)
             trial.count(ran.told)
-            refused = ran[:3] == (2, refusal(case, b"read"), b"")
-            if not (refused if ran.told else is_whole(ran, case)):
+            if not (ran[:3] == unread(program, case) if ran.told else is_whole(ran, case)):
                 trial.fail(f"read {number} with error {error}", ran)
             if not ran.told:
                 break
@@ -124,7 +155,7 @@ def try_writes(faults, program, case):
             how = {"fault": f"write:{number}", "error": error, "most": 7}
             ran = faults.run([program, *case.words], case.given, **how)
             trial.count(ran.told)
-            cut = ran[:3] == (2, case.output[: 7 * (number - 1)], b"")
+            cut = ran[:3] == (2, case.output[: 7 * (number - 1)], unwritten(program, case, error == EPIPE))
             if not (cut if ran.told else is_whole(ran, case)):
                 trial.fail(f"write {number} with error {error}", ran)
             if not ran.told:
@@ -160,7 +191,7 @@ def try_space(faults, program, case, least, steps):
     limits = [least + enough * step // steps for step in range(steps + 1)]
     for kilobytes, ran in zip(limits, faults.pool.map(run, limits)):
         trial.count(not is_whole(ran, case))
-        if not (is_whole(ran, case) or is_memory(ran, case)):
+        if not (is_whole(ran, case) or is_memory(ran, case, program) or is_bare(ran, case, program)):
             trial.fail(f"{kilobytes} KB", ran)
     return trial
 
@@ -201,7 +232,7 @@ def output_devices(program, case, path):
     reader, writer = os.pipe()
     os.close(reader)
     with open(path, "rb") as file:
-        yield "a pipe without a reader", with_files(program, case, stdin=file, stdout=writer)
+        yield NO_READER, with_files(program, case, stdin=file, stdout=writer)
     os.close(writer)
 
 
@@ -245,15 +276,16 @@ def try_devices(faults, program, case):
     path = f"{faults.room}/{case.words[0]}"
     with open(path, "wb") as file:
         file.write(case.given)
-    runs = [(what, ran, refusal(case, b"read")) for what, ran in input_devices(program, case)]
-    runs += [(what, ran, b"") for what, ran in output_devices(program, case, path)]
+    cut = lambda count, has_left: (2, case.output[:count], unwritten(program, case, has_left))
+    runs = [(what, ran, unread(program, case)) for what, ran in input_devices(program, case)]
+    runs += [(what, ran, cut(0, what == NO_READER)) for what, ran in output_devices(program, case, path)]
     # (a pipe holds 65,536 bytes, so that a writer of more than a megabyte is still writing)
     if len(case.output) > 1 << 20:
-        runs.append(("a reader that leaves", reader_that_leaves(program, case, path), case.output[:10]))
-        runs.append(("a full pipe", full_pipe(program, case, path), case.output[: 1 << 16]))
-    for what, ran, output in runs:
+        runs.append(("a reader that leaves", reader_that_leaves(program, case, path), cut(10, True)))
+        runs.append(("a full pipe", full_pipe(program, case, path), cut(1 << 16, False)))
+    for what, ran, wanted in runs:
         trial.count(True)
-        if ran[:3] != (2, output, b""):
+        if ran[:3] != wanted:
             trial.fail(what, ran)
     trial.count(True)
     ran = halting_writer(program, case)
@@ -261,10 +293,11 @@ def try_devices(faults, program, case):
 
 
 def try_words(faults, program, usage, words):
-    """A command line that chooses no command: the usage line, status 2, and nothing is read."""
+    """A command line that chooses no command: how the command or the program is called, status 2, and nothing is read."""
     trial = Trial(f"{len(words)} words {words[0][:20]!r}")
     ran = faults.run([program, *words])
-    return trial if ran[:3] == (2, b"", usage) else trial.fail("odd words", ran)
+    called = ran.errors == usage or re.fullmatch(rb"sciview: .*\nusage: sciview order .*\n", ran.errors)
+    return trial if ran[:2] == (2, b"") and called else trial.fail("odd words", ran)
 
 
 def tell(name, what, trials):

@@ -36,7 +36,7 @@ OTHERS = {
     "Machine::last": ("sci_core", "machine", "last", "Machine"),
     "run_nodes": ("sci_threads", "running", "run_nodes", None),
     "each_order_has_a_schedule": ("sci_orders", "laws", "each_order_has_a_schedule", None),
-    "last_standings": ("sci_orders", "levels", "last_standings", None),
+    "Orders::last_standings": ("sci_orders", "orders", "last_standings", "Orders"),
 }
 # Main promises: the words for one, the headline or other contract that has it, and the names of its clauses, or of the fields of
 # the records that say it.
@@ -48,7 +48,7 @@ PROMISES = [
     ("So are the logs of threads, and they are the script's", "run_nodes", ["named", "whole", "lawful", "consistent"]),
     ("The machine does what the rules of the protocol say", "Machine::run", ["ok"]),
     ("Each order that one memory allows is that of a schedule", "each_order_has_a_schedule", ["seen"]),
-    ("The search finds the positions to which the steps of a script lead", "last_standings", ["reached"]),
+    ("The search finds the positions to which the steps of a script lead", "Orders::last_standings", ["reached"]),
     ("What is written is the oracle's text of the script, and lawful", "oracle", [f"IsOracleOf.{it}" for it in ("good", "read", "written", "lawful")]),
     ("What is written is such a log of the script", "threads", [f"IsThreadsOf.{it}" for it in ("good", "read", "written", "lawful", "consistent", "named", "whole")]),
     ("The logs are those that the input says", "order", ["IsOrderOf.read"]),

@@ -10,7 +10,7 @@ from fault_runs import Trial
 from thread_logs import wrong_log
 
 WORDS = ["threads"]
-MEMORY = (2, b"refused at line 0: memory\n", b"")
+MEMORY = (2, b"refused at line 0: memory\n", b"scimem threads: out of memory\n")
 
 # A script of several nodes: its name, its text, and the most address space that it is given above the least, in KB.
 Script = namedtuple("Script", "name given most_space")

@@ -162,6 +162,13 @@ def changed(chance, given):
     return chance.randbytes(chance.randrange(300))
 
 
+def is_said(command, run):
+    """Whether standard error has a line of the command exactly if it was refused; of dead events `replay` says so."""
+    lines = run.stderr.splitlines(keepends=True)
+    named = all(it.startswith(b"scimem %s: " % command.encode()) and it.endswith(b"\n") for it in lines)
+    return named and (len(lines) == 1 if run.returncode == 2 else not lines or command == "replay" and len(lines) == 1)
+
+
 def ran(command, given):
     """Status and output of a run; the status is a text if the run itself went wrong."""
     how = {"stdout": subprocess.PIPE, "stderr": subprocess.PIPE, "timeout": 60}
@@ -169,7 +176,7 @@ def ran(command, given):
         run = subprocess.run([PROGRAM, command], input=given, **how)
     except subprocess.TimeoutExpired:
         return "it did not end", b""
-    return ("it wrote to standard error" if run.stderr else run.returncode), run.stdout
+    return (run.returncode if is_said(command, run) else f"it said {run.stderr[:200]!r}"), run.stdout
 
 
 def log_is_kept(command, output):

@@ -48,6 +48,7 @@ pub record IsOrdering (old new : List SciEntry) (kind used status : ℕ) (journa
   pub order : status ≡ SCI_OK → kind ≡ ORDER → IsOrderIn old new used journal
   pub cycle : status ≡ SCI_OK → kind ≡ CYCLE → IsCycleIn old new used journal
   pub unlawful : status ≡ SCI_OK → kind ≡ UNLAWFUL → Lawful journal.logs journal.last → ⊥
+  pub nothing : status ≡ SCI_OK → kind ≡ UNLAWFUL → (used ≡ 0) × (new ≡ old)
   pub kinds : status ≡ SCI_OK → kind ≤ UNLAWFUL
   pub ordered : status ≡ SCI_OK → (kind ≡ ORDER) ↔ (Lawful journal.logs journal.last × IsSequentiallyConsistent journal.logs journal.last)
   pub full : status ≡ SCI_FULL → NeedsRoom old used journal

@@ -1,6 +1,6 @@
 //! Logs with last contents.
 
-ghost use Rattle.std.specs.Prelude.{◌≡◌, ◌≢◌, ◌≤◌, ◌⊎◌, ◌∷◌, [], Some, length};
+ghost use Rattle.std.specs.Prelude.{◌≡◌, ◌≢◌, ◌<◌, ◌≤◌, ◌⊎◌, ◌∷◌, [], Some, length};
 ghost use Rattle.sci_words.specs.declared.limits.TheConstants.{MAX_NODES};
 ghost use Rattle.sci_history.specs.Placed.{log_of};
 ghost use Rattle.sci_text.specs.LogValue.{IsSize};
@@ -52,7 +52,8 @@ pub extern "C" fn sci_logs_close(alloc: Global, object: &mut SciObject) -> u32
 #[unsafe(no_mangle)]
 pub extern "C" fn sci_logs_push(object: &mut SciObject, entry: &SciEntry) -> u32
     ensures pushed { result ≡ SCI_OK → Goes logs_in object.old.value object.new.value (IsPushed entry.now) }
-    ensures full { result ≡ SCI_FULL → On logs_in object.old.value (IsFull entry.now) }
+    ensures full { result ≡ SCI_FULL → On logs_in object.old.value
+        (λ journal. FitsJournal journal entry.now × IsFull entry.now journal) }
     ensures range { result ≡ SCI_RANGE → On logs_in object.old.value
         (λ journal. FitsJournal journal entry.now → SaysNone (SaysEntry entry.now)) }
     ensures memory { result ≡ SCI_NO_MEMORY → On logs_in object.old.value (λ journal. FitsJournal journal entry.now) }
@@ -128,6 +129,7 @@ pub extern "C" fn sci_logs_size(object: &mut SciObject, nodes: &mut u8, lines: &
 pub extern "C" fn sci_logs_count(object: &mut SciObject, node: u8, count: &mut usize) -> u32
     ensures counted { result ≡ SCI_OK → On logs_in object.old.value
         (λ journal. count.new ≡ length (log_of journal.logs node)) }
+    ensures within { result ≡ SCI_OK → node < MAX_NODES }
     ensures range { result ≡ SCI_RANGE → MAX_NODES ≤ node }
     ensures same { result ≢ SCI_OK → count.new ≡ count.old }
     ensures kept { IsLook logs_in (SCI_RANGE ∷ []) object.old.value result object.new.value }

@@ -1,5 +1,5 @@
 -- The packet that a struct says.
-use Rattle.std.specs.Prelude.{◌≡◌, ℕ, ◌<◌, ◌≤◌, ◌+◌, ◌*◌, ◌^◌, ◌==◌, List, [], ◌∷◌, Some, replicate, if◌then◌else◌}
+use Rattle.std.specs.Prelude.{◌≡◌, ℕ, ◌<◌, ◌≤◌, ◌+◌, ◌*◌, ◌^◌, ◌==◌, ◌⊎◌, List, [], ◌∷◌, Some, None, replicate, if◌then◌else◌}
 use Rattle.sci_packets.specs.declared.fault.PacketFault.{PacketFault}
 use Rattle.sci_packets.specs.declared.fault.PacketFault.TheVariants.{Short, UnknownCommand, BadOffset, BadIdentifier}
 use Rattle.sci_packets.specs.{declared.packet.Packet.{Packet}, Fault.{fault_of_words}, Spelling.{SpellsInWords}}
@@ -41,7 +41,8 @@ pub record IsPlain (c : SciPacket) : Type 0 where
   pub version : c.has_contents ≡ 0 → c.version ≡ 0
   pub words : c.has_contents ≡ 0 → c.words ≡ replicate 8 0
 
--- a struct that says no packet, and the first fault of its words, if it has one
+-- A struct that says no packet: by Range only if a number is out of range or its words have no fault, and else by the first
+-- fault of its words.
 abbrev pub IsRefusalOf : SciPacket → PacketRefusal → Type 0
-IsRefusalOf c refusal.Range = SaysNone (SaysPacket c)
+IsRefusalOf c refusal.Range = SaysNone (SaysPacket c) × ((IsInRange c → ⊥) ⊎ (fault_of_words (struct_words c) ≡ None))
 IsRefusalOf c (refusal.Fault fault) = SaysNone (SaysPacket c) × IsInRange c × (fault_of_words (struct_words c) ≡ Some fault)

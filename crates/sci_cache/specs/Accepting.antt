@@ -1,7 +1,7 @@
 -- What a cache does with each answer that comes. As in IEEE Std 1596-1992, a new sharer that memory names an old head
 -- comes to stand before it, and a purged entry answers with its forward identifier. The answers and the states between
 -- are this project's profile.
-use Rattle.std.specs.Prelude.{true, false, Option, Some, None}
+use Rattle.std.specs.Prelude.{true, false, Option, Some, None, unwrap_or}
 use Rattle.sci_packets.specs.declared.body.Body.{Body}
 use Rattle.sci_packets.specs.declared.body.Body.TheVariants.{Mdata, Mgone, Cdata, Purged, Rolled, Wbok, Wbno, Told, Busy, Fdata}
 use Rattle.sci_cache.specs.State.{CacheState, Out, Asking, Joining, FreshJoining, Head, FreshHead, Below, Purging, Claiming, Clearing, Returning, Rolling}
@@ -35,3 +35,8 @@ accepting (Rolling f b c) Busy = Some (Below f b c)
 accepting (Telling r w true) Told = Some Out
 accepting Fading Busy = Some Out
 accepting _ _ = None
+
+-- the state once the answer that is under way, if any, has come; an answer that the state doesn't list leaves it
+abbrev pub settled : CacheState → Option Body → CacheState
+settled state None = state
+settled state (Some answer) = unwrap_or (accepting state answer) state

@@ -31,3 +31,17 @@ asking (FreshHead None c) kind.Clear = asks None body.Clear (Clearing c)
 asking (Below f b c) kind.Roll = asks (Some b) (body.Roll f) (Rolling f b c)
 asking (Telling r w false) kind.Setback = asks (Some r) (body.Setback w) (Telling r w true)
 asking _ _ = None
+
+-- The node to which the request of a line that waits went, as its state has it. That of a node that leaves may have gone to an
+-- entry that was before it.
+abbrev pub asked_node : ℕ → CacheState → Option ℕ
+asked_node home Asking = Some home
+asked_node home (Joining p sent) = Some p
+asked_node home (FreshJoining p sent c) = Some p
+asked_node home (Purging q c) = Some q
+asked_node home (Claiming f c) = Some home
+asked_node home (Clearing c) = Some home
+asked_node home (Returning c) = Some home
+asked_node home (Rolling f b c) = Some b
+asked_node home (Telling r w sent) = Some r
+asked_node home state = None

@@ -1,33 +1,38 @@
--- Which lines are members of a sharing list, and which entry is behind each. Lists along forward identifiers are those of
--- IEEE Std 1596-1992; when a line counts as a member is this project's profile.
-use Rattle.std.specs.Prelude.{ℕ, Option, Some, None}
-use Rattle.sci_packets.specs.declared.body.Body.{Body, TheVariants.{Mdata, Mgone, Purged, Wbok, Wbno, Busy, Fdata}}
-use Rattle.sci_cache.specs.State.{CacheState, Asking, Joining, FreshJoining, Head, FreshHead, Below, Purging, Claiming, Clearing, Returning, Rolling}
+-- Which lines are members of a sharing list, which entry is behind each, which of them may change the line or is about to,
+-- and which are fresh: all by the state that the line has once the answer that is under way has come. Lists along forward
+-- identifiers are those of IEEE Std 1596-1992; when a line counts as a member is this project's profile.
+use Rattle.std.specs.Prelude.{ℕ, Bool, true, false, Option, Some, None}
+use Rattle.sci_words.specs.declared.stamped.Stamped.{Stamped}
+use Rattle.sci_cache.specs.State.{CacheState, Joining, FreshJoining, Head, FreshHead, Below, Purging, Claiming, Clearing, Returning, Rolling}
 
--- the entry behind a member, or none at a list's end, by its state and the answer that is under way to it, if any;
--- None for a line that is no member
-abbrev pub link_of : CacheState → Option Body → Option (Option ℕ)
-link_of Asking (Some (Mdata c)) = Some None
-link_of Asking (Some (Mgone p)) = Some (Some p)
-link_of Asking (Some (Fdata p c)) = Some p
-link_of (Joining p sent) answer = Some (Some p)
-link_of (FreshJoining p sent c) answer = Some (Some p)
-link_of (Head f c) None = Some f
-link_of (FreshHead f c) None = Some f
-link_of (Below f b c) None = Some f
-link_of (Purging q c) None = Some (Some q)
-link_of (Purging q c) (Some Busy) = Some (Some q)
-link_of (Purging q c) (Some (Purged x)) = Some x
-link_of (Claiming f c) None = Some f
-link_of (Claiming f c) (Some Wbok) = Some f
-link_of (Claiming f c) (Some Wbno) = Some f
-link_of (Claiming f c) (Some Busy) = Some f
-link_of (Clearing c) None = Some None
-link_of (Clearing c) (Some Wbno) = Some None
-link_of (Clearing c) (Some Busy) = Some None
-link_of (Returning c) None = Some None
-link_of (Returning c) (Some Wbno) = Some None
-link_of (Returning c) (Some Busy) = Some None
-link_of (Rolling f b c) None = Some f
-link_of (Rolling f b c) (Some Busy) = Some f
-link_of _ _ = None
+-- the entry behind a member, or none at a list's end; None for a line that is no member
+abbrev pub link_of : CacheState → Option (Option ℕ)
+link_of (Joining p sent) = Some (Some p)
+link_of (FreshJoining p sent c) = Some (Some p)
+link_of (Head f c) = Some f
+link_of (FreshHead f c) = Some f
+link_of (Below f b c) = Some f
+link_of (Purging q c) = Some (Some q)
+link_of (Claiming f c) = Some f
+link_of (Clearing c) = Some None
+link_of (Returning c) = Some None
+link_of (Rolling f b c) = Some f
+link_of _ = None
+
+-- the contents of the one member that may change the line or is about to: the authority
+abbrev pub contents_held : CacheState → Option Stamped
+contents_held (Head f c) = Some c
+contents_held (FreshHead f c) = Some c
+contents_held (Purging q c) = Some c
+contents_held (Claiming f c) = Some c
+contents_held (Clearing c) = Some c
+contents_held (Returning c) = Some c
+contents_held _ = None
+
+-- whether a member is fresh: the home has the contents as well as it has
+abbrev pub is_fresh : CacheState → Bool
+is_fresh (FreshJoining p sent c) = true
+is_fresh (FreshHead f c) = true
+is_fresh (Claiming f c) = true
+is_fresh (Clearing c) = true
+is_fresh _ = false

@@ -1,12 +1,12 @@
 //! What a state says of a line's entry: between which nodes it stands, whether it awaits an answer, and its contents.
 
 use crate::held::Held;
-use sci_packets::{Body, NodeId};
+use sci_packets::NodeId;
 use sci_words::Stamped;
 
 impl Held {
     ghost use Rattle.std.specs.Prelude.{◌≡◌};
-    ghost use Rattle.sci_cache.specs.{Held.{state_of}, Member.{link_of}};
+    ghost use Rattle.sci_cache.specs.{Held.{state_of}, Member.{link_of, contents_held as contents_held_of}, Asking.{asked_node as asked_node_of}};
     ghost use Rattle.sci_cache.specs.State.{backward_of, contents_of, forward_of, is_sent as is_sent_of, waits as waits_of};
 
     /// Whether the line awaits an answer.
@@ -35,40 +35,41 @@ impl Held {
         }
     }
 
-    /// The entry behind a member of the line's list, or none at its end, by the state and the answer that is under way to
-    /// it. None for a line that is no member.
-    pub fn link(&self, answer: &Option<Body>) -> Option<Option<NodeId>>
-        ensures { result ≡ link_of (state_of self.now) answer.now }
+    /// The entry behind a member of the line's list, or none at its end. None for a line that is no member.
+    #[tactic(auto, unfolding(crate::specs::State::forward_of))]
+    pub fn link(&self) -> Option<Option<NodeId>>
+        ensures { result ≡ link_of (state_of self.now) }
     {
         match self {
-            Held::Asking(_) => match answer {
-                Some(Body::Mdata(_)) => Some(None),
-                Some(Body::Mgone { old_head }) => Some(Some(*old_head)),
-                Some(Body::Fdata { old_head, .. }) => Some(*old_head),
-                _ => None,
-            },
-            Held::Joining(state) => Some(Some(state.old_head)),
-            Held::FreshJoining(state) => Some(Some(state.old_head)),
-            Held::Head(state) if answer.is_none() => Some(state.forward),
-            Held::FreshHead(state) if answer.is_none() => Some(state.forward),
-            Held::Below(state) if answer.is_none() => Some(state.forward),
-            Held::Purging(state) => match answer {
-                None | Some(Body::Busy) => Some(Some(state.next)),
-                Some(Body::Purged { forward }) => Some(*forward),
-                _ => None,
-            },
-            Held::Claiming(state) => match answer {
-                None | Some(Body::Busy | Body::Wbok | Body::Wbno) => Some(state.forward),
-                _ => None,
-            },
-            Held::Clearing(_) | Held::Returning(_) => match answer {
-                None | Some(Body::Busy | Body::Wbno) => Some(None),
-                _ => None,
-            },
-            Held::Rolling(state) => match answer {
-                None | Some(Body::Busy) => Some(state.forward),
-                _ => None,
-            },
+            Held::Out(_) | Held::Asking(_) | Held::Telling(_) | Held::Fading(_) => None,
+            _ => Some(self.forward()),
+        }
+    }
+
+    /// The contents of the one member that may change the line or is about to: the authority. None for every other.
+    pub fn contents_held(&self) -> Option<Stamped>
+        ensures { result ≡ contents_held_of (state_of self.now) }
+    {
+        match self {
+            Held::FreshJoining(_) | Held::Below(_) | Held::Rolling(_) => None,
+            _ => self.contents(),
+        }
+    }
+
+    /// The node to which the request of a line that waits went, as its state has it. That of a node that leaves may have
+    /// gone to an entry that was before it. None if the state doesn't say.
+    pub fn asked_node(&self, home: u16) -> Option<u16>
+        ensures { result ≡ asked_node_of home (state_of self.now) }
+    {
+        match self {
+            Held::Asking(_) | Held::Claiming(_) | Held::Clearing(_) | Held::Returning(_) => Some(
+                home,
+            ),
+            Held::Joining(state) => Some(state.old_head.get()),
+            Held::FreshJoining(state) => Some(state.old_head.get()),
+            Held::Purging(state) => Some(state.next.get()),
+            Held::Rolling(state) => Some(state.backward.get()),
+            Held::Telling(state) => Some(state.behind.get()),
             _ => None,
         }
     }

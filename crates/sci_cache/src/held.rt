@@ -9,7 +9,7 @@ use sci_packets::{Body, NodeId};
 use sci_words::AskKind;
 
 /// The state of a cache for one line.
-#[derive(Debug, PartialEq, Eq, Drop)]
+#[derive(Clone, Copy, Debug, PartialEq, Eq)]
 pub enum Held {
     Out(OutState),
     Asking(Asking),
@@ -29,30 +29,8 @@ pub enum Held {
 
 impl Held {
     ghost use Rattle.std.specs.Prelude.{◌≡◌, IfSome, IsSome, IfOk, IsErr, Some, None, option_map};
-    ghost use Rattle.sci_cache.specs.{State.{is_out as is_out_of, state_name}, Asking.{asking}, Accepting.{accepting}};
+    ghost use Rattle.sci_cache.specs.{State.{is_out as is_out_of, state_name}, Asking.{asking}, Accepting.{accepting, settled as settled_of}};
     ghost use Rattle.sci_cache.specs.Held.{state_of};
-
-    /// The same state.
-    pub(crate) fn copy(&self) -> Held
-        ensures { result ≡ self.now }
-    {
-        match self {
-            Held::Out(state) => Held::Out(*state),
-            Held::Asking(state) => Held::Asking(*state),
-            Held::Joining(state) => Held::Joining(*state),
-            Held::FreshJoining(state) => Held::FreshJoining(*state),
-            Held::Head(state) => Held::Head(*state),
-            Held::FreshHead(state) => Held::FreshHead(*state),
-            Held::Below(state) => Held::Below(*state),
-            Held::Purging(state) => Held::Purging(*state),
-            Held::Claiming(state) => Held::Claiming(*state),
-            Held::Clearing(state) => Held::Clearing(*state),
-            Held::Returning(state) => Held::Returning(*state),
-            Held::Rolling(state) => Held::Rolling(*state),
-            Held::Telling(state) => Held::Telling(*state),
-            Held::Fading(state) => Held::Fading(*state),
-        }
-    }
 
     /// The name of the state.
     #[tactic(auto, unfolding(crate::specs::State::state_name))]
@@ -172,6 +150,17 @@ impl Held {
             }
             None => Err(NotAwaited),
         }
+    }
+
+    /// The state once the answer that is under way, if any, has come. An answer that the state doesn't list leaves it.
+    pub fn settled(&self, answer: &Option<Body>) -> Held
+        ensures { state_of result ≡ settled_of (state_of self.now) answer.now }
+    {
+        let mut next = *self;
+        if let Some(body) = answer {
+            let _ = next.accept(body);
+        }
+        next
     }
 }
 

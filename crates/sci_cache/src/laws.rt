@@ -3,55 +3,49 @@
 ghost use Rattle.std.specs.Prelude.{◌≡◌, ℕ, true, false, Option, Some, None, IfSome};
 ghost use Rattle.sci_words.specs.declared.{event.AskKind.{AskKind}, operation.Op.{Op}};
 ghost use Rattle.sci_packets.specs.declared.body.Body.{Body, TheVariants.{Busy, Purged, Rolled}};
-ghost use Rattle.sci_cache.specs.{State.{CacheState, waits}, Asking.{asking}, Accepting.{accepting}};
+ghost use Rattle.sci_cache.specs.{State.{CacheState, waits}, Asking.{asking}, Accepting.{accepting, settled}};
 ghost use Rattle.sci_cache.specs.Serving.{serving, serving_cread, serving_purge, serving_roll, serving_setback};
 ghost use Rattle.sci_cache.specs.{Performing.{performing}, Member.{link_of}};
 
 /// An ask changes no link.
 pub fn asking_keeps_link()
     ensures { (state : CacheState) (kind : AskKind) →
-        IfSome (asking state kind) (λ asked. link_of asked.next None ≡ link_of state None) }
-{}
-
-/// A line that takes an answer has the link that it had while the answer was under way.
-pub fn accepting_keeps_link()
-    ensures { (state : CacheState) (answer : Body) →
-        IfSome (accepting state answer) (λ next. link_of next None ≡ link_of state (Some answer)) }
+        IfSome (asking state kind) (λ asked. link_of asked.next ≡ link_of state) }
 {}
 
 /// An operation changes no link.
 pub fn performing_keeps_link()
     ensures { (state : CacheState) (op : Op) →
-        IfSome (performing state op) (λ done. link_of done.next None ≡ link_of state None) }
+        IfSome (performing state op) (λ done. link_of done.next ≡ link_of state) }
 {}
 
 /// A node that joins before an entry leaves the entry's link as it was.
 pub fn joining_keeps_link()
     ensures { (state : CacheState) (n : ℕ) (answer : Option Body) →
-        link_of (serving_cread state n).0 answer ≡ link_of state answer }
+        link_of (settled (serving_cread state n).0 answer) ≡ link_of (settled state answer) }
 {}
 
 /// A purged line tells its link, and is no member from then on.
 pub fn purging_ends_a_membership()
     ensures told { (state : CacheState) (link : Option ℕ) → (serving_purge state).1 ≡ Purged link →
-        link_of state None ≡ Some link }
+        link_of state ≡ Some link }
     ensures gone { (state : CacheState) (link : Option ℕ) (answer : Option Body) →
-        (serving_purge state).1 ≡ Purged link → link_of (serving_purge state).0 answer ≡ None }
+        (serving_purge state).1 ≡ Purged link → link_of (settled (serving_purge state).0 answer) ≡ None }
 {}
 
 /// An entry that lets node n leave linked to n, and links to the entry behind n from then on.
 pub fn rolling_passes_a_link_on()
     ensures before { (state : CacheState) (n : ℕ) (link : Option ℕ) →
-        (serving_roll state n link).1 ≡ Rolled → link_of state None ≡ Some (Some n) }
+        (serving_roll state n link).1 ≡ Rolled → link_of state ≡ Some (Some n) }
     ensures after { (state : CacheState) (n : ℕ) (link : Option ℕ) →
         (serving_roll state n link).1 ≡ Rolled →
-        link_of (serving_roll state n link).0 None ≡ Some link }
+        link_of (serving_roll state n link).0 ≡ Some link }
 {}
 
 /// What an entry learns of the one before it changes no link.
 pub fn telling_keeps_link()
     ensures { (state : CacheState) (n before : ℕ) (answer : Option Body) →
-        link_of (serving_setback state n before).0 answer ≡ link_of state answer }
+        link_of (settled (serving_setback state n before).0 answer) ≡ link_of (settled state answer) }
 {}
 
 /// An ask is made only if no answer is awaited, and awaits one.

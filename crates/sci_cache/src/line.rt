@@ -48,7 +48,7 @@ impl CachedLine {
         ensures { result ≡ self.now }
     {
         CachedLine {
-            held: self.held.copy(),
+            held: self.held,
             asks: self.asks,
         }
     }

@@ -1,6 +1,6 @@
 -- A text that is written piece by piece.
 use Rattle.std.proofs.Common.{◌≡◌, ℕ, List, [], ◌++◌, Bool, false, true, Option, refl, sym, ap, subst, ◌∙◌, append_assoc}
-use Rattle.std.proofs.{KnownBytes.{Appends-trans}, lemmas.List.{append-nil}}
+use Rattle.std.proofs.{KnownBytes.{Appends-nil, Appends-trans}, lemmas.List.{append-nil}}
 use Rattle.std.specs.{Prelude.{Result, Ok, Err, OnOk, IfErr}, Io.KnownBytes.{Appends}}
 use Rattle.sci_text.specs.declared.fault.{TextFault.{TextFault}, TextFaultKind.TheVariants.{Write}}
 use Rattle.sci_text.specs.Writing.{IsWriteFault}
@@ -52,3 +52,19 @@ wrote old mid new before failed waiting text (Err e) unfailed whole kind fault i
     let why : IsWriteFault Write mid new failed waiting = rw kind at fault in
     wrote_waiting old mid new failed waiting text (rw unfailed at is) (front_written mid new failed waiting why)
     (λ ok. let clash : false ≡ true = sym ok ∙ why.0 in absurd cc)
+
+-- nothing is printed yet, and nothing waits
+pub nothing_printed : (start : Option (List ℕ)) (failed : Bool) (waiting : List ℕ) → failed ≡ false → waiting ≡ [] → IsPrinted start start failed waiting []
+nothing_printed start failed waiting unfailed none = record {
+  front = record { written = []; rest = []; parts = refl; appended = Appends-nil start };
+  waits = λ ok. ([], Appends-nil start, sym none);
+}
+
+-- what is printed of a text is printed of the same text under another name
+pub as_text : {start new : Option (List ℕ)} {failed : Bool} {waiting text other : List ℕ} → text ≡ other → IsPrinted start new failed waiting text
+    → IsPrinted start new failed waiting other
+as_text {start} {new} {failed} {waiting} same printed = subst (IsPrinted start new failed waiting) same printed
+
+pub as_said : {start new : Option (List ℕ)} {failed : Bool} {waiting : List ℕ} (text : List ℕ) {piece said : List ℕ} → piece ≡ said
+    → IsPrinted start new failed waiting (text ++ piece) → IsPrinted start new failed waiting (text ++ said)
+as_said text same printed = as_text (ap (λ (l : List ℕ). text ++ l) same) printed

@@ -6,3 +6,5 @@ pub mod Writing
 pub mod VerdictLine
 pub mod PacketLine
 pub mod AskedLine
+pub mod Message
+pub mod Output

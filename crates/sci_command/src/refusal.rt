@@ -1,14 +1,78 @@
-//! Refusals of texts.
+//! Why an input is refused, and the line of a refusal.
 
 ghost use Rattle.std.specs.{Prelude.{◌≡◌, ◌≤◌, ◌++◌, ℕ, List, false, length, IfOk}, Io.KnownBytes.{Appends}};
 ghost use Rattle.sci_text.specs.Tap.{has_failed, is_called_again, tapped};
 ghost use Rattle.sci_command.specs.{Refusal.{Refuses, kind_word, line_refusal}, Writing.{WritesFront}};
 
+use crate::diagnosis::diagnosis;
 use crate::outcome::Outcome;
+use crate::text_lines::ReadAs;
 use crate::writing::write_answer;
 use sci_text::{Tap, TextFault, TextFaultKind, push_field, push_text};
 use std::alloc::{AllocError, Global};
 use std::io::Write;
+
+/// What is said of a fault besides its place.
+#[derive(Debug, Drop)]
+pub enum Note {
+    /// What kind of fault it is.
+    Kind,
+    /// These words, which take no memory.
+    Fixed(&'static str),
+    /// These words, which were made of the input.
+    Made(Vec<u8>),
+}
+
+/// Why an input is refused.
+#[derive(Debug, Drop)]
+pub struct Refusal {
+    /// The first fault of the input.
+    pub fault: TextFault,
+    /// What is said of it on standard error.
+    pub note: Note,
+}
+
+/// A fault of which nothing more is known.
+impl From<TextFault> for Refusal {
+    ghost use Rattle.std.specs.Prelude.{◌≡◌};
+
+    ghost from_gives = { λ fault refusal. refusal.fault ≡ fault };
+
+    fn from(fault: TextFault) -> Refusal {
+        Refusal {
+            fault,
+            note: Note::Kind,
+        }
+    }
+}
+
+/// An allocation that failed is a fault of the whole input.
+impl From<AllocError> for Refusal {
+    ghost use Rattle.std.specs.Prelude.{◌≡◌};
+    ghost use Rattle.sci_text.specs.declared.fault.TextFaultKind.TheVariants.{Memory};
+
+    ghost from_gives = { λ error refusal. (refusal.fault.line ≡ 0) × (refusal.fault.kind ≡ Memory) };
+
+    fn from(error: AllocError) -> Refusal {
+        Refusal::from(TextFault::from(error))
+    }
+}
+
+impl Refusal {
+    /// The refusal of a text for its first fault, which says what is wrong with the line, if there is memory for that.
+    pub fn of_text(alloc: Global, read_as: ReadAs, text: &[u8], fault: TextFault) -> Refusal
+        ensures { result.fault ≡ fault }
+    {
+        if fault.line == 0 {
+            return Refusal::from(fault);
+        }
+        let note = match diagnosis(alloc, read_as, text, fault) {
+            Ok(words) => Note::Made(words),
+            Err(_) => Note::Kind,
+        };
+        Refusal { fault, note }
+    }
+}
 
 /// The word for what is wrong with a text.
 #[tactic(auto, unfolding(crate::specs::Refusal::kind_word))]

@@ -4,10 +4,10 @@ use Rattle.std.specs.Prelude.{◌≡◌, ℕ, Bool, true, false, not, ◌&&◌, 
 use Rattle.std.specs.{Prelude.{None, is_some}, List.{range_with_len}}
 use Rattle.sci_words.specs.declared.event.Event.{Event}
 use Rattle.sci_packets.specs.declared.body.Body.{Body, TheVariants.{Mread, Fread}}
-use Rattle.sci_cache.specs.Cache.{Letter}
+use Rattle.sci_cache.specs.{Cache.{Letter}, Member.{contents_held}}
 use Rattle.sci_core.specs.{declared.lane.LaneKind.TheVariants.{Requests}, Size.{Size}}
 use Rattle.sci_core.specs.{Core.{Core, along, lane_of, opening, step, stepping}, Shape.{IsAuthority}}
-use Rattle.sci_core.specs.{Sharing.{authority_contents, sharer_of}, SharingList.{IsSharingList}}
+use Rattle.sci_core.specs.{Sharing.{settled_at}, SharingList.{IsSharingList}}
 use Rattle.sci_words.specs.declared.event.Event.TheVariants as event
 
 -- The nodes that wait on a line, the next authority first: the members of its list before the authority,
@@ -43,7 +43,7 @@ entered core events line = along (λ at e. entrants at e line) core events
 -- ---- who is served
 
 abbrev pub is_authority : Core → ℕ → ℕ → Bool
-is_authority core line n = is_some (authority_contents (sharer_of core line n))
+is_authority core line n = is_some (contents_held (settled_at core line n))
 
 -- the nodes that are the authority in the second state, and were not in the first
 abbrev pub successors : Core → Core → ℕ → List ℕ

@@ -13,7 +13,6 @@ pub mod Sharing
 pub mod Tidy
 pub mod Alternates
 pub mod SharingList
-pub mod Fresh
 pub mod Done
 pub mod Shape
 pub mod InRange

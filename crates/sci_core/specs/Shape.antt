@@ -6,16 +6,15 @@ use Rattle.sci_words.specs.declared.stamped.Stamped.{Stamped}
 use Rattle.sci_packets.specs.declared.body.Body.TheVariants.{Wback, Fdata}
 use Rattle.sci_home.specs.{declared.state.HomeState.{HomeState}, Serving.{current_of}}
 use Rattle.sci_history.specs.Seen.{IsAmong}
-use Rattle.sci_cache.specs.State.{CacheState, Asking, Joining, FreshJoining, Below, Rolling, contents_of}
-use Rattle.sci_core.specs.{Core.{Core}, Sharing.{packets_of, sharer_of, home_at, authority_contents, last_at}}
-use Rattle.sci_core.specs.{Fresh.{is_fresh}, SharingList.{IsSharingList}}
+use Rattle.sci_cache.specs.State.{CacheState, Joining, FreshJoining, Below, Rolling, contents_of}
+use Rattle.sci_cache.specs.{Cache.{line_of}, Member.{contents_held, is_fresh}}
+use Rattle.sci_core.specs.{Core.{Core, node_at}, Sharing.{packets_of, answer_to, settled_at, home_at, last_at}, SharingList.{IsSharingList}}
 use Rattle.sci_home.specs.declared.state.HomeState.TheVariants as at
 
 -- ---- members
 
--- a member that comes: it isn't yet the head, or doesn't know yet
+-- a member that comes: it isn't yet the head
 abbrev pub comes : CacheState → Bool
-comes Asking = true
 comes (Joining p sent) = true
 comes (FreshJoining p sent c) = true
 comes _ = false
@@ -27,17 +26,17 @@ follows (Rolling f b c) = true
 follows _ = false
 
 abbrev pub state_at : Core → ℕ → ℕ → CacheState
-state_at core line n = (sharer_of core line n).state
+state_at core line n = (line_of (node_at core n).cache line).state
 
 abbrev pub is_fresh_at : Core → ℕ → ℕ → Bool
-is_fresh_at core line n = is_fresh (sharer_of core line n).state (sharer_of core line n).answer
+is_fresh_at core line n = is_fresh (settled_at core line n)
 
 abbrev pub AreFresh : Core → ℕ → List ℕ → Type 0
 AreFresh core line nodes = AllByRecursion (λ n. is_fresh_at core line n ≡ true) nodes
 
 -- the node that may change the line, or is about to
 abbrev pub IsAuthority : Core → ℕ → ℕ → Type 0
-IsAuthority core line n = IsSome (authority_contents (sharer_of core line n))
+IsAuthority core line n = IsSome (contents_held (settled_at core line n))
 
 -- the nodes of a list: those before the authority, the authority, and those after it
 pub record IsSplit (core : Core) (line : ℕ) (nodes before : List ℕ) (a : ℕ) (after : List ℕ) : Type 0 where
@@ -62,17 +61,17 @@ HasAuthorities core line nodes (at.Gone p) = HasOneAuthority core line nodes
 
 -- before the authority stand only members that come, and after it only members that follow
 pub record StandInOrder (core : Core) (line : ℕ) (nodes : List ℕ) : Type 0 where
-  pub coming : (before after : List ℕ) (a : ℕ) → IsSplit core line nodes before a after → AllByRecursion (λ n. comes (state_at core line n) ≡ true) before
-  pub following : (before after : List ℕ) (a : ℕ) → IsSplit core line nodes before a after → AllByRecursion (λ n. follows (state_at core line n) ≡ true) after
+  pub coming : (before after : List ℕ) (a : ℕ) → IsSplit core line nodes before a after → AllByRecursion (λ n. comes (settled_at core line n) ≡ true) before
+  pub following : (before after : List ℕ) (a : ℕ) → IsSplit core line nodes before a after → AllByRecursion (λ n. follows (settled_at core line n) ≡ true) after
 
 -- One stamped line: the contents of the authority, of every node after it, of a home that has them, of every Fdata under
 -- way, of every node that joins with contents, and of a Wback under way.
 pub record HaveContents (core : Core) (line : ℕ) (nodes : List ℕ) (c : Stamped) : Type 0 where
-  pub authority : (n : ℕ) → IfSome (authority_contents (sharer_of core line n)) (λ d. d ≡ c)
+  pub authority : (n : ℕ) → IfSome (contents_held (settled_at core line n)) (λ d. d ≡ c)
   pub following : (before after : List ℕ) (a : ℕ) → IsSplit core line nodes before a after
-      → AllByRecursion (λ n. contents_of (state_at core line n) ≡ Some c) after
+      → AllByRecursion (λ n. contents_of (settled_at core line n) ≡ Some c) after
   pub home : IfSome (current_of (home_at core line)) (λ d. d ≡ c)
-  pub told : (n : ℕ) (p : Option ℕ) (d : Stamped) → (sharer_of core line n).answer ≡ Some (Fdata p d) → d ≡ c
+  pub told : (n : ℕ) (p : Option ℕ) (d : Stamped) → answer_to core n line ≡ Some (Fdata p d) → d ≡ c
   pub joining : (n p : ℕ) (sent : Bool) (d : Stamped) → state_at core line n ≡ FreshJoining p sent d → d ≡ c
   pub back : (n : ℕ) → n < core.size.nodes → AllByRecursion (λ letter. (d : Stamped) → letter.body ≡ Wback d → d ≡ c) (packets_of core n line)
 

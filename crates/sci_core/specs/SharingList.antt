@@ -3,7 +3,7 @@ use Rattle.std.specs.Prelude.{◌≡◌, ℕ, List, [], ◌∷◌, Option, Some,
 use Rattle.sci_history.specs.Seen.{IsAmong}
 use Rattle.sci_cache.specs.Member.{link_of}
 use Rattle.sci_home.specs.Serving.{head_of}
-use Rattle.sci_core.specs.{Core.{Core}, Sharing.{sharer_of, home_at}}
+use Rattle.sci_core.specs.{Core.{Core}, Sharing.{settled_at, home_at}}
 
 -- ---- lists along links
 
@@ -27,7 +27,7 @@ pub record IsListOf (link : ℕ → Option (Option ℕ)) (first : Option ℕ) (n
 
 -- the entry behind node n, or none at the list's end; None if n is no member
 abbrev pub link_at : Core → ℕ → ℕ → Option (Option ℕ)
-link_at core line n = link_of (sharer_of core line n).state (sharer_of core line n).answer
+link_at core line n = link_of (settled_at core line n)
 
 -- the list of a line: its members are exactly these nodes, each once, from the home's head along their links; the last
 -- one's link is none

@@ -2,28 +2,12 @@
 
 ghost use Rattle.std.specs.{Prelude.{◌≡◌, ◌&&◌, map}, List.{list_any}};
 ghost use Rattle.sci_packets.specs.Table.{is_request};
-ghost use Rattle.sci_cache.specs.{Held.{state_of}, Cache.{letter_of}};
-ghost use Rattle.sci_core.specs.Sharing.{asked_node as asked_node_of, asks_about};
+ghost use Rattle.sci_cache.specs.Cache.{letter_of};
+ghost use Rattle.sci_core.specs.Sharing.{asks_about};
 
 use crate::lane::{Lane, LaneKind};
 use crate::state::State;
-use sci_cache::Held;
 use sci_packets::{Body, Packet};
-
-/// The node to which the request of a line that waits went, as its state has it. None if the state doesn't say.
-fn asked_node(held: &Held, home: u16) -> Option<u16>
-    ensures { result ≡ asked_node_of home (state_of held.now) }
-{
-    match held {
-        Held::Asking(_) | Held::Claiming(_) | Held::Clearing(_) | Held::Returning(_) => Some(home),
-        Held::Joining(state) => Some(state.old_head.get()),
-        Held::FreshJoining(state) => Some(state.old_head.get()),
-        Held::Purging(state) => Some(state.next.get()),
-        Held::Rolling(state) => Some(state.backward.get()),
-        Held::Telling(state) => Some(state.behind.get()),
-        _ => None,
-    }
-}
 
 /// Whether a packet is the request of an ask of node `n` about a line.
 fn asks(packet: &Packet, n: u8, line: u8) -> bool
@@ -76,7 +60,7 @@ impl State {
             return Some(None);
         }
         let home = u16::from(line % self.nodes());
-        let asked = asked_node(held, home)?;
+        let asked = held.asked_node(home)?;
         if asked >= u16::from(self.nodes()) {
             return None;
         }

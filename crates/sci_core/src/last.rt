@@ -1,9 +1,9 @@
 //! The last contents of each line, wherever they are.
 
-ghost use Rattle.std.specs.Prelude.{◌≡◌, ◌&&◌, not, ◌<◌, ◌≤◌, ◌%◌, filter, map, option_copied, option_to_list, Some, None};
+ghost use Rattle.std.specs.Prelude.{◌≡◌, ◌&&◌, not, ◌<◌, ◌≤◌, ◌%◌, filter, map, option_to_list, Some, None};
 ghost use Rattle.sci_packets.specs.Table.{is_request};
-ghost use Rattle.sci_cache.specs.{Held.{state_of}, Cache.{letter_of}};
-ghost use Rattle.sci_core.specs.Sharing.{is_about, answer_in, contents_held as contents_held_of};
+ghost use Rattle.sci_cache.specs.Cache.{letter_of};
+ghost use Rattle.sci_core.specs.Sharing.{is_about, answer_in};
 
 use crate::lane::{Lane, LaneKind};
 use crate::node::Node;
@@ -30,48 +30,6 @@ fn answer_among(packets: &[Packet], n: u8, line: u8) -> Option<Body>
         }
     }
     None
-}
-
-/// The contents of a line in a node that may change it or is about to, by the node's state and the answer that is
-/// under way to it.
-pub(crate) fn contents_held<'a>(held: &'a Held, answer: &'a Option<Body>) -> Option<&'a Stamped>
-    ensures { option_copied result ≡ contents_held_of (state_of held.now) answer.now }
-{
-    match held {
-        Held::Head(state) if answer.is_none() => Some(&state.contents),
-        Held::FreshHead(state) if answer.is_none() => Some(&state.contents),
-        Held::Purging(state) => match answer {
-            None | Some(Body::Busy | Body::Purged { .. }) => Some(&state.contents),
-            _ => None,
-        },
-        Held::Claiming(state) => match answer {
-            None | Some(Body::Busy | Body::Wbok | Body::Wbno) => Some(&state.contents),
-            _ => None,
-        },
-        Held::Clearing(state) => match answer {
-            None | Some(Body::Busy | Body::Wbno) => Some(&state.contents),
-            _ => None,
-        },
-        Held::Returning(state) => match answer {
-            None | Some(Body::Busy | Body::Wbno) => Some(&state.contents),
-            _ => None,
-        },
-        Held::Asking(_) => match answer {
-            Some(Body::Mdata(contents)) => Some(contents),
-            Some(
-                Body::Fdata {
-                    old_head: None,
-                    contents,
-                },
-            ) => Some(contents),
-            _ => None,
-        },
-        Held::Joining(_) | Held::FreshJoining(_) => match answer {
-            Some(Body::Cdata(contents)) => Some(contents),
-            _ => None,
-        },
-        _ => None,
-    }
 }
 
 /// The answer that waits at a node, if it is for node `n` and about a line.
@@ -104,9 +62,10 @@ impl State {
     ghost use Rattle.std.specs.Prelude.{◌≡◌, ◌<◌, ◌++◌, ℕ, None, IfSome, filter, option_to_list};
     ghost use Rattle.sci_core.specs.{declared.lane.LaneKind.TheVariants.{Answers}, Core.{lane_of, node_at}};
     ghost use Rattle.sci_core.specs.{WellFormed.{IsWellFormed}, Shape.{IsAuthority}};
-    ghost use Rattle.sci_core.specs.Sharing.{answer_in, answer_to as answer_to_of, authority_contents, is_about, sharer_of, home_at};
+    ghost use Rattle.sci_core.specs.Sharing.{answer_in, answer_to as answer_to_of, is_about, settled_at, home_at};
     ghost use Rattle.sci_core.specs.{Sharing.{last_at as last_at_of}, Tidy.{IsTidy}};
     ghost use Rattle.sci_home.specs.Serving.{current_of};
+    ghost use Rattle.sci_cache.specs.Member.{contents_held};
 
     /// The answer that is under way from one node to node `n` about a line: one that waits there, or one in the lane.
     pub(crate) fn answer_from(&self, from: u8, n: u8, line: u8) -> Option<Body>
@@ -158,7 +117,7 @@ impl State {
         requires tidy { IsTidy self.now }
         requires n { n < self.now.size.nodes }
         requires line { line < self.now.size.lines }
-        ensures { result ≡ authority_contents (sharer_of self.now line n) }
+        ensures { result ≡ contents_held (settled_at self.now line n) }
     {
         match self.node(n).held(line) {
             // These have no contents of their own, or await no answer: no packet is looked at.
@@ -167,7 +126,7 @@ impl State {
             Held::FreshHead(state) => Some(state.contents),
             held => {
                 let answer = self.answer_to(n, line);
-                contents_held(held, &answer).copied()
+                held.settled(&answer).contents_held()
             }
         }
     }

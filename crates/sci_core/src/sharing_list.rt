@@ -1,9 +1,8 @@
 //! What the machine has of a line: its sharing list, from the home's head along the links of its members, the one of them
 //! that may change the line, and the line's last contents.
 
-ghost use Rattle.std.specs.Prelude.{◌≡◌, None, IfSome, IsSome, option_copied};
+ghost use Rattle.std.specs.Prelude.{◌≡◌, None, IfSome, IsSome};
 
-use crate::last::contents_held;
 use crate::state::State;
 use sci_packets::NodeId;
 use sci_words::Stamped;
@@ -35,24 +34,22 @@ struct Members {
 }
 
 /// Notes the authority: a node that has the contents.
-fn note(found: &mut Option<Authority>, node: u8, contents: Option<&Stamped>)
-    ensures here { IfSome (option_copied contents.entry)
+fn note(found: &mut Option<Authority>, node: u8, contents: Option<Stamped>)
+    ensures here { IfSome contents
         (λ c. IfSome found.new (λ at. (at.node ≡ node) × (at.contents ≡ c)) × IsSome found.new) }
-    ensures before { option_copied contents.entry ≡ None → found.new ≡ found.old }
+    ensures before { contents ≡ None → found.new ≡ found.old }
 {
     if let Some(contents) = contents {
-        *found = Some(Authority {
-            node,
-            contents: *contents,
-        });
+        *found = Some(Authority { node, contents });
     }
 }
 
 impl State {
     ghost use Rattle.std.specs.Prelude.{◌≡◌, ◌<◌, ℕ, All, IfOk, IfSome, IsSome, Some, None};
     ghost use Rattle.sci_home.specs.Serving.{head_of};
+    ghost use Rattle.sci_cache.specs.Member.{contents_held};
     ghost use Rattle.sci_core.specs.Shape.{HasShape, IsAuthority};
-    ghost use Rattle.sci_core.specs.Sharing.{authority_contents, home_at, last_at, sharer_of};
+    ghost use Rattle.sci_core.specs.Sharing.{home_at, last_at, settled_at};
     ghost use Rattle.sci_core.specs.{SharingList.{IsSharingList, link_at}, Tidy.{IsTidy}, WellFormed.{IsWellFormed}};
 
     /// The head of a line's list, or None if the home has the line alone. Requires that there is such a
@@ -77,15 +74,14 @@ impl State {
         requires line { line < self.now.size.lines }
         requires member { link_at self.now line n ≡ None → ⊥ }
         ensures behind { link_at self.now line n ≡ Some result }
-        ensures here { IfSome (authority_contents (sharer_of self.now line n))
+        ensures here { IfSome (contents_held (settled_at self.now line n))
             (λ c. IfSome found.new (λ at. (at.node ≡ n) × (at.contents ≡ c)) × IsSome found.new) }
-        ensures before { authority_contents (sharer_of self.now line n) ≡ None
+        ensures before { contents_held (settled_at self.now line n) ≡ None
             → found.new ≡ found.old }
     {
-        let held = self.node(n).held(line);
-        let answer = self.answer_to(n, line);
-        note(found, n, contents_held(held, &answer));
-        match held.link(&answer) {
+        let settled = self.node(n).held(line).settled(&self.answer_to(n, line));
+        note(found, n, settled.contents_held());
+        match settled.link() {
             Some(behind) => behind,
             None => unreachable!(),
         }
@@ -101,9 +97,9 @@ impl State {
         ensures here { IfOk result (λ members.
             IfSome members.authority (λ at. at.node < self.now.size.nodes)) }
         ensures found { IfOk result (λ members. IfSome members.authority
-            (λ at. authority_contents (sharer_of self.now line at.node) ≡ Some at.contents)) }
+            (λ at. contents_held (settled_at self.now line at.node) ≡ Some at.contents)) }
         ensures none { IfOk result (λ members. members.authority ≡ None →
-            All (λ n. authority_contents (sharer_of self.now line n) ≡ None) members.nodes.items) }
+            All (λ n. contents_held (settled_at self.now line n) ≡ None) members.nodes.items) }
     {
         let mut nodes = Vec::with_capacity(alloc, usize::from(self.nodes()))?;
         let mut authority = None;

@@ -1,5 +1,6 @@
 -- What a driver does in a round, step by step.
-use Rattle.std.proofs.Common.{◌≡◌, ◌+◌, ℕ, Bool, true, false, List, [], ◌∷◌, ◌++◌, map, Some, if◌then◌else◌, add-one, refl, sym, ap, subst, inl, inr}
+use Rattle.std.proofs.Common.{◌≡◌, ◌+◌, ◌<◌, ℕ, Bool, true, false, List, [], ◌∷◌, ◌++◌, length, map, Some, if◌then◌else◌, add-one, refl, sym, ap, subst}
+use Rattle.std.proofs.Common.{inl, inr}
 use Rattle.std.proofs.lemmas.List.Elements.{Contains-append_left}
 use Rattle.std.specs.{Prelude.{◌↔◌, Result, Ok, IfOk}, List.{Contains}, declared.alloc.AllocError.{AllocError}}
 use Rattle.sci_words.specs.declared.operation.Op.{Op}
@@ -10,7 +11,7 @@ use Rattle.sci_drive.specs.{declared.driver.Round.{Round}, Calls.{AllDone, Call,
 use Rattle.sci_drive.specs.Driving.{DriverOf, IsAnswered}
 use Rattle.sci_drive.specs.Resting.{AllAreDone, AreBehind, IsAsked, NotAsked, NotYet, in_a_row, is_rest_due, rests_if, row_after}
 use Rattle.sci_drive.specs.Rounds.{AllSubmitted, ArePerformed, GoRounds, GoesRound, IsHeldBack, IsTried, LineIsTaken, NoRoom, NoneNow, NotAllowed, OneMore}
-use Rattle.sci_drive.specs.Rounds.{Refused, Submits, next_op, performed, turn_of, with_submitted}
+use Rattle.sci_drive.specs.Rounds.{most_pending, Refused, Submits, next_op, performed, turn_of, with_submitted}
 use Rattle.sci_drive.proofs.GateCalls.{calls_on, no_calls, one_call, submit_call}
 
 -- ---- submitted
@@ -24,7 +25,7 @@ held_on driver node calls more (Refused op next refused) = Refused op next refus
 
 submits_on : (old new : DriverOf) (before after : NodeOf) (calls more : List Call) (deeds : List Deed) → Submits old new before after calls deeds
     → Submits old new before after (calls ++ more) deeds
-submits_on old new before after calls more deeds (OneMore op next is issued done) = OneMore op next is issued done
+submits_on old new before after calls more deeds (OneMore op room next is issued done) = OneMore op room next is issued done
 submits_on old new before after calls more deeds (NoneNow held is same done) = NoneNow (held_on old before calls more held) is same done
 
 -- ---- performed
@@ -61,11 +62,12 @@ module _ {G : Type 0} (hears : G → List Call → G → Type 0) (hears_nothing 
   )
 
   -- the next operation is submitted, as it was allowed
-  pub submits_one : (g h : G) (a : DriverOf) (x y : NodeOf) (op : Op) → hears g (MayIssue a.next true ∷ []) h → next_op a ≡ Some op → IsIssued x y op
+  pub submits_one : (g h : G) (a : DriverOf) (x y : NodeOf) (op : Op) → hears g (MayIssue a.next true ∷ []) h
+      → length a.pending < most_pending a.issuing → next_op a ≡ Some op → IsIssued x y op
       → (heard : IsHeard hears g h a (with_submitted a op) x y) × Submits a (with_submitted a op) x y heard.calls (Issues op ∷ [])
-  submits_one g h a x y op is next issued = (
+  submits_one g h a x y op is room next issued = (
     record { calls = MayIssue a.next true ∷ []; heard = is; are = submit_call a (with_submitted a op) x y refl refl issued.log },
-    OneMore op next refl issued refl,
+    OneMore op room next refl issued refl,
   )
 
 -- ---- a round

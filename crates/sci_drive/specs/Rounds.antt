@@ -1,5 +1,5 @@
 -- What a driver does in a round: it submits and performs, and its worker takes a turn.
-use Rattle.std.specs.Prelude.{◌≡◌, ◌≤◌, ◌↔◌, ◌+◌, ℕ, zero, suc, Bool, true, false, List, [], ◌∷◌, ◌++◌, length, map, slice_get}
+use Rattle.std.specs.Prelude.{◌≡◌, ◌<◌, ◌≤◌, ◌↔◌, ◌+◌, ℕ, zero, suc, Bool, true, false, List, [], ◌∷◌, ◌++◌, length, map, slice_get}
 use Rattle.std.specs.Prelude.{Option, Some, None, IsSome, Result, Ok, Err, IfOk}
 use Rattle.std.specs.{List.{Contains}, declared.alloc.AllocError.{AllocError}}
 use Rattle.sci_words.specs.declared.operation.Op.{Op}
@@ -33,10 +33,10 @@ pub data IsHeldBack (driver : DriverOf) (node : NodeOf) (calls : List Call) : Ty
   NotAllowed : Contains calls (MayIssue driver.next false) → IsHeldBack driver node calls
   Refused : (op : Op) → next_op driver ≡ Some op → IsSome (submit_fault node op) → IsHeldBack driver node calls
 
--- the next operation is submitted, or nothing can be; and these deeds of the worker have done it
+-- the next operation is submitted while fewer are pending than may be, or nothing can be; and these deeds of the worker have done it
 pub data Submits (old new : DriverOf) (before after : NodeOf) (calls : List Call) (deeds : List Deed) : Type 0 where
-  OneMore : (op : Op) → next_op old ≡ Some op → new ≡ with_submitted old op → IsIssued before after op → deeds ≡ Issues op ∷ []
-      → Submits old new before after calls deeds
+  OneMore : (op : Op) → length old.pending < most_pending old.issuing → next_op old ≡ Some op → new ≡ with_submitted old op
+      → IsIssued before after op → deeds ≡ Issues op ∷ [] → Submits old new before after calls deeds
   NoneNow : IsHeldBack old before calls → new ≡ old → after ≡ before → deeds ≡ [] → Submits old new before after calls deeds
 
 -- ---- performed

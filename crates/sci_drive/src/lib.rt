@@ -11,4 +11,4 @@ pub use driver::{Driver, Issuing, Round};
 pub use gate::Gate;
 pub use laws::new_drivers_may_drive;
 pub use open_gate::OpenGate;
-pub use running::{Ran, drive, drive_issuing};
+pub use running::{Ran, drive};

@@ -75,40 +75,8 @@ pub fn drive<W: Worker, G: Gate>(
         (opening_driver script.now Ahead) driver (W.node worker.old) (W.node worker.new)) }
     ensures stays { W.stays worker.old worker.new }
 {
-    drive_issuing(worker, script, Issuing::Ahead, gate, turns)
-}
-
-/// Drives a worker as `drive` does, but with operations submitted ahead or in order. All that `drive` promises holds of
-/// it too. Issued in order, the log has the first operations of the script in their order, however it ends.
-pub fn drive_issuing<W: Worker, G: Gate>(
-    worker: &mut W,
-    script: &[Op],
-    issuing: Issuing,
-    gate: &mut G,
-    turns: u32,
-) -> Result<Ran, AllocError>
-    requires fresh { HasSubmittedNothing (W.node worker.old) }
-    requires few { length script.now ≤ MAX_OPERATIONS }
-    ensures ordered { issuing ≡ InOrder → IsInProgramOrder (W.node worker.new).log }
-    ensures front { issuing ≡ InOrder → IsFrontOf script.now (W.node worker.new).log }
-    ensures named { IsLogOf script.now (W.node worker.new).log }
-    ensures whole { IfOk result (λ ran.
-        ran.finished ≡ true → IsWholeLogOf script.now (W.node worker.new).log) }
-    ensures turns { IfOk result (λ ran. ran.turns ≤ turns) }
-    ensures all { IfOk result (λ ran. ran.finished ≡ false → ran.turns ≡ turns) }
-    ensures calls { (calls : List Call) × G.hears gate.old calls gate.new
-        × AreCallsOf (W.node worker.new) calls
-        × IfOk result (λ ran. (ran.finished ≡ true →
-        (times_done calls ≡ 1) × EndWithAllDone calls)
-        × RestsInTime ran.turns calls) }
-    ensures rounds { IfOk result (λ ran. (restless : ℕ) × (deeds : List Deed) × (driver : DriverOf)
-        × W.does worker.old deeds worker.new
-        × GoRounds G.hears ran.turns ran.finished restless deeds gate.old gate.new
-        (opening_driver script.now issuing) driver (W.node worker.old) (W.node worker.new)) }
-    ensures stays { W.stays worker.old worker.new }
-{
     new_drivers_may_drive();
-    let mut driver = Driver::new(script, issuing);
+    let mut driver = Driver::new(script, Issuing::Ahead);
     driver.go_on(worker, gate, turns)
 }
 

@@ -3,13 +3,13 @@ use Rattle.std.proofs.Common.{◌≡◌, ◌<◌, ℕ, Bool, true, List, [], ◌
 use Rattle.sci_words.specs.declared.stamped.Stamped.{Stamped}
 use Rattle.sci_packets.specs.declared.body.Body.{Body}
 use Rattle.sci_home.specs.declared.state.HomeState.{HomeState}
-use Rattle.sci_cache.specs.{State.{CacheState, Purging}, Member.{link_of}}
+use Rattle.sci_cache.specs.{State.{CacheState, Purging}, Accepting.{settled}, Member.{link_of}}
 use Rattle.sci_history.specs.Seen.{IsAmong}
 use Rattle.sci_core.specs.{Core.{Core}, Reached.{IsReached}, Shape.{follows, state_at}, SharingList.{LinkedFrom}}
 use Rattle.sci_core.specs.Sharing.{home_at, answer_to as told}
 use Rattle.sci_core.proofs.{ReachedLaws.{any_shaped}, WellFormed.WellFormedSteps.{reachable}}
 use Rattle.sci_core.proofs.Shape.{Chains.{next_of}, Shapes.{IsShaped}, ShapeSteps.{view_of}, Standings.{Coming, Following, Leading, role_of}}
-use Rattle.sci_core.proofs.Shape.{Led.{AreFollowing, IsLed, following_in, fresh_in, role_in, roles_differ}, Views.{View, link_in}}
+use Rattle.sci_core.proofs.Shape.{Led.{AreFollowing, IsLed, following_in, fresh_in, role_in, roles_differ}, Views.{View, link_in, settled_in}}
 use Rattle.sci_home.specs.declared.state.HomeState.TheVariants as at
 
 -- ---- behind the leader stands one that follows
@@ -44,7 +44,7 @@ shaped_next view (at.Fresh p d) c ns x y is leads link =
     led_next view c true (Some p) ns x y is.list.linked is.led.1 (is.list.all x (Some y) link) leads link
 shaped_next view (at.Gone p) c ns x y is leads link = grind (arith, led_next)
 
-follower_state : (state : CacheState) (answer : Option Body) → role_of state answer ≡ Some Following → follows state ≡ true
+follower_state : (state : CacheState) (answer : Option Body) → role_of (settled state answer) ≡ Some Following → follows state ≡ true
 follower_state state answer is = grind arith
 
 pub purge_finds : (core : Core) (line k q : ℕ) (c : Stamped) → IsReached core → line < core.size.lines → state_at core line k ≡ Purging q c
@@ -52,6 +52,7 @@ pub purge_finds : (core : Core) (line k q : ℕ) (c : Stamped) → IsReached cor
 purge_finds core line k q c reached inside purges none =
     let shaped = any_shaped core (reachable core reached) line inside in
     let view = view_of core line in
-    let leads : role_in view k ≡ Some Leading = ap (λ (s : CacheState). role_of s (told core k line)) purges ∙ ap (role_of (Purging q c)) none in
-    let link : link_in view k ≡ Some (Some q) = ap (λ (s : CacheState). link_of s (told core k line)) purges ∙ ap (link_of (Purging q c)) none in
+    let here : settled_in view k ≡ Purging q c = ap (settled (state_at core line k)) none ∙ purges in
+    let leads : role_in view k ≡ Some Leading = ap role_of here in
+    let link : link_in view k ≡ Some (Some q) = ap link_of here in
     follower_state (state_at core line q) (told core q line) (shaped_next view (home_at core line) shaped.0 shaped.1.0 k q shaped.1.1 leads link)

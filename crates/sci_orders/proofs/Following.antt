@@ -10,7 +10,7 @@ use Rattle.sci_words.specs.{Operation.{has_words}, declared.{event.Event.{Event}
 use Rattle.sci_history.specs.declared.entry.Entry.{Entry}
 use Rattle.sci_core.{proofs.Basics.Options.{found, same_some}, specs.{Size.{Size}, declared.pending.Pending.{Pending}}}
 use Rattle.sci_orders.proofs.{Changes.{rest_of, waiting_below, waiting_is}, Issuing.{Goes, IsFree, issue_goes, waiting_after}}
-use Rattle.sci_orders.proofs.{Orders.{after-append, after_same, allowed_more, done_more, few-append, issues-append}, Performing.{perform_goes}}
+use Rattle.sci_orders.proofs.{ScriptOrders.{after-append, after_same, allowed_more, done_more, few-append, issues-append}, Performing.{perform_goes}}
 use Rattle.sci_orders.proofs.{Places.{any_found, none_any}, Stands.{Stands, none_first, opening_stands, pending_of}, Turns.{both_tests, no_test, one_test}}
 use Rattle.sci_orders.specs.Orders.{AreFew, IsScriptOf, issues_at}
 use Rattle.sci_orders.specs.Plain.{AreAllowed, Plain, can_issue, opening_plain, plain_done, plain_made, plain_run, plain_step, plain_stepping, port_at}

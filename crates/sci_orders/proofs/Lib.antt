@@ -10,7 +10,7 @@ pub mod Ports
 pub mod Stands
 pub mod Issuing
 pub mod Performing
-pub mod Orders
+pub mod ScriptOrders
 pub mod Following
 pub mod Reaching
 pub mod Progress

@@ -7,14 +7,14 @@ use Rattle.std.specs.Prelude.{IsSome, is_some, option_map}
 use Rattle.sci_words.specs.declared.{event.{AskKind.{AskKind}, Event.{Event}}, operation.Op.{Op}, stamped.Stamped.{Stamped}}
 use Rattle.sci_home.specs.{Serving.{home_serving}, declared.state.HomeState.{HomeState}}
 use Rattle.sci_cache.specs.{Asking.{Asked, asking}, Cache.{Letter, line_of, letter_asking}, Line.{LineState, untouched}}
-use Rattle.sci_cache.specs.State.{CacheState, Asking, Head, Out, Returning}
+use Rattle.sci_cache.specs.{Member.{is_fresh}, State.{CacheState, Asking, Head, Out, Returning}}
 use Rattle.sci_core.proofs.Basics.{Lists.{at_place_set}, Options.{found, of_some, same_some}}
 use Rattle.sci_core.proofs.Settling.{Emptying.{home_round, if_same, known, next_lowers}, Leading.{made_append}}
 use Rattle.sci_core.proofs.Settling.{PendingRuns.{Read, can_perform, can_read, has_read, performs_one_read}, Resting.{head_first, home_gone, quiet}}
 use Rattle.sci_core.proofs.Settling.{RoundSteps.{round_drained}, Rounds.{Rounds, rounds}, Shifts.{AskedAs, asked_as}}
 use Rattle.sci_core.proofs.{Shape.ShapeRuns.{each_mapped, replicated}, Step.{Nodes.{some_below}, Sides.{steps_by_sides}}}
 use Rattle.sci_core.proofs.WellFormed.WellFormedSteps.{reached_stepping, reached_well, is_size, reachable}
-use Rattle.sci_core.specs.{Core.{Core, node_at, run_from, step, stepping, with_node, opening}, Draining.{IsDrained}, Fresh.{is_fresh}}
+use Rattle.sci_core.specs.{Core.{Core, node_at, run_from, step, stepping, with_node, opening}, Draining.{IsDrained}}
 use Rattle.sci_core.specs.{Node.{NodeOf, no_node, node_asking, pending_on, may_issue, node_issued, opening_node}, Reached.{IsReached}}
 use Rattle.sci_core.specs.{Rounds.{AreOut, Parts, is_head, joins_before, parting}, Settling.{AreMade}, Shape.{state_at}, Sharing.{home_at}}
 use Rattle.sci_core.specs.Size.{Size, IsMachineSize}
@@ -184,7 +184,7 @@ write_one core n line held lt inside =
     let head : is_head (state_at core line n) ≡ true = ap is_head held.here in
     let none = none_joins core n line held in
     let first = head_first core line n held.reached q head (λ m below. none m) in
-    let gone = home_gone core line n q first (ap (λ (s : CacheState). is_fresh s None) held.here) in
+    let gone = home_gone core line n q first (ap is_fresh held.here) in
     let asks = (next_lowers core n line kind.Wback held.reached held.drained lt inside
     (Parts head (λ m below. none m) (sym (ap parting held.here)))).asks in
     let asked = ap (λ (s : CacheState). asking s kind.Wback) held.here in

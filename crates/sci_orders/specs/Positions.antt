@@ -5,7 +5,7 @@ use Rattle.std.specs.Prelude.{map, replicate, slice_get, slice_index_or, slice_s
 use Rattle.sci_words.specs.Operation.{effect}
 use Rattle.sci_words.specs.declared.limits.TheConstants.{WORDS_PER_LINE}
 use Rattle.sci_words.specs.declared.operation.{Act.TheVariants.{Load}, Op.{Op}, Reply.{Reply, TheVariants.{Stored, Got}}}
-use Rattle.sci_orders.specs.declared.standing.{Answer.{Answer}, Standing.{Standing}}
+use Rattle.sci_orders.specs.declared.{orders.TheConstants.{MAX_STANDINGS}, standing.{Answer.{Answer}, Standing.{Standing}}}
 use Rattle.sci_orders.specs.declared.standing.Answer.TheVariants as answer
 
 -- ---- the operations of a script
@@ -132,6 +132,19 @@ pub record AreReachedIn (lines : ℕ) (operations : Operations) (window count : 
   pub each : All (IsReachedIn lines operations window count) positions
   pub all : (p : Position) → IsReachedIn lines operations window count p → Contains positions p
 
+-- no position stands twice
+abbrev pub AreOnce : List Position → Type 0
+AreOnce [] = Unit {0}
+AreOnce (p ∷ ps) = (Contains ps p → ⊥) × AreOnce ps
+
+-- some number of steps leads to more positions than are looked at
+pub record AreTooMany (lines : ℕ) (operations : Operations) (window : ℕ) : Type 0 where
+  pub count : ℕ
+  pub positions : List Position
+  pub reached : AreReachedIn lines operations window count positions
+  pub once : AreOnce positions
+  pub many : MAX_STANDINGS < length positions
+
 -- The position is one of this script: each node has an answer for some of its operations, from the first on, and each
 -- operation has its word.
 pub record Fits (operations : Operations) (p : Position) : Type 0 where
@@ -143,3 +156,10 @@ pub record Fits (operations : Operations) (p : Position) : Type 0 where
 pub record AreStepsFrom (operations : Operations) (window : ℕ) (old new : List Position) : Type 0 where
   pub each : All (λ p. (q : Position) × Contains old q × Contains (steps_from operations window q) p) new
   pub all : (p q : Position) → Contains old q → Contains (steps_from operations window q) p → Contains new p
+
+-- one step leads from these positions to more than are looked at
+pub record AreTooManyFrom (operations : Operations) (window : ℕ) (level : List Position) : Type 0 where
+  pub positions : List Position
+  pub steps : AreStepsFrom operations window level positions
+  pub once : AreOnce positions
+  pub many : MAX_STANDINGS < length positions

@@ -4,6 +4,7 @@ ghost use Rattle.std.specs.Prelude.{◌≡◌, ◌<◌, ◌≤◌, ◌*◌, ◌+
 ghost use Rattle.sci_words.specs.declared.limits.TheConstants.{WORDS_PER_LINE};
 ghost use Rattle.sci_orders.specs.Positions.{answer_of as answer_of_reply, is_waiting as is_waiting_answer, may_issue_next};
 
+use crate::orders::Orders;
 use sci_words::{Op, Reply, WORDS_PER_LINE, Word, effect};
 use std::alloc::{AllocError, Global};
 
@@ -142,22 +143,21 @@ impl Standing {
     pub fn step(
         &self,
         alloc: Global,
-        operations: &[Vec<Op>],
-        window: usize,
+        orders: &Orders,
         n: usize,
         i: usize,
     ) -> Result<Option<Standing>, AllocError>
-        requires fits { Fits (lists_of operations.now) (position_of self.now) }
-        requires node { n < length operations.now }
-        requires own { i < length (own_of (lists_of operations.now) n) }
+        requires fits { Fits (lists_of orders.now.operations.now) (position_of self.now) }
+        requires node { n < length orders.now.operations.now }
+        requires own { i < length (own_of (lists_of orders.now.operations.now) n) }
         ensures { IfOk result (λ next. option_map position_of next
-            ≡ step_at (lists_of operations.now) window (position_of self.now) n i) }
+            ≡ step_at (lists_of orders.now.operations.now) orders.now.window (position_of self.now) n i) }
     {
-        let own = &operations[n];
+        let own = &orders.operations[n];
         let answers = &self.answers[n];
         match answers.get(i) {
             None => {
-                if may_issue(own, answers, window, i) {
+                if may_issue(own, answers, orders.window, i) {
                     Ok(Some(self.with_issued(alloc, n)?))
                 } else {
                     Ok(None)

@@ -153,7 +153,7 @@ module _ (histogram : Histogram) (seen : List Sighting) (rows : List Row) (count
       let there : get outcome_cmp histogram.tallies e.0 ≡ Some e.1 =
       btree_map_get_place outcome_total histogram.tallies k e.0 e.1 ordered (slice_get-get_or es k d lt) in
       let says = tally_is (has_outcome e.0) seen e.1 (sym (counted.each e.0) ∙ there) in
-      record { runs = says.0; first = says.1; in_order = says.2 }
+      record { runs = says.0; first = says.1; in_order = says.2; some = says.3 }
 
   each : All (IsRowOf seen) rows
   each = All-permutation (IsRowOf seen) (map row_of es) rows moved (All-map (IsRowOf seen) row_of es entry_row)

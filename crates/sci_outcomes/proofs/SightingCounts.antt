@@ -99,17 +99,18 @@ tally_same p seen x is =
 -- ---- what a tally says
 
 tally_says : (p : Sighting → Bool) (seen : List Sighting) (n : ℕ) (t : Tally) → count_by p seen ≡ n → tally_at p seen n ≡ Some t
-    → (t.runs ≡ n) × (t.first ≡ position_or_len p seen) × (t.in_order ≡ list_any (λ s. p s && s.in_order) seen)
+    → (t.runs ≡ n) × (t.first ≡ position_or_len p seen) × (t.in_order ≡ list_any (λ s. p s && s.in_order) seen) × (1 ≤ t.runs)
 unfolding tally_at
 tally_says p seen zero t none is = let none_some : None ≡ Some t = is in absurd cc
 tally_says p seen (suc n) t some is =
     let same : Some t ≡ Some record { runs = suc n; first = position_or_len p seen; in_order = list_any (λ s. p s && s.in_order) seen } =
     sym is ∙ some_at p seen n in
     let inside = λ (o : Option Tally). unwrap_or o t in
-    (ap (λ (o : Option Tally). (inside o).runs) same, ap (λ (o : Option Tally). (inside o).first) same, ap (λ (o : Option Tally). (inside o).in_order) same)
+    let runs : t.runs ≡ suc n = ap (λ (o : Option Tally). (inside o).runs) same in
+    (runs, ap (λ (o : Option Tally). (inside o).first) same, ap (λ (o : Option Tally). (inside o).in_order) same, omega (arith, runs))
 
 pub tally_is : (p : Sighting → Bool) (seen : List Sighting) (t : Tally) → tally_by p seen ≡ Some t
-    → (t.runs ≡ count_by p seen) × (t.first ≡ position_or_len p seen) × (t.in_order ≡ list_any (λ s. p s && s.in_order) seen)
+    → (t.runs ≡ count_by p seen) × (t.first ≡ position_or_len p seen) × (t.in_order ≡ list_any (λ s. p s && s.in_order) seen) × (1 ≤ t.runs)
 unfolding tally_at
 tally_is p seen t is = tally_says p seen (count_by p seen) t refl is
 

@@ -14,7 +14,7 @@ use Rattle.sci_outcomes.specs.Trials.{IsDrawnSighting, IsUnfinished}
 -- what is seen of logs and last contents is seen of the ones behind the schedule
 pub drawn_sighting : (script : ScriptValue) (issuing : Issuing) (seed rounds : ℕ) (done : Bool) (schedule : ScheduleValue) (places : List Place)
     (logs : List (List Entry)) (last : List Stamped) (sighting : Sighting) → done ≡ true → IsRunOf script issuing done schedule
-    → IsPlayed script issuing (Some seed) rounds schedule
+    → IsPlayed script issuing (Some seed) rounds done schedule
     → places ≡ written_places script.lines script.operations → logs ≡ logs_behind script schedule → last ≡ last_behind script schedule → Lawful logs last
     → IsSequentiallyConsistent logs last → IsSeen places logs last sighting → IsDrawnSighting script issuing seed sighting
 drawn_sighting script issuing seed rounds done schedule places logs last sighting is_done run played places_are logs_are last_are lawful consistent
@@ -22,7 +22,7 @@ drawn_sighting script issuing seed rounds done schedule places logs last sightin
       schedule = schedule;
       run = subst (λ (d : Bool). IsRunOf script issuing d schedule) is_done run;
       rounds = rounds;
-      played = played;
+      played = subst (λ (d : Bool). IsPlayed script issuing (Some seed) rounds d schedule) is_done played;
       lawful = subst (λ (l : List Stamped). Lawful (logs_behind script schedule) l) last_are
           (subst (λ (ls : List (List Entry)). Lawful ls last) logs_are lawful);
       consistent = subst (λ (l : List Stamped). IsSequentiallyConsistent (logs_behind script schedule) l) last_are
@@ -34,12 +34,13 @@ drawn_sighting script issuing seed rounds done schedule places logs last sightin
 
 -- a run that isn't done has taken all its turns
 pub unfinished : (script : ScriptValue) (issuing : Issuing) (seed rounds : ℕ) (done : Bool) (schedule : ScheduleValue) → done ≡ false
-    → IsRunOf script issuing done schedule → IsPlayed script issuing (Some seed) rounds schedule → (done ≡ false → rounds ≡ MAX_TURNS)
+    → IsRunOf script issuing done schedule → IsPlayed script issuing (Some seed) rounds done schedule → (done ≡ false → rounds ≡ MAX_TURNS)
     → IsUnfinished script issuing seed
 unfinished script issuing seed rounds done schedule isnt run played all = record {
   schedule = schedule;
   run = subst (λ (d : Bool). IsRunOf script issuing d schedule) isnt run;
-  played = subst (λ (k : ℕ). IsPlayed script issuing (Some seed) k schedule) (all isnt) played;
+  played = subst (λ (k : ℕ). IsPlayed script issuing (Some seed) k false schedule) (all isnt)
+      (subst (λ (d : Bool). IsPlayed script issuing (Some seed) rounds d schedule) isnt played);
 }
 
 -- one more of them

@@ -1,5 +1,5 @@
 -- How often each outcome was seen.
-use Rattle.std.specs.Prelude.{◌≡◌, ℕ, ◌+◌, ◌==◌, ◌&&◌, ◌||◌, Bool, List, length, map, sum, All, count_by, Option, Some, None, if◌then◌else◌}
+use Rattle.std.specs.Prelude.{◌≡◌, ◌≤◌, ℕ, ◌+◌, ◌==◌, ◌&&◌, ◌||◌, Bool, List, length, map, sum, All, count_by, Option, Some, None, if◌then◌else◌}
 use Rattle.std.specs.{List.{list_any, position_or_len, sum_by, Sorted.{IsStrictlySortedBy}}, BTreeMap.{get, values}}
 use Rattle.std.specs.{Cmp.Lexicographic.{slice_cmp}, Ordering.{is_eq, nat_cmp, ordering_then}}
 use Rattle.std.specs.declared.cmp.Ordering.{Ordering}
@@ -26,11 +26,12 @@ has_outcome_in_order outcome sighting = has_outcome outcome sighting && sighting
 
 -- ---- rows
 
--- A row of what was seen: how many runs had its outcome, the number of the first of them, and whether one of them was in order.
+-- A row of what was seen: how many runs had its outcome, of which there is one at least, the number of the first of them, and whether one of them was in order.
 pub record IsRowOf (seen : List Sighting) (row : Row) : Type 0 where
   pub runs : row.runs ≡ count_by (has_outcome row.outcome) seen
   pub first : row.first ≡ position_or_len (has_outcome row.outcome) seen
   pub in_order : row.in_order ≡ list_any (has_outcome_in_order row.outcome) seen
+  pub some : 1 ≤ row.runs
 
 -- the most frequent first, and those that are as frequent by outcome
 abbrev pub row_cmp : Row → Row → Ordering

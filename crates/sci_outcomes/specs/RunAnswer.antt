@@ -29,7 +29,7 @@ pub record IsRunText (request : RunRequest) (done : Bool) (input text : List ℕ
   pub schedule : ScheduleValue
   pub run : IsRunOf script request.issuing done schedule
   pub turns : ℕ
-  pub played : IsPlayed script request.issuing request.seed turns schedule
+  pub played : IsPlayed script request.issuing request.seed turns done schedule
   pub few : turns ≤ unwrap_or request.turns MAX_TURNS
   pub all : done ≡ false → turns ≡ unwrap_or request.turns MAX_TURNS
   pub written : text ≡ schedule_text schedule

@@ -22,7 +22,7 @@ pub record IsDrawnSighting (script : ScriptValue) (issuing : Issuing) (seed : �
   pub schedule : ScheduleValue
   pub run : IsRunOf script issuing true schedule
   pub rounds : ℕ
-  pub played : IsPlayed script issuing (Some seed) rounds schedule
+  pub played : IsPlayed script issuing (Some seed) rounds true schedule
   pub lawful : Lawful (logs_behind script schedule) (last_behind script schedule)
   pub consistent : IsSequentiallyConsistent (logs_behind script schedule) (last_behind script schedule)
   pub seen : IsSeen (written_places script.lines script.operations) (logs_behind script schedule) (last_behind script schedule) sighting
@@ -44,11 +44,11 @@ abbrev pub turns_of_run : Turns → ℕ → Turns
 turns_of_run (Drawn seed) number = Drawn ((seed + number) % 2 ^ 64)
 turns_of_run Threads number = Threads
 
--- a run in the order that this seed draws takes 1,000,000,000 turns
+-- a run in the order that this seed draws takes 1,000,000,000 turns, and some operation has no entry then
 pub record IsUnfinished (script : ScriptValue) (issuing : Issuing) (seed : ℕ) : Type 0 where
   pub schedule : ScheduleValue
   pub run : IsRunOf script issuing false schedule
-  pub played : IsPlayed script issuing (Some seed) MAX_TURNS schedule
+  pub played : IsPlayed script issuing (Some seed) MAX_TURNS false schedule
 
 -- A run is given up: in an order that is drawn it makes as many events as a schedule can have, or takes all its turns. Nothing
 -- is known of a run by threads.

@@ -8,11 +8,11 @@ ghost use Rattle.sci_outcomes.specs.{OutcomesAnswer.{replied_text, row_text, see
 
 use crate::histogram::Row;
 use crate::outcome::{Held, Replied};
-use crate::run_report::fault_of;
+use crate::run_report::refusal_of;
 use crate::trials::{Trials, Turns, outcomes};
-use sci_command::{Answer, Answered, Outcome, push_labelled};
+use sci_command::{Answer, Answered, Outcome, push_labelled, read_script};
 use sci_drive::Issuing;
-use sci_text::{Tap, push_number, push_text, read_script};
+use sci_text::{Tap, push_number, push_text};
 use std::alloc::{AllocError, Global};
 use std::io::Read;
 use std::thread::Threads;
@@ -145,6 +145,10 @@ fn push_total(out: &mut Vec<u8>, outcomes: u64, runs: u64) -> Result<(), AllocEr
     push_text(out, "\n")
 }
 
+/// What is said of a script with a run that is given up.
+const GIVEN_UP: &str =
+    "a run has more than 500,000 events, or isn't done after 1,000,000,000 turns";
+
 /// The text of the rows of runs.
 fn outcomes_text(alloc: Global, trials: Trials, rows: &[Row]) -> Result<Vec<u8>, AllocError>
     ensures { IfOk result (λ text. text.items ≡ outcomes_text_of trials rows.now) }
@@ -183,7 +187,7 @@ pub fn outcomes_of<T: Threads + Sync, R: Read>(
     };
     let rows = match outcomes(rt, alloc, &script, trials) {
         Ok(rows) => rows,
-        Err(fault) => return Err(fault_of(fault)),
+        Err(fault) => return Err(refusal_of(fault, GIVEN_UP)),
     };
     let text = outcomes_text(alloc, trials, &rows)?;
     Ok(Answer {

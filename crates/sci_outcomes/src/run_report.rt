@@ -5,10 +5,10 @@ ghost use Rattle.sci_text.specs.{declared.fault.TextFaultKind.TheVariants.{Memor
 ghost use Rattle.sci_command.specs.{Answer.{HasAnswered}, declared.outcome.Outcome.{Outcome}};
 ghost use Rattle.sci_outcomes.specs.RunAnswer.{IsLongRun, IsRunAnswer, IsRunRefusal};
 
-use sci_command::{Answer, Answered, Outcome};
+use sci_command::{Answer, Answered, Note, Outcome, Refusal, read_script};
 use sci_drive::Issuing;
 use sci_runs::{Plan, RunFault, run_script};
-use sci_text::{Tap, TextFault, TextFaultKind, read_script, schedule_text};
+use sci_text::{Tap, TextFault, TextFaultKind, schedule_text};
 use sci_words::MAX_TURNS;
 use std::alloc::Global;
 use std::io::Read;
@@ -36,17 +36,23 @@ fn outcome_of(done: bool) -> Outcome
     }
 }
 
-/// Why a run is refused, as a fault of the whole input.
-pub(crate) fn fault_of(fault: RunFault) -> TextFault
-    ensures line { result.line ≡ 0 }
-    ensures kind { (result.kind ≡ TooMany) ⊎ (result.kind ≡ Memory) }
-    ensures many { result.kind ≡ TooMany → fault ≡ RunFault.TooMany }
+/// What is said of a run that has too many events.
+const TOO_LONG: &str = "the run has more than 500,000 events";
+
+/// Why a run is refused, as a fault of the whole input; and what is said of one that is too long.
+pub(crate) fn refusal_of(fault: RunFault, too_long: &'static str) -> Refusal
+    ensures line { result.fault.line ≡ 0 }
+    ensures kind { (result.fault.kind ≡ TooMany) ⊎ (result.fault.kind ≡ Memory) }
+    ensures many { result.fault.kind ≡ TooMany → fault ≡ RunFault.TooMany }
 {
-    let kind = match fault {
-        RunFault::Memory => TextFaultKind::Memory,
-        RunFault::TooMany => TextFaultKind::TooMany,
+    let (kind, note) = match fault {
+        RunFault::Memory => (TextFaultKind::Memory, Note::Kind),
+        RunFault::TooMany => (TextFaultKind::TooMany, Note::Fixed(too_long)),
     };
-    TextFault { line: 0, kind }
+    Refusal {
+        fault: TextFault { line: 0, kind },
+        note,
+    }
 }
 
 /// Reads a script to its end, runs it by the policy on a new machine whose nodes take one turn after another, and gives the
@@ -67,7 +73,7 @@ pub fn run<R: Read>(alloc: Global, request: RunRequest, reader: &mut Tap<R>) -> 
     };
     let run = match run_script(alloc, &script, plan) {
         Ok(run) => run,
-        Err(fault) => return Err(fault_of(fault)),
+        Err(fault) => return Err(refusal_of(fault, TOO_LONG)),
     };
     let text = schedule_text(alloc, &run.schedule)?;
     Ok(Answer {

@@ -238,13 +238,6 @@ impl Policy {
             _ => 0,
         }
     }
-
-    /// The node whose request was served or refused last, or None if none was.
-    pub fn last_served(&self) -> Option<u8>
-        ensures { result ≡ self.now.served }
-    {
-        self.served
-    }
 }
 
 /// The line of a Cread, or None if the request is another, or of a line that isn't there.

@@ -3,9 +3,9 @@
 ghost use Rattle.std.specs.Prelude.{◌≡◌, true};
 ghost use Rattle.sci_orders.specs.Positions.{AreWithin, lists_of};
 
-use sci_orders::last_standings;
+use sci_orders::{Orders, OrdersFault};
 use sci_words::{Act, Op, WORDS_PER_LINE};
-use std::alloc::Global;
+use std::alloc::{AllocError, Global};
 use std::test::*;
 
 /// A node's operations, each by its line and what it does at the first word there.
@@ -42,7 +42,15 @@ fn outcomes(alloc: Global, programs: &[Program], window: usize) -> Result<usize,
     if !are_on_two_lines(&operations) {
         return Err(Fail::from("a line that isn't there"));
     }
-    Ok(last_standings(alloc, 2, &operations, window)?.len())
+    let orders = Orders {
+        operations: &operations,
+        window,
+    };
+    match orders.last_standings(alloc, 2) {
+        Ok(level) => Ok(level.len()),
+        Err(OrdersFault::Memory) => Err(Fail::from(AllocError)),
+        Err(OrdersFault::TooMany) => Err(Fail::from("too many")),
+    }
 }
 
 #[test]

@@ -14,14 +14,14 @@ use Rattle.sci_text.specs.ScheduleFault.{BeginsSchedule, EventFault, IsScheduleF
 use Rattle.sci_text.specs.Script.{ScriptValue, IsScript, script_text}
 use Rattle.sci_text.specs.ScriptFault.{BeginsScript, IsScriptFault, MachineFault, OperationFault}
 use Rattle.sci_words.specs.declared.{limits.TheConstants.{MAX_OPERATIONS}, stamped.Stamped.{Stamped}}
-use Rattle.sci_command.specs.{Answer.{IsAnswered}, declared.{answer.Answer.{Answer}, outcome.Outcome.{Outcome}}}
-use Rattle.sci_command.specs.{declared.outcome.Outcome.TheVariants.{Done, Unlawful, Refused}, Refusal.{Refuses}}
+use Rattle.sci_command.specs.{Answer.{IsAnswered}, declared.{answer.Answer.{Answer}, outcome.Outcome.TheVariants.{Done}, refusal.Refusal.{Refusal}}}
+use Rattle.sci_command.specs.declared.text_lines.TextKind.{TextKind, TheVariants.{Script, Schedule, Log}}
+use Rattle.sci_command.proofs.Answers.{answer_refused}
 use Rattle.sci_reports.specs.declared.checking.{Reading.{Reading, TheVariants.{Size, Fault}}, TextSize.{TextSize}}
-use Rattle.sci_reports.specs.declared.text_lines.TextKind.{TextKind, TheVariants.{Script, Schedule, Log}}
 use Rattle.sci_reports.specs.declared.checking.Readings.{Readings}
-use Rattle.sci_reports.specs.CheckAnswer.{IsCheckAnswer, IsCheckFault, IsKnown, IsLastFault, IsLogText, IsNoLater, IsRefusedAt, IsSaid, IsScheduleText}
+use Rattle.sci_reports.specs.CheckAnswer.{IsCheckAnswer, IsKnown, IsLastFault, IsLogText, IsNoLater, IsSaid, IsScheduleText}
 use Rattle.sci_reports.specs.CheckAnswer.{IsScriptText, kind_name, log_size, schedule_size, script_size, size_text}
-use Rattle.sci_reports.specs.TextReadings.{AreReadings, IsChecked, IsReading, known_text, said_of}
+use Rattle.sci_reports.specs.TextReadings.{AreReadings, IsReading, known_text, said_of}
 
 -- ---- readings
 
@@ -132,12 +132,6 @@ first_of_line : {V : Type 0} (opening : List ℕ → TextFaultKind → Type 0) (
 first_of_line opening begins goes_on count fault input line kind f g (inl h) = f h.1
 first_of_line opening begins goes_on count fault input line kind f g (inr h) = g h.before h.rest h.wrong
 
-first_has_line : {V : Type 0} (opening : List ℕ → TextFaultKind → Type 0) (begins : List ℕ → V → List ℕ → Type 0) (goes_on : V → List ℕ → Type 0) (count : V
-    → ℕ) (fault : V → List ℕ → TextFaultKind → Type 0) (input : List ℕ) (line : ℕ) (kind : TextFaultKind)
-    → IsFirstFault opening begins goes_on count fault input line kind → 0 < line
-first_has_line opening begins goes_on count fault input line kind (inl h) = omega (arith, h.0)
-first_has_line opening begins goes_on count fault input line kind (inr h) = omega (arith, h.place)
-
 -- no line has a fault of such a kind
 abbrev IsOfNoLine : TextFaultKind → Type 0
 IsOfNoLine kind = ((input : List ℕ) → MachineFault input kind → ⊥) × ((input : List ℕ) → SizeFault input kind → ⊥)
@@ -153,44 +147,26 @@ of_line input line kind h last = elim last.reached [
   ]
 ]
 
-has_line : (input : List ℕ) (line : ℕ) (kind : TextFaultKind) → IsLastFault input line kind → 0 < line
-has_line input line kind last = grind (arith, first_has_line)
+refusal_by : (input : List ℕ) (line : ℕ) (kind : TextFaultKind) → IsLastFault input line kind → IsRefusalOf IsLastFault kind input line
+refusal_by input line Read last = absurd (of_line input line Read ((λ i f. f), (λ i f. f.1), (λ s r f. f), (λ s r f. f), (λ s r f. f)) last)
+refusal_by input line Write last = absurd (of_line input line Write ((λ i f. f), (λ i f. f.1), (λ s r f. f), (λ s r f. f), (λ s r f. f)) last)
+refusal_by input line Memory last = absurd (of_line input line Memory ((λ i f. f), (λ i f. f.1), (λ s r f. f), (λ s r f. f), (λ s r f. f)) last)
+refusal_by input line Syntax last = last
+refusal_by input line _ last = last
 
-told : (known : Option (List ℕ)) (failed : Bool) (bytes : List ℕ) (line : ℕ) (kind : TextFaultKind) → failed ≡ false → AreRead known bytes
-    → IsLastFault bytes line kind → IsTold IsLastFault kind known failed line
-told known failed bytes line Syntax ok read last = (ok, record { bytes = bytes; read = read; first = last })
-told known failed bytes line Range ok read last = (ok, record { bytes = bytes; read = read; first = last })
-told known failed bytes line TooMany ok read last = (ok, inr (record { bytes = bytes; read = read; first = last }))
-told known failed bytes line Read ok read last = absurd (of_line bytes line Read ((λ i f. f), (λ i f. f.1), (λ s r f. f), (λ s r f. f), (λ s r f. f)) last)
-told known failed bytes line Write ok read last = absurd (of_line bytes line Write ((λ i f. f), (λ i f. f.1), (λ s r f. f), (λ s r f. f), (λ s r f. f)) last)
-told known failed bytes line Memory ok read last = absurd (of_line bytes line Memory ((λ i f. f), (λ i f. f.1), (λ s r f. f), (λ s r f. f), (λ s r f. f)) last)
+-- the last of the three faults is one that the bytes are refused for
+pub last_refusal : (input : List ℕ) (fault other : TextFault) → other ≡ fault → IsLastFault input fault.line fault.kind → IsRefusal IsLastFault input other
+last_refusal input fault other is last = subst (IsRefusal IsLastFault input) (sym is) (refusal_by input fault.line fault.kind last)
 
 -- what was made of the bytes is the answer to the input
-checked_answer : (known : Option (List ℕ)) (failed : Bool) (bytes text : List ℕ) (outcome : Outcome) → failed ≡ false → AreRead known bytes
-    → IsChecked bytes text outcome → IsCheckAnswer known failed text outcome
-checked_answer known failed bytes text Done ok read h = (ok, (bytes, read, h))
-checked_answer known failed bytes text Unlawful ok read h = absurd h
-checked_answer known failed bytes text Refused ok read h = record {
-  line = h.0;
-  kind = h.1;
-  note = h.2;
-  is_told = told known failed bytes h.0 h.1 ok read h.3;
-  written = h.4;
-  bare = λ e. (let some = has_line bytes h.0 h.1 h.3 in absurd (omega (arith, some, e)));
-}
-
-pub checked_answers : (known : Option (List ℕ)) (failed : Bool) (bytes slice : List ℕ) (result : Result Answer TextFault)
-    → failed ≡ false → AreRead known bytes → slice ≡ bytes → IfOk result (λ x. IsChecked slice x.text.items x.outcome)
-    → IfErr result (λ fault. (fault.line ≡ 0) × (fault.kind ≡ Memory)) → IsAnswered IsCheckAnswer IsCheckFault known failed result
-checked_answers known failed bytes slice (Ok x) ok read same checked memory =
-    checked_answer known failed bytes x.text.items x.outcome ok read (subst (λ (i : List ℕ). IsChecked i x.text.items x.outcome) same checked)
-checked_answers known failed bytes slice (Err fault) ok read same checked memory = (memory.0, rw memory.1 (ok, memory.0))
-
--- a refusal of the whole input
-pub refused_whole : (known : Option (List ℕ)) (failed : Bool) (fault : TextFault) (text : List ℕ) → IsCheckFault fault.kind known failed fault.line
-    → Refuses fault text → IsRefusedAt known failed text
-refused_whole known failed fault text why (inl is) = grind (arith, append-nil)
-refused_whole known failed fault text why (inr m) = absurd (omega (arith, why.0, m.0))
+pub checked_answers : (known : Option (List ℕ)) (failed : Bool) (bytes slice : List ℕ) (result : Result Answer Refusal)
+    → failed ≡ false → AreRead known bytes → slice ≡ bytes → IfOk result (λ x. (x.outcome ≡ Done) × IsKnown slice x.text.items)
+    → IfErr result (λ refusal. IsRefusal IsLastFault slice refusal.fault) → IsAnswered IsCheckAnswer (IsTold IsLastFault) known failed result
+checked_answers known failed bytes slice (Ok x) ok read same checked refused =
+    (λ is. (let apart = checked.0 in cc), rw checked.0 (ok, (bytes, read, subst (λ (i : List ℕ). IsKnown i x.text.items) same checked.1)))
+checked_answers known failed bytes slice (Err refusal) ok read same checked refused =
+    let result : Result Answer Refusal = Err refusal in
+    answer_refused IsCheckAnswer IsLastFault known failed bytes result ok read refl (subst (λ (i : List ℕ). IsRefusal IsLastFault i refusal.fault) same refused)
 
 -- ---- counting entries
 

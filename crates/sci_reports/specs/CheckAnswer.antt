@@ -6,9 +6,8 @@ use Rattle.sci_text.specs.declared.fault.TextFaultKind.{TextFaultKind, TheVarian
 use Rattle.sci_text.specs.{FirstFault.{IsTold}, LogFault.{IsLogFault}, LogValue.{IsLogs, entry_count}, Number.{number}}
 use Rattle.sci_text.specs.{Schedule.{ScheduleValue, IsSchedule, schedule_text}, ScheduleFault.{IsScheduleFault}}
 use Rattle.sci_text.specs.{Script.{ScriptValue, IsScript, script_text}, ScriptFault.{IsScriptFault}}
-use Rattle.sci_command.specs.declared.outcome.Outcome.{Outcome, TheVariants.{Done, Unlawful, Refused}}
-use Rattle.sci_command.specs.{Input.{IsReadAs}, Refusal.{line_refusal}}
-use Rattle.sci_reports.specs.declared.text_lines.TextKind.{TextKind, TheVariants.{Script, Schedule, Log}}
+use Rattle.sci_command.specs.declared.{outcome.Outcome.{Outcome}, text_lines.TextKind.{TextKind, TheVariants.{Script, Schedule, Log}}}
+use Rattle.sci_command.specs.Answer.{IsDoneBy}
 use Rattle.sci_reports.specs.declared.checking.TextSize.{TextSize}
 
 -- ---- what a text can be
@@ -103,21 +102,6 @@ pub record IsLastFault (input : List ℕ) (line : ℕ) (kind : TextFaultKind) : 
   pub log : IsFaultyBy (IsLogFault input) line kind
   pub reached : IsScriptFault input line kind ⊎ IsScheduleFault input line kind ⊎ IsLogFault input line kind
 
--- the refusal of the fault, and what is said of it in words unless it is one of the whole input
-pub record IsRefusedAt (input : Option (List ℕ)) (failed : Bool) (text : List ℕ) : Type 0 where
-  pub line : ℕ
-  pub kind : TextFaultKind
-  pub note : List ℕ
-  pub is_told : IsTold IsLastFault kind input failed line
-  pub written : text ≡ line_refusal line kind ++ note
-  pub bare : line ≡ 0 → note ≡ []
-
--- why a text isn't checked: it couldn't be read, or memory was refused
-abbrev pub IsCheckFault : TextFaultKind → Option (List ℕ) → Bool → ℕ → Type 0
-IsCheckFault kind input failed line = (line ≡ 0) × IsTold IsLastFault kind input failed line
-
 -- what `check` writes, and how it ends, for the bytes of a reader, which has failed or not
 abbrev pub IsCheckAnswer : Option (List ℕ) → Bool → List ℕ → Outcome → Type 0
-IsCheckAnswer input failed text Done = IsReadAs input failed (λ bytes. IsKnown bytes text)
-IsCheckAnswer input failed text Unlawful = ⊥
-IsCheckAnswer input failed text Refused = IsRefusedAt input failed text
+IsCheckAnswer = IsDoneBy IsKnown (IsTold IsLastFault)

@@ -2,12 +2,10 @@
 use Rattle.std.specs.Prelude.{◌≡◌, ℕ, List, [], ◌++◌}
 use Rattle.sci_text.specs.{declared.fault.{TextFault.{TextFault}, TextFaultKind.{TextFaultKind}}, LogFault.{IsLogFault}}
 use Rattle.sci_text.specs.{ScheduleFault.{IsScheduleFault}, ScriptFault.{IsScriptFault}}
-use Rattle.sci_command.specs.declared.outcome.Outcome.{Outcome, TheVariants.{Done, Unlawful, Refused}}
-use Rattle.sci_command.specs.Refusal.{line_refusal}
-use Rattle.sci_reports.specs.declared.text_lines.TextKind.{TextKind, TheVariants.{Script, Schedule, Log}}
+use Rattle.sci_command.specs.declared.text_lines.TextKind.{TextKind, TheVariants.{Script, Schedule, Log}}
 use Rattle.sci_reports.specs.declared.checking.{TextSize.{TextSize}, Reading.{Reading, TheVariants.{Size, Fault}}}
 use Rattle.sci_reports.specs.declared.checking.Readings.{Readings}
-use Rattle.sci_reports.specs.CheckAnswer.{IsKnown, IsLastFault, IsLogText, IsScheduleText, IsScriptText, log_size, schedule_size, script_size, size_text}
+use Rattle.sci_reports.specs.CheckAnswer.{IsLogText, IsScheduleText, IsScriptText, log_size, schedule_size, script_size, size_text}
 
 -- the size of what the text is, or its first fault
 abbrev pub IsReading : {V : Type 0} → (V → Type 0) → (V → TextSize) → (ℕ → TextFaultKind → Type 0) → Reading → Type 0
@@ -33,9 +31,3 @@ pub record AreFaults (readings : Readings) (script schedule log : TextFault) : T
   pub script_is : readings.script ≡ Fault script
   pub schedule_is : readings.schedule ≡ Fault schedule
   pub log_is : readings.log ≡ Fault log
-
--- what is written of a text in memory, and how the command ends
-abbrev pub IsChecked : List ℕ → List ℕ → Outcome → Type 0
-IsChecked input text Done = IsKnown input text
-IsChecked input text Unlawful = ⊥
-IsChecked input text Refused = (line : ℕ) × (kind : TextFaultKind) × (note : List ℕ) × IsLastFault input line kind × (text ≡ line_refusal line kind ++ note)

@@ -1,17 +1,15 @@
 //! The command `check`: which kind of text the input is, or where and why it is none.
 
 ghost use Rattle.std.specs.Prelude.{◌≡◌, ◌++◌, ◌⊎◌, ℕ, List, false, true, [], IfOk, IfErr, IfSome, IfNone, OnOk};
-ghost use Rattle.sci_text.specs.{declared.fault.TextFaultKind.TheVariants.{Memory}, LogFault.{IsLogFault}};
+ghost use Rattle.sci_text.specs.{declared.fault.TextFaultKind.TheVariants.{Memory}, FirstFault.{IsRefusal, IsTold}, LogFault.{IsLogFault}};
 ghost use Rattle.sci_text.specs.{ScheduleFault.{IsScheduleFault}, ScriptFault.{IsScriptFault}, Tap.{has_failed}};
-ghost use Rattle.sci_command.specs.{Answer.{HasAnswered}, declared.outcome.Outcome.{Outcome}, Refusal.{line_refusal}};
-ghost use Rattle.sci_reports.specs.CheckAnswer.{IsCheckAnswer, IsCheckFault, IsLastFault, IsLogText, IsNoLater, IsScheduleText, IsScriptText, counted};
+ghost use Rattle.sci_command.specs.{Answer.{HasAnswered}, declared.outcome.Outcome.{Outcome}};
+ghost use Rattle.sci_reports.specs.CheckAnswer.{IsCheckAnswer, IsKnown, IsLastFault, IsLogText, IsNoLater, IsScheduleText, IsScriptText, counted};
 ghost use Rattle.sci_reports.specs.CheckAnswer.{depth as depth_of, log_size, schedule_size, script_size, size_text};
-ghost use Rattle.sci_reports.specs.TextReadings.{AreFaults, AreReadings, IsChecked, IsReading, known_text, said_of};
+ghost use Rattle.sci_reports.specs.TextReadings.{AreFaults, AreReadings, IsReading, known_text, said_of};
 
-use crate::diagnosis::diagnosis;
 use crate::numbered::entries_before;
-use crate::text_lines::{TextKind, line_of};
-use sci_command::{Answer, Answered, Outcome, refusal_text};
+use sci_command::{Answer, Answered, Outcome, ReadAs, Refusal, TextKind, line_of};
 use sci_text::{
     Tap, TextFault, TextFaultKind, logs_of, no_fault, no_log_fault, no_schedule_fault, push_number,
     push_text, read_input, schedule_of, script_of,
@@ -232,22 +230,6 @@ fn last_fault(
     later(log, machine, begins(text, log.1, b"l"))
 }
 
-/// The refusal of a fault, and what it is in words.
-fn refused(
-    alloc: Global,
-    kind: TextKind,
-    text: &[u8],
-    fault: TextFault,
-) -> Result<Vec<u8>, AllocError>
-    ensures { IfOk result (λ refused. (note : List ℕ)
-        × (refused.items ≡ line_refusal fault.line fault.kind ++ note)) }
-{
-    let mut refused = refusal_text(alloc, fault)?;
-    let note = diagnosis(alloc, kind, text, fault)?;
-    refused.extend_from_slice(&note)?;
-    Ok(refused)
-}
-
 /// The faults that a text has as a script, as a schedule and as a log. None if it is one of these.
 fn faults_of(readings: Readings) -> Option<(TextFault, TextFault, TextFault)>
     ensures faults { IfSome result (λ x. AreFaults readings x.0 x.1 x.2) }
@@ -268,10 +250,10 @@ fn faults_of(readings: Readings) -> Option<(TextFault, TextFault, TextFault)>
     Some((script, schedule, log))
 }
 
-/// What is written of a text, and how the command ends.
+/// What is written of a text, or why it is of no kind.
 fn checked(alloc: Global, text: &[u8]) -> Answered
-    ensures checked { IfOk result (λ x. IsChecked text.now x.text.items x.outcome) }
-    ensures memory { IfErr result (λ fault. (fault.line ≡ 0) × (fault.kind ≡ Memory)) }
+    ensures known { IfOk result (λ x. (x.outcome ≡ Outcome.Done) × IsKnown text.now x.text.items) }
+    ensures fault { IfErr result (λ refusal. IsRefusal IsLastFault text.now refusal.fault) }
 {
     let readings = readings_of(alloc, text)?;
     match faults_of(readings) {
@@ -286,23 +268,22 @@ fn checked(alloc: Global, text: &[u8]) -> Answered
         }
         Some((script, schedule, log)) => {
             let (kind, fault) = last_fault(text, script, schedule, log);
-            Ok(Answer {
-                text: refused(alloc, kind, text, fault)?,
-                outcome: Outcome::Refused,
-            })
+            let read_as = ReadAs {
+                kind,
+                is_guess: true,
+            };
+            Err(Refusal::of_text(alloc, read_as, text, fault))
         }
     }
 }
 
 /// Reads a text to its end and says what it is. Done if it is the text of a script, of a schedule or of a log, with a line
 /// for each of these that it is: `script: 2 nodes, 1 line, 7 operations`. (The first line of a script alone is a schedule
-/// too.) Any other text is Refused, with the line `refused at line K: KIND` that is the last of the refusals of the three
-/// kinds, and a line that says in words where and why: the column, what was expected there, and what stands there. A reader
-/// that fails, too long an input and running out of memory are refused at line 0, without more. After a failed read nothing
-/// more is read.
+/// too.) Any other text is refused, for the last of the faults that it has as one of the three kinds. A reader that fails,
+/// too long an input and running out of memory are refused at line 0. After a failed read nothing more is read.
 pub fn check<R: Read>(alloc: Global, reader: &mut Tap<R>) -> Answered
     requires { has_failed reader.old ≡ false }
-    ensures { HasAnswered R.remaining reader.old reader.new IsCheckAnswer IsCheckFault result }
+    ensures { HasAnswered R.remaining reader.old reader.new IsCheckAnswer (IsTold IsLastFault) result }
 {
     let bytes = read_input(alloc, reader)?;
     checked(alloc, &bytes)

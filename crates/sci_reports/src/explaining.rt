@@ -12,9 +12,9 @@ ghost use Rattle.sci_reports.specs.Subject.{IsSubject};
 
 use crate::note::{Subject, note_of};
 use crate::numbered::{entries_on, lines_before};
-use sci_command::{Answer, Answered, Outcome, verdict_line};
+use sci_command::{Answer, Answered, Outcome, logs_of, verdict_line};
 use sci_history::{Last, LineFault, Logs, Verdict, audit, line_faults};
-use sci_text::{Tap, logs_of, read_input};
+use sci_text::{Tap, read_input};
 use std::alloc::{AllocError, Global};
 use std::io::Read;
 

@@ -2,15 +2,11 @@
 #![tactic(auto)]
 
 mod checking;
-mod diagnosis;
 mod explaining;
 mod faulty;
-mod line_forms;
-mod line_words;
 mod note;
 mod numbered;
 mod ordering;
-mod text_lines;
 
 pub use checking::check;
 pub use explaining::explain;

@@ -10,12 +10,12 @@ ghost use Rattle.sci_reports.specs.OrderAnswer.{found_text as found_text_of, ord
 ghost use Rattle.sci_reports.specs.OrderAnswer.{step_text, why_text};
 
 use crate::numbered::{line_of_entry, lines_before};
-use sci_command::{Answer, Answered, Outcome, verdict_line};
+use sci_command::{Answer, Answered, Outcome, logs_of, verdict_line};
 use sci_history::{
     Entry, Last, Logs, OrderVerdict, Reason, Step, Verdict, audit, sequential_order,
     serial_order_is_lawful,
 };
-use sci_text::{Tap, logs_of, push_entry, push_field, push_text, read_input};
+use sci_text::{Tap, push_entry, push_field, push_text, read_input};
 use std::alloc::{AllocError, Global};
 use std::io::Read;
 

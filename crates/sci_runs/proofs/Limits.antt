@@ -9,6 +9,7 @@ use Rattle.sci_words.specs.{declared.operation.Reply.{Reply}, Stamped.{zero_stam
 use Rattle.sci_packets.specs.declared.body.Body.{Body, TheVariants.{Busy}}
 use Rattle.sci_history.specs.declared.entry.Entry.{Entry}
 use Rattle.sci_home.specs.{declared.state.HomeState.{HomeState}, Serving.{current_of, home_serving, is_for_home}}
+use Rattle.sci_cache.specs.Accepting.{settled}
 use Rattle.sci_cache.specs.declared.fault.AskFault.{AskFault}
 use Rattle.sci_cache.specs.Cache.{CacheOf, Letter, cache_accepting, cache_asking, cache_performing, cache_serving, line_of}
 use Rattle.sci_core.specs.declared.lane.LaneKind.{LaneKind, TheVariants.{Answers, Requests}}
@@ -19,9 +20,10 @@ use Rattle.sci_core.specs.Node.{NodeOf, accepted_by, answered_by, asked_by, home
 use Rattle.sci_core.specs.Node.{node_asking, node_issued, node_issuing, node_performing, node_refusing, node_replying, node_serving, pending_on}
 use Rattle.sci_core.specs.Node.{performed_by, opening_node, performing_pending, replied_by, served_at_home, served_in_cache, serving_at_home}
 use Rattle.sci_core.specs.{Node.{serving_in_cache, with_answer}, Outcome.{logs_of}}
-use Rattle.sci_core.specs.Sharing.{answer_in, first_authority, home_at, is_about, last_at, last_of, packets_of, sharer_of, sharers, Sharer, under_way}
+use Rattle.sci_core.specs.Sharing.{answer_in, first_authority, home_at, is_about, last_at, last_of, packets_of, settled_at, all_settled, under_way}
 use Rattle.sci_core.specs.{Size.{Size}, WellFormed.{IsWellFormed}}
 use Rattle.sci_runs.specs.Recorded.{raised, raised_node, with_limit}
+use Rattle.sci_cache.specs.State.{CacheState}
 use Rattle.sci_words.specs.declared.event.Event.TheVariants as event
 
 -- ---- nodes
@@ -219,20 +221,20 @@ waiting_alike m (part ∷ parts) = ap (λ (letters : List Letter). option_to_lis
 under_way_raised : (m : ℕ) (core : Core) → under_way (raised m core) ≡ under_way core
 under_way_raised m core = ap (λ (letters : List Letter). letters ++ flat_map (λ lane. lane) core.lanes) (waiting_alike m core.parts)
 
-sharer_raised : (m : ℕ) (core : Core) (line n : ℕ) → sharer_of (raised m core) line n ≡ sharer_of core line n
-sharer_raised m core line n =
+settled_raised : (m : ℕ) (core : Core) (line n : ℕ) → settled_at (raised m core) line n ≡ settled_at core line n
+settled_raised m core line n =
     ap (λ (letters : List Letter).
-    record { state = (line_of (node_at (raised m core) n).cache line).state; answer = answer_in (filter (is_about n line) letters) })
+    settled (line_of (node_at (raised m core) n).cache line).state (answer_in (filter (is_about n line) letters)))
     (under_way_raised m core)
-    ∙ ap (λ (cache : CacheOf). record { state = (line_of cache line).state; answer = answer_in (packets_of core n line) })
+    ∙ ap (λ (cache : CacheOf). settled (line_of cache line).state (answer_in (packets_of core n line)))
     (same_at (λ part. part.cache) m core.parts n (λ part. refl))
 
 last_at_raised : (m : ℕ) (core : Core) (line : ℕ) → last_at (raised m core) line ≡ last_at core line
 last_at_raised m core line =
-    ap (λ (home : HomeState). unwrap_or (option_or (current_of home) (first_authority (sharers (raised m core) line))) zero_stamped)
+    ap (λ (home : HomeState). unwrap_or (option_or (current_of home) (first_authority (all_settled (raised m core) line))) zero_stamped)
     (same_at (λ part. home_of part line) m core.parts (line % core.size.nodes) (λ part. refl))
-    ∙ ap (λ (all : List Sharer). unwrap_or (option_or (current_of (home_at core line)) (first_authority all)) zero_stamped)
-    (map_alike (sharer_of (raised m core) line) (sharer_of core line) (range_with_len 0 core.size.nodes) (λ n. sharer_raised m core line n))
+    ∙ ap (λ (all : List CacheState). unwrap_or (option_or (current_of (home_at core line)) (first_authority all)) zero_stamped)
+    (map_alike (settled_at (raised m core) line) (settled_at core line) (range_with_len 0 core.size.nodes) (λ n. settled_raised m core line n))
 
 pub last_raised : (m : ℕ) (core : Core) → last_of (raised m core) ≡ last_of core
 last_raised m core = map_alike (last_at (raised m core)) (last_at core) (range_with_len 0 core.size.lines) (λ line. last_at_raised m core line)

@@ -1,7 +1,7 @@
 -- The schedule of a run that has come to its end.
-use Rattle.std.proofs.Common.{◌≡◌, ◌≤◌, ◌<◌, ℕ, zero, suc, Bool, true, false, arith, List, [], ◌∷◌, All, length, take, Some, refl, sym, ap, subst, ◌∙◌}
+use Rattle.std.proofs.Common.{◌≡◌, ◌≤◌, ◌<◌, ℕ, zero, suc, Bool, true, false, arith, List, [], ◌∷◌, All, length, map, take, Some, refl, sym, ap, subst, ◌∙◌}
 use Rattle.std.proofs.Common.{inl, inr}
-use Rattle.std.specs.Prelude.{slice_get, slice_index_or}
+use Rattle.std.{proofs.lemmas.List.Elements.{All-cons, All-head, All-nil, All-tail}, specs.Prelude.{slice_get, slice_index_or}}
 use Rattle.sci_words.specs.declared.limits.TheConstants.{MAX_NODES, MAX_OPERATIONS}
 use Rattle.sci_words.specs.declared.operation.Op.{Op}
 use Rattle.sci_history.specs.{declared.entry.Entry.{Entry}, Placed.{log_of}, Sequential.{IsInProgramOrder}}
@@ -137,3 +137,9 @@ pub run_if : (own : ScriptValue) (issuing : Issuing) (drivers : List DriverOf) (
     → (All IsAnswered drivers → IsRunOf own issuing true schedule) → IsRunOf own issuing done schedule
 run_if own issuing drivers schedule true answered so_far whole = whole (answered refl)
 run_if own issuing drivers schedule false answered so_far whole = so_far
+
+-- what holds of what a function makes of each element
+pub of_mapped : {X Y : Type 0} (P : X → Type 0) (f : Y → X) (ys : List Y) → All P (map f ys) → All (λ y. P (f y)) ys
+of_mapped P f [] all = All-nil (λ y. P (f y))
+of_mapped P f (y ∷ ys) all =
+    All-cons (λ y. P (f y)) y ys (All-head P (f y) (map f ys) all) (of_mapped P f ys (All-tail P (f y) (map f ys) all))

@@ -1,12 +1,12 @@
 -- The rounds of a run, one after another: whose each is, and what its node does in it.
-use Rattle.std.specs.Prelude.{◌≡◌, ◌≢◌, ◌<◌, ◌≤◌, ◌⊎◌, ℕ, zero, suc, List, [], Option, Ok, Result, IsErr, length, slice_index_or}
+use Rattle.std.specs.Prelude.{◌≡◌, ◌≢◌, ◌<◌, ◌≤◌, ◌↔◌, ◌⊎◌, ℕ, zero, suc, All, Bool, true, List, [], Option, Ok, Result, IsErr, length, slice_index_or}
 use Rattle.std.specs.declared.alloc.AllocError.{AllocError}
 use Rattle.sci_words.specs.declared.{event.Event.{Event}, limits.TheConstants.{MAX_OPERATIONS}}
 use Rattle.sci_text.specs.{Script.{ScriptValue}, Schedule.{ScheduleValue}}
 use Rattle.sci_core.specs.{Core.{Core, node_at, opening, run}, Node.{NodeOf}}
 use Rattle.sci_policy.specs.{Deeds.{Deed}, Policy.{PolicyOf, opening_policy}}
 use Rattle.sci_drive.specs.{declared.driver.{Issuing.{Issuing}, Round.{Round}}, Calls.{AllowAll}}
-use Rattle.sci_drive.specs.{Driving.{DriverOf, opening_driver}, Rounds.{GoesRound}}
+use Rattle.sci_drive.specs.{Driving.{DriverOf, IsAnswered, opening_driver}, Rounds.{GoesRound}}
 use Rattle.sci_text.specs.Script.{operations_of}
 use Rattle.sci_drive.specs.ScriptLogs.{size_for}
 use Rattle.sci_runs.specs.{declared.order.Order.{Order}, Deeds.{Does, Fills, FillsTurning}, Recorded.{Course, raised, with_limit}}
@@ -48,11 +48,16 @@ pub record IsRound (n : ℕ) (old new : Moment) : Type 0 where
   pub drivers : StaysBut n old.drivers new.drivers
   pub policies : StaysBut n old.policies new.policies
 
--- this many rounds, of the nodes that come in this order
+-- some operation of the script has no entry yet
+abbrev pub IsOpen : Moment → Type 0
+IsOpen moment = All IsAnswered moment.drivers → ⊥
+
+-- this many rounds, of the nodes that come in this order, each from a moment at which some operation has no entry yet
 abbrev pub Played : ℕ → ℕ → Order → Moment → Order → Moment → Type 0
 Played nodes zero order old later new = (order ≡ later) × (old ≡ new)
 Played nodes (suc rounds) order old later new =
-    (mid : Moment) × (next : Order) × Played nodes rounds order old next mid × (later ≡ next_order nodes next) × IsRound (next_node nodes next) mid new
+    (mid : Moment) × (next : Order) × Played nodes rounds order old next mid × IsOpen mid × (later ≡ next_order nodes next)
+    × IsRound (next_node nodes next) mid new
 
 -- A round of node n begins at this moment, in which the schedule gets as many events as it can have: by some of its deeds, from the
 -- first on, or by all that come before its turn, and by events of the turn, which is refused.
@@ -71,6 +76,7 @@ pub record HasNoRoom (nodes turns : ℕ) (order : Order) (first : Moment) : Type
   pub next : Order
   pub moment : Moment
   pub played : Played nodes rounds order first next moment
+  pub goes_on : IsOpen moment
   pub fills : FillsAt (next_node nodes next) moment
 
 -- A run begins: the machine is new, with room for as many operations as each node has in the script at least; nothing is
@@ -84,13 +90,14 @@ pub record Begins (script : ScriptValue) (issuing : Issuing) (first : Moment) : 
   pub policies : (node : ℕ) → policy_at first node ≡ opening_policy
 
 -- The events of the schedule are those of this many rounds by the policy, in their order: they begin anew, and lead to the state
--- behind the schedule.
-pub record IsPlayed (script : ScriptValue) (issuing : Issuing) (seed : Option ℕ) (rounds : ℕ) (schedule : ScheduleValue) : Type 0 where
+-- behind the schedule. Done, each operation has its entry at their end, and else some operation has none.
+pub record IsPlayed (script : ScriptValue) (issuing : Issuing) (seed : Option ℕ) (rounds : ℕ) (done : Bool) (schedule : ScheduleValue) : Type 0 where
   pub first : Moment
   pub begins : Begins script issuing first
   pub order : Order
   pub last : Moment
   pub played : Played script.nodes rounds (first_order seed) first order last
+  pub ends : (done ≡ true) ↔ All IsAnswered last.drivers
   pub events : schedule.events ≡ last.events
   pub behind : run (size_for script) schedule.events ≡ raised MAX_OPERATIONS last.core
 

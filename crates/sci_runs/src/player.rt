@@ -1,6 +1,6 @@
 //! A node of a run: its policy, and the driver that takes it through its operations.
 
-ghost use Rattle.std.specs.Prelude.{◌≡◌, ◌≤◌, All, IfOk, length, map, true};
+ghost use Rattle.std.specs.Prelude.{◌≡◌, ◌↔◌, ◌≤◌, All, IfOk, length, map, true};
 ghost use Rattle.sci_words.specs.declared.limits.TheConstants.{MAX_OPERATIONS};
 ghost use Rattle.sci_policy.specs.Policy.{opening_policy};
 ghost use Rattle.sci_drive.specs.Driving.{IsAnswered, opening_driver};
@@ -43,7 +43,7 @@ pub(crate) fn new_players<'a>(
 
 /// Whether each operation of all players has its entry.
 pub(crate) fn are_answered(players: &[Player<'_>]) -> bool
-    ensures { result ≡ true → All (λ player. IsAnswered player.driver) players.now }
+    ensures { (result ≡ true) ↔ All (λ player. IsAnswered player.driver) players.now }
 {
     for player in players {
         if !player.driver.is_answered() {

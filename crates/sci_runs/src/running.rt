@@ -44,7 +44,7 @@ pub struct Run {
 pub fn run_script(alloc: Global, script: &Script, plan: Plan) -> Result<Run, RunFault>
     ensures run { IfOk result (λ run. IsRunOf script.now plan.issuing run.done run.schedule) }
     ensures played { IfOk result (λ run.
-        IsPlayed script.now plan.issuing plan.seed run.turns run.schedule) }
+        IsPlayed script.now plan.issuing plan.seed run.turns run.done run.schedule) }
     ensures full { IfErr result (λ fault. fault ≡ TooMany →
         IsTooLong script.now plan.issuing plan.seed plan.turns) }
     ensures turns { IfOk result (λ run. run.turns ≤ plan.turns) }

@@ -70,7 +70,7 @@ pub(crate) struct Ran {
 }
 
 impl<'a> Table<'a> {
-    ghost use Rattle.std.specs.Prelude.{◌≡◌, ◌<◌, ◌≤◌, ℕ, All, IfErr, IfOk, None, true, false, length, slice_index_or};
+    ghost use Rattle.std.specs.Prelude.{◌≡◌, ◌<◌, ◌≤◌, ◌↔◌, ℕ, All, IfErr, IfOk, None, true, false, length, slice_index_or};
     ghost use Rattle.sci_words.specs.declared.limits.TheConstants.{MAX_OPERATIONS};
     ghost use Rattle.sci_core.specs.Core.{run};
     ghost use Rattle.sci_runs.specs.declared.fault.RunFault.TheVariants.{Memory, TooMany};
@@ -110,7 +110,7 @@ impl<'a> Table<'a> {
 
     /// Whether each operation of the script has its entry.
     fn is_done(&self) -> bool
-        ensures { result ≡ true → All IsAnswered self.now.drivers }
+        ensures { (result ≡ true) ↔ All IsAnswered self.now.drivers }
     {
         are_answered(&self.players)
     }
@@ -140,7 +140,7 @@ impl<'a> Table<'a> {
         ensures recorded { IfOk result (λ _. self.new.recorder.lost ≡ None) }
         ensures script { self.new.script ≡ self.old.script }
         ensures issuing { self.new.issuing ≡ self.old.issuing }
-        ensures answered { IfOk result (λ ran. ran.done ≡ true →
+        ensures answered { IfOk result (λ ran. (ran.done ≡ true) ↔
             All IsAnswered self.new.drivers) }
         ensures played { IfOk result (λ ran. Played self.old.script.nodes ran.turns
             order.old (moment_of self.old) order.new (moment_of self.new)) }

@@ -1,6 +1,6 @@
 //! The command `stats`: figures of a schedule.
 
-ghost use Rattle.std.specs.{Prelude.{◌≡◌, ◌≤◌, ◌++◌, true, false, length, IfOk, OnOk}, List.{flat_map}};
+ghost use Rattle.std.specs.{Prelude.{◌≡◌, ◌≤◌, ◌++◌, false, length, None, IfOk, IsSome, OnOk}, List.{flat_map}};
 ghost use Rattle.sci_words.specs.declared.limits.TheConstants.{MAX_EVENTS};
 ghost use Rattle.sci_command.specs.Answer.{HasAnswered};
 ghost use Rattle.sci_text.specs.Tap.{has_failed};
@@ -13,8 +13,8 @@ use crate::node_figures::NodeFigures;
 use crate::passage::Passage;
 use crate::waits::NodeWaits;
 use crate::walk::passages_of;
-use sci_command::{Answer, Answered, Outcome, read_asked};
-use sci_text::{Schedule, Tap, TextFault, TextFaultKind};
+use sci_command::{Answer, Answered, Asked, Outcome, read_asked};
+use sci_text::{Schedule, Tap};
 use std::alloc::{AllocError, Global};
 use std::io::Read;
 
@@ -34,14 +34,16 @@ struct Shown {
     count: u8,
 }
 
-/// Whether the machine of a schedule has the node, if one is asked for.
-fn has_node(schedule: &Schedule, asked: Option<u8>) -> bool
-    ensures yes { result ≡ true → HasNode asked schedule.now }
-    ensures no { result ≡ false → HasNode asked schedule.now → ⊥ }
+/// The node that is asked for, if the machine of a schedule doesn't have it.
+fn node_lacking(schedule: &Schedule, asked: Option<u8>) -> Option<u8>
+    ensures has { result ≡ None → HasNode asked schedule.now }
+    ensures lacks { IsSome result → HasNode asked schedule.now → ⊥ }
 {
-    match asked {
-        Some(node) => node < schedule.extent().nodes,
-        None => true,
+    let node = asked?;
+    if node < schedule.extent().nodes {
+        None
+    } else {
+        Some(node)
     }
 }
 
@@ -155,11 +157,8 @@ pub fn stats<R: Read>(alloc: Global, request: StatsRequest, reader: &mut Tap<R>)
     ensures { HasAnswered R.remaining reader.old reader.new (IsStatsAnswer request) (IsStatsFault request) result }
 {
     let schedule = read_asked(alloc, request.line, reader)?;
-    if !has_node(&schedule, request.node) {
-        return Err(TextFault {
-            line: 0,
-            kind: TextFaultKind::Range,
-        });
+    if let Some(node) = node_lacking(&schedule, request.node) {
+        return Err(Asked::Node.refused(alloc, node, schedule.extent().nodes));
     }
     let text = stats_of(alloc, request, &schedule)?;
     Ok(Answer {

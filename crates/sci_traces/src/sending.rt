@@ -9,11 +9,11 @@ ghost use Rattle.sci_text.specs.{FirstFault.{IsTold}, ScheduleFault.{IsScheduleF
 ghost use Rattle.sci_command.specs.{Answer.{HasAnswered}, declared.outcome.Outcome.{Outcome}};
 ghost use Rattle.sci_traces.specs.PacketsAnswer.{AreSpelled, IsPacketsAnswer, letters_sent};
 
-use sci_command::{Answer, Answered, Outcome};
+use sci_command::{Answer, Answered, Outcome, read_schedule};
 use sci_core::{ApplyFault, Machine};
 use sci_packets::{Packet, encode};
 use sci_statistics::sent;
-use sci_text::{Schedule, Tap, read_schedule};
+use sci_text::{Schedule, Tap};
 use sci_words::{Event, MAX_OPERATIONS};
 use std::alloc::{AllocError, Global};
 use std::io::Read;

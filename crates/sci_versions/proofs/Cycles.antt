@@ -7,12 +7,12 @@ use Rattle.sci_versions.proofs.Words.{IsLine, got_old, is_placed, leaves_at, wor
 use Rattle.sci_versions.specs.Stretches.{left_by, IsWriter, IsWrittenOnce, FollowsIn, IsChain, IsCycle}
 
 -- a writer of this value between two versions
-record IsBetween (logs : List (List Entry)) (line word value low high : ℕ) : Type 0 where
-  node : ℕ
-  entry : Entry
-  writer : IsWriter logs line word value node entry
-  above : low < entry.version
-  within : entry.version ≤ high
+pub record IsBetween (logs : List (List Entry)) (line word value low high : ℕ) : Type 0 where
+  pub node : ℕ
+  pub entry : Entry
+  pub writer : IsWriter logs line word value node entry
+  pub above : low < entry.version
+  pub within : entry.version ≤ high
 
 one_change : (logs : List (List Entry)) (line word value version : ℕ) (last : Stamped) → IsLine logs line word last → suc version ≤ last.version
     → (word_at logs line word version ≡ value → ⊥) → word_at logs line word (suc version) ≡ value
@@ -36,7 +36,7 @@ one_change logs line word value version last is within was becomes = elim (word_
   | inr kept ↦ absurd (was (sym kept ∙ becomes))
 ]
 
-change_between : (logs : List (List Entry)) (line word value low more : ℕ) (last : Stamped) → IsLine logs line word last → low + more ≤ last.version
+pub change_between : (logs : List (List Entry)) (line word value low more : ℕ) (last : Stamped) → IsLine logs line word last → low + more ≤ last.version
     → (word_at logs line word low ≡ value → ⊥) → word_at logs line word (low + more) ≡ value → IsBetween logs line word value low (low + more)
 change_between logs line word value low zero last is within was becomes =
     absurd (was (ap (λ (v : ℕ). word_at logs line word v) (omega arith) ∙ becomes))
@@ -70,7 +70,7 @@ one_stretch logs line word value i j k last is once less more within first third
     ]
 
 -- so two stretches stand one behind the other
-apart : (logs : List (List Entry)) (line word a b p q here there : ℕ) (last : Stamped) → IsLine logs line word last → IsWrittenOnce logs line word a
+pub apart : (logs : List (List Entry)) (line word a b p q here there : ℕ) (last : Stamped) → IsLine logs line word last → IsWrittenOnce logs line word a
     → IsWrittenOnce logs line word b → (a ≡ b → ⊥) → there < here → here ≤ last.version → p ≤ last.version → q ≤ last.version
     → word_at logs line word here ≡ a → word_at logs line word there ≡ b → word_at logs line word p ≡ a → word_at logs line word q ≡ b → q < p
 apart logs line word a b p q here there last is once_a once_b differ less low_here low_p low_q at_here at_there at_p at_q = elim (cases_lt q p) [

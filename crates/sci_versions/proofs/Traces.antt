@@ -13,7 +13,7 @@ use Rattle.sci_versions.specs.Versions.{unversioned, without_versions, HasVersio
 
 -- ---- lists that are the same but for versions
 
-at_node : (logs : List (List Entry)) (node : ℕ) → log_of (without_versions logs) node ≡ map unversioned (log_of logs node)
+pub at_node : (logs : List (List Entry)) (node : ℕ) → log_of (without_versions logs) node ≡ map unversioned (log_of logs node)
 at_node [] node = refl
 at_node (log ∷ logs) zero = refl
 at_node (log ∷ logs) (suc node) = at_node logs node
@@ -36,12 +36,12 @@ heads : (x z : Entry) (xs ys : List Entry) → map unversioned (x ∷ xs) ≡ ma
 heads x z xs ys same = cc
 
 -- an entry that is the same but for its version
-record IsTwin (xs : List Entry) (y : Entry) : Type 0 where
-  entry : Entry
-  among : IsAmong entry xs
-  same : unversioned entry ≡ unversioned y
+pub record IsTwin (xs : List Entry) (y : Entry) : Type 0 where
+  pub entry : Entry
+  pub among : IsAmong entry xs
+  pub same : unversioned entry ≡ unversioned y
 
-among_same : (xs ys : List Entry) (y : Entry) → map unversioned xs ≡ map unversioned ys → IsAmong y ys → IsTwin xs y
+pub among_same : (xs ys : List Entry) (y : Entry) → map unversioned xs ≡ map unversioned ys → IsAmong y ys → IsTwin xs y
 among_same xs [] y same h = elim h [ ]
 among_same [] (z ∷ ys) y same h = absurd cc
 among_same (x ∷ xs) (z ∷ ys) y same (inl is) = record { entry = x; among = inl refl; same = heads x z xs ys same ∙ ap unversioned (sym is) }
@@ -75,16 +75,16 @@ split_same (y ∷ xs) (b ∷ before) after x same =
 
 -- ---- logs that are the same but for versions
 
-abbrev AreSame : List (List Entry) → List (List Entry) → Type 0
+abbrev pub AreSame : List (List Entry) → List (List Entry) → Type 0
 AreSame a b = (node : ℕ) → map unversioned (log_of a node) ≡ map unversioned (log_of b node)
 
 -- the twin of an entry that a node did on a line
-record HasDone (logs : List (List Entry)) (line node : ℕ) (y : Entry) : Type 0 where
-  entry : Entry
-  did : DidOn logs line node entry
-  same : unversioned entry ≡ unversioned y
+pub record HasDone (logs : List (List Entry)) (line node : ℕ) (y : Entry) : Type 0 where
+  pub entry : Entry
+  pub did : DidOn logs line node entry
+  pub same : unversioned entry ≡ unversioned y
 
-did_same : (a b : List (List Entry)) (line node : ℕ) (y : Entry) → AreSame a b → DidOn b line node y → HasDone a line node y
+pub did_same : (a b : List (List Entry)) (line node : ℕ) (y : Entry) → AreSame a b → DidOn b line node y → HasDone a line node y
 did_same a b line node y same did =
     let twin = among_same (log_of a node) (log_of b node) y (same node) did.among in
     record {
@@ -149,7 +149,7 @@ node_of : (logs : List (List Entry)) (line node : ℕ) (entry : Entry) → AreOw
 node_of logs line node entry own did =
     among_all (λ e. e.node ≡ node) entry (log_of logs node) (recursion_from_All (λ e. e.node ≡ node) (log_of logs node) (own node)) did.among
 
-one_entry : (logs : List (List Entry)) (line n m : ℕ) (last : Stamped) (x y : Entry) → AreOwn logs → IsLawfulLine logs line last
+pub one_entry : (logs : List (List Entry)) (line n m : ℕ) (last : Stamped) (x y : Entry) → AreOwn logs → IsLawfulLine logs line last
     → DidOn logs line n x → DidOn logs line m y → unversioned x ≡ unversioned y → x ≡ y
 one_entry logs line n m last x y own lawful did_x did_y same =
     let nodes : m ≡ n = sym (node_of logs line m y own did_y) ∙ (sym (ap (λ (e : Entry). e.node) same) ∙ node_of logs line n x own did_x) in

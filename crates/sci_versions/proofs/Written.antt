@@ -7,7 +7,7 @@ use Rattle.sci_history.specs.{Lawful.{Lawful}, Memory.{stamped_at}, Placed.{AreO
 use Rattle.sci_versions.{proofs.Words.{IsLine, is_placed, word_at, word_step, zero_at_start}, specs.Stretches.{IsWritten}}
 
 -- the word at a version is 0, or some maker left it
-word_from : (logs : List (List Entry)) (line word : ℕ) (last : Stamped) (version : ℕ) → IsLine logs line word last → version ≤ last.version
+pub word_from : (logs : List (List Entry)) (line word : ℕ) (last : Stamped) (version : ℕ) → IsLine logs line word last → version ≤ last.version
     → (word_at logs line word version ≡ 0) ⊎ IsWritten logs line word (word_at logs line word version)
 word_from logs line word last zero is within = inl (zero_at_start logs line word last is)
 word_from logs line word last (suc version) is within = elim (word_step logs line word version last is within) [

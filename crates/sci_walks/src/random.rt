@@ -2,11 +2,12 @@
 
 ghost use Rattle.std.specs.Prelude.{◌≡◌, ◌↔◌, IfOk, IfErr, IfSome, IsSome};
 ghost use Rattle.sci_command.specs.declared.outcome.Outcome.{Outcome};
+ghost use Rattle.sci_text.specs.declared.fault.TextFaultKind.TheVariants.{Range};
 ghost use Rattle.sci_words.specs.Extent.{AreWithinLimits};
 ghost use Rattle.sci_walks.specs.RandomAnswer.{IsRandomAnswer, IsWalkFault};
 
 use crate::walking::schedule_of;
-use sci_command::{Answer, Answered, Outcome};
+use sci_command::{Answer, Answered, Note, Outcome, Refusal};
 use sci_text::{TextFault, TextFaultKind, schedule_text};
 use sci_words::{Extent, MAX_EVENTS, MAX_LINES, MAX_NODES, MAX_SLOTS};
 use std::alloc::Global;
@@ -46,25 +47,47 @@ fn extent_of(walk: &Walk) -> Option<Extent>
     Extent::new(walk.nodes as u8, walk.lines as u8, walk.slots as u8)
 }
 
+/// The refusal of a walk with a number that is out of range, which names the first such number.
+fn out_of_range(walk: &Walk) -> Refusal
+    ensures line { result.fault.line ≡ 0 }
+    ensures kind { result.fault.kind ≡ Range }
+{
+    let words = if !(1..=u64::from(MAX_NODES)).contains(&walk.nodes) {
+        "N: expected a number of nodes from 1 to 16"
+    } else if !(1..=u64::from(MAX_LINES)).contains(&walk.lines) {
+        "M: expected a number of lines from 1 to 64"
+    } else if !(1..=u64::from(MAX_SLOTS)).contains(&walk.slots) {
+        "C: expected a number of version slots from 1 to 8"
+    } else if walk.events > u64::from(MAX_EVENTS) {
+        "EVENTS: expected a number of events from 0 to 500000"
+    } else {
+        "--dead: expected a number from 0 to 100"
+    };
+    Refusal {
+        fault: TextFault {
+            line: 0,
+            kind: TextFaultKind::Range,
+        },
+        note: Note::Fixed(words),
+    }
+}
+
 /// Gives a schedule of a walk's machine with as many events as it says, drawn from its seed: Done. About `dead` in a
 /// hundred of them, or none without it, are any events; the others are enabled when they come. The same numbers give the
 /// same schedule. A number out of its range (`dead` is 0 to 100) is refused, as `range` at line 0, as is running out of
 /// memory.
 pub fn random_schedule(alloc: Global, walk: &Walk, dead: Option<u64>) -> Answered
-    ensures answer { IfOk result (λ answer.
-        IsRandomAnswer walk.now dead answer.text.items answer.outcome) }
-    ensures fault { IfErr result (λ fault. IsWalkFault walk.now dead fault.kind fault.line) }
+    ensures answer { IfOk result (λ answer. (answer.outcome ≡ Outcome.Refused → ⊥)
+        × IsRandomAnswer walk.now dead answer.text.items answer.outcome) }
+    ensures fault { IfErr result (λ refusal.
+        IsWalkFault walk.now dead refusal.fault.kind refusal.fault.line) }
 {
-    let out_of_range = TextFault {
-        line: 0,
-        kind: TextFaultKind::Range,
-    };
     let share = dead.unwrap_or(NONE_DEAD);
     if walk.events > u64::from(MAX_EVENTS) || share > 100 {
-        return Err(out_of_range);
+        return Err(out_of_range(walk));
     }
     let Some(extent) = extent_of(walk) else {
-        return Err(out_of_range);
+        return Err(out_of_range(walk));
     };
     let schedule = schedule_of(alloc, extent, walk.events as u32, share as u8, walk.seed)?;
     let text = schedule_text(alloc, &schedule)?;

@@ -1,11 +1,12 @@
 -- What is written for bytes that may be a run of packets.
-use Rattle.std.specs.Prelude.{◌≡◌, ℕ, ◌<◌, ◌⊎◌, Bool, List, [], ◌∷◌, ◌++◌, length, codes, All, Option, Some}
+use Rattle.std.specs.Prelude.{◌≡◌, ◌↔◌, ℕ, ◌<◌, ◌⊎◌, Bool, List, [], ◌∷◌, ◌++◌, length, codes, All, Option, Some, IsSome}
 use Rattle.std.specs.List.{flat_map}
 use Rattle.sci_text.specs.{declared.fault.TextFaultKind.{TextFaultKind}, FirstFault.{IsInputFault}, Number.{field}}
 use Rattle.sci_packets.specs.declared.fault.PacketFault.{PacketFault}
 use Rattle.sci_packets.specs.declared.fault.PacketFault.TheVariants.{Short, UnknownCommand, BadOffset, BadIdentifier}
 use Rattle.sci_packets.specs.{declared.packet.Packet.{Packet}, Fault.{fault_of}}
 use Rattle.sci_packets.specs.Spelling.{IsPacket, NoneSpells, spelling}
+use Rattle.sci_command.specs.declared.refusal.Refusal.{Refusal}
 use Rattle.sci_command.specs.{declared.outcome.Outcome.{Outcome, TheVariants.{Done, Refused}}, Input.{IsReadAs}}
 use Rattle.sci_command.specs.{PacketLine.{packet_line}, Refusal.{kind_word}}
 
@@ -66,3 +67,7 @@ pub record IsInputRefusal (known : Option (List ℕ)) (failed : Bool) (text : Li
 abbrev pub IsAnswer : Option (List ℕ) → Bool → List ℕ → Outcome → Type 0
 IsAnswer known failed text outcome =
     IsReadAs known failed (λ bytes. IsDecoded bytes text outcome) ⊎ (IsInputRefusal known failed text × (outcome ≡ Refused))
+
+-- the same of a command that is refused exactly if there is a refusal to tell of
+abbrev pub IsDecodedBeside : Option Refusal → Option (List ℕ) → Bool → List ℕ → Outcome → Type 0
+IsDecodedBeside refusal known failed text outcome = IsAnswer known failed text outcome × (IsSome refusal ↔ (outcome ≡ Refused))

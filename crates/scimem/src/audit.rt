@@ -5,9 +5,9 @@ ghost use Rattle.sci_text.specs.{FirstFault.{IsTold}, LogFault.{IsLogFault}, Tap
 ghost use Rattle.sci_command.specs.{Answer.{HasAnswered}, declared.outcome.Outcome.{Outcome}};
 ghost use Rattle.scimem.specs.LogAnswer.{IsAuditAnswer, outcome_of};
 
-use sci_command::{Answer, Answered, Outcome, verdict_line};
+use sci_command::{Answer, Answered, Outcome, read_logs, verdict_line};
 use sci_history::{Verdict, audit};
-use sci_text::{Tap, read_logs};
+use sci_text::Tap;
 use std::alloc::Global;
 use std::io::Read;
 

@@ -2,7 +2,7 @@
 
 ghost use Rattle.std.specs.Prelude.{◌≡◌, false};
 ghost use Rattle.sci_text.specs.Tap.{has_failed};
-ghost use Rattle.scimem.specs.CommandAnswer.{IsAnswerTo};
+ghost use Rattle.scimem.specs.CommandAnswer.{IsToldOf};
 ghost use Rattle.sci_command.specs.Writing.{HasCarriedOut};
 
 use crate::audit::audit_text;
@@ -12,7 +12,7 @@ use crate::oracle::oracle;
 use crate::replay::replay;
 use crate::threads::threads;
 use crate::upgrade::upgrade;
-use sci_command::{Outcome, finish};
+use sci_command::{Ended, finish};
 use sci_text::Tap;
 use std::alloc::Global;
 use std::io::{Read, Write};
@@ -26,11 +26,11 @@ pub fn carried_out<T: Threads + Sync, R: Read, W: Write>(
     command: Command,
     reader: &mut Tap<R>,
     writer: &mut Tap<W>,
-) -> Outcome
+) -> Ended
     requires reader { has_failed reader.old ≡ false }
     requires writer { has_failed writer.old ≡ false }
     ensures { HasCarriedOut R.remaining W.contents reader.old reader.new writer.old writer.new
-        result (IsAnswerTo command) }
+        result.outcome (IsToldOf command result.refusal) }
 {
     match command {
         Command::Oracle => finish(alloc, writer, oracle(alloc, reader)),

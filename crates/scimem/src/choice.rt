@@ -16,7 +16,10 @@ use std::{env, io};
 pub const USAGE: &str =
     "usage: scimem oracle | replay | threads [--turns T] | audit | decode | upgrade";
 
-/// What stands below the usage line on standard error.
+/// What stands below it: the range of its number.
+pub const TURNS: &str = "--turns T: a number from 1 to 1000000000";
+
+/// What stands below both on standard error.
 pub const MANUAL: &str =
     "A command reads standard input to its end. The manual is scimem(1), and its formats are in scimem(5).";
 
@@ -35,6 +38,20 @@ pub enum Command {
     Audit,
     /// Write a log in format 2.
     Upgrade,
+}
+
+impl Command {
+    /// The program and the word that chooses the command, as its messages name it.
+    pub fn name(self) -> &'static str {
+        match self {
+            Command::Oracle => "scimem oracle",
+            Command::Replay => "scimem replay",
+            Command::Threads { .. } => "scimem threads",
+            Command::Decode => "scimem decode",
+            Command::Audit => "scimem audit",
+            Command::Upgrade => "scimem upgrade",
+        }
+    }
 }
 
 /// The number of turns that a word says, from 1 to the most. None if it says none.

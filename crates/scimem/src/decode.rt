@@ -1,15 +1,16 @@
 //! The command `decode`: a line for each packet.
 
-ghost use Rattle.std.specs.Prelude.{◌≡◌, ◌≤◌, ℕ, List, [], false, length};
+ghost use Rattle.std.specs.Prelude.{◌≡◌, ◌↔◌, ◌≤◌, ℕ, List, [], false, length, IsSome};
 ghost use Rattle.sci_text.specs.Tap.{has_failed, is_called_again, tapped};
 ghost use Rattle.sci_command.specs.{declared.outcome.Outcome.{Outcome}, Writing.{HasCarriedOut, IsPrinted}};
-ghost use Rattle.scimem.specs.Decoding.{IsDecoded, IsAnswer, refusal, fault_word};
+ghost use Rattle.scimem.specs.Decoding.{IsDecoded, IsDecodedBeside, refusal, fault_word};
 
 use sci_command::{
-    Outcome, packet_head, packet_tail, print_end, print_piece, word_of_fault, write_answer,
+    Ended, Note, Outcome, Refusal, packet_head, packet_tail, print_end, print_piece, word_of_fault,
+    write_answer,
 };
 use sci_packets::{PacketFault, decode};
-use sci_text::{LineEnd, Tap, read_input};
+use sci_text::{LineEnd, Tap, TextFault, TextFaultKind, read_input};
 use std::alloc::Global;
 use std::io::{Read, Write};
 
@@ -73,6 +74,22 @@ fn print_packets<W: Write>(writer: &mut Tap<W>, waiting: &mut Vec<u8>, input: &[
     Outcome::Done
 }
 
+/// What is said of a decoding that ends so, if no write fails, besides its refusal.
+fn no_packet(outcome: Outcome) -> Option<Refusal>
+    ensures { IsSome result ↔ (outcome ≡ Outcome.Refused) }
+{
+    match outcome {
+        Outcome::Done | Outcome::Unlawful => None,
+        Outcome::Refused => Some(Refusal {
+            fault: TextFault {
+                line: 0,
+                kind: TextFaultKind::Syntax,
+            },
+            note: Note::Fixed("the bytes from the refused one on begin with no packet"),
+        }),
+    }
+}
+
 /// Reads the input to its end, and writes a line for each packet: `NAME to T from S control K line L`, then
 /// ` id I` or ` id none` if the command uses its identifier, and ` @V w0 w1 w2 w3 w4 w5 w6 w7` if it
 /// carries contents, all in decimal. A run of packets is Done.
@@ -86,21 +103,27 @@ pub fn decode_bytes<R: Read, W: Write>(
     alloc: Global,
     reader: &mut Tap<R>,
     writer: &mut Tap<W>,
-) -> Outcome
+) -> Ended
     requires reader { has_failed reader.old ≡ false }
     requires writer { has_failed writer.old ≡ false }
     ensures { HasCarriedOut R.remaining W.contents reader.old reader.new writer.old writer.new
-        result IsAnswer }
+        result.outcome (IsDecodedBeside result.refusal) }
 {
     match read_input(alloc, reader) {
         Ok(input) => {
             let mut waiting = Vec::new(alloc);
             let outcome = print_packets(writer, &mut waiting, &input);
-            print_end(writer, &waiting, outcome)
+            Ended {
+                outcome: print_end(writer, &waiting, outcome),
+                refusal: no_packet(outcome),
+            }
         }
         Err(fault) => {
-            let refusal = refusal_of(0, word_of_fault(fault.kind));
-            write_answer(writer, refusal.as_slice(), Outcome::Refused)
+            let line = refusal_of(0, word_of_fault(fault.kind));
+            Ended {
+                outcome: write_answer(writer, line.as_slice(), Outcome::Refused),
+                refusal: Some(Refusal::from(fault)),
+            }
         }
     }
 }

@@ -5,9 +5,9 @@ ghost use Rattle.sci_text.specs.{FirstFault.{IsTold}, ScriptFault.{IsScriptFault
 ghost use Rattle.sci_command.specs.Answer.{HasAnswered};
 ghost use Rattle.scimem.specs.OracleAnswer.{IsOracleAnswer};
 
-use sci_command::{Answer, Answered, Outcome};
+use sci_command::{Answer, Answered, Outcome, read_script};
 use sci_history::run_oracle;
-use sci_text::{Tap, logs_text, read_script};
+use sci_text::{Tap, logs_text};
 use std::alloc::Global;
 use std::io::Read;
 

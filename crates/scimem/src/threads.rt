@@ -5,9 +5,9 @@ ghost use Rattle.sci_text.specs.{FirstFault.{IsTold}, ScriptFault.{IsScriptFault
 ghost use Rattle.sci_command.specs.Answer.{HasAnswered};
 ghost use Rattle.scimem.specs.ThreadsAnswer.{IsThreadsAnswer};
 
-use sci_command::{Answer, Answered, Outcome};
+use sci_command::{Answer, Answered, Outcome, read_script};
 use sci_drive::Issuing;
-use sci_text::{Tap, logs_text, operations_by_node, read_script};
+use sci_text::{Tap, logs_text, operations_by_node};
 use sci_threads::{Plan, YieldingGate, run_plan};
 use std::alloc::Global;
 use std::io::Read;

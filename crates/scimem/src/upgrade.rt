@@ -5,8 +5,8 @@ ghost use Rattle.sci_text.specs.{FirstFault.{IsTold}, LogFault.{IsLogFault}, Tap
 ghost use Rattle.sci_command.specs.Answer.{HasAnswered};
 ghost use Rattle.scimem.specs.LogAnswer.{IsUpgradeAnswer};
 
-use sci_command::{Answer, Answered, Outcome};
-use sci_text::{Tap, logs_text, read_logs};
+use sci_command::{Answer, Answered, Outcome, read_logs};
+use sci_text::{Tap, logs_text};
 use std::alloc::Global;
 use std::io::Read;
 

@@ -2,6 +2,7 @@
 use Rattle.std.specs.Prelude.{◌≡◌, ◌<◌, ◌≤◌, ◌^◌, ◌++◌, ◌⊎◌, ℕ, Bool, List, [], ◌∷◌, codes, Option, Some, None, IfSome, true, false}
 use Rattle.sci_words.specs.declared.limits.TheConstants.{MAX_LINES, MAX_NODES}
 use Rattle.sci_text.specs.Number.{number}
+use Rattle.sci_axe.specs.declared.judging.JudgeRequest.{JudgeRequest}
 use Rattle.sci_charts.specs.declared.charting.{ChartRequest.{ChartRequest}, TextLines.{TextLines}}
 use Rattle.sci_drive.specs.declared.driver.Issuing.{Issuing, TheVariants.{Ahead, InOrder}}
 use Rattle.sci_reports.specs.declared.ordering.NodeOrder.{NodeOrder, TheVariants.{Logged, BySerial}}
@@ -12,7 +13,7 @@ use Rattle.sci_outcomes.specs.declared.trials.Turns.{Turns, TheVariants.{Drawn, 
 use Rattle.sci_statistics.specs.declared.counting.StatsRequest.{StatsRequest}
 use Rattle.sci_traces.specs.declared.tracing.TraceRequest.{TraceRequest}
 use Rattle.sciview.specs.declared.choice.Command.{Command}
-use Rattle.sciview.specs.declared.choice.Command.TheVariants.{Order, Explain, Check, Packets, Trace, Lists, Stats, Chart, Random, Run, Outcomes, Help}
+use Rattle.sciview.specs.declared.choice.Command.TheVariants.{Order, Explain, Check, Judge, Packets, Trace, Lists, Stats, Chart, Random, Run, Outcomes, Help}
 use Rattle.sciview.specs.declared.choice.Command.TheVariants.{Version}
 
 -- an option that is one word, if it is given
@@ -44,6 +45,10 @@ asks_serials BySerial = true
 
 abbrev pub ChoosesOrder : List (List ℕ) → OrderRequest → Type 0
 ChoosesOrder words request = AreOptions words (flag (codes "--by-serial") (asks_serials request.keeps)) (flag (codes "--show") request.shows)
+
+-- what stands behind `judge`
+abbrev pub ChoosesJudge : List (List ℕ) → JudgeRequest → Type 0
+ChoosesJudge words request = words ≡ flag (codes "--times") request.timed
 
 -- what stands behind `trace`
 abbrev pub ChoosesTrace : List (List ℕ) → TraceRequest → Type 0
@@ -168,6 +173,7 @@ abbrev pub ChoosesBy : List ℕ → List (List ℕ) → Command → Type 0
 ChoosesBy word rest (Order request) = (word ≡ codes "order") × ChoosesOrder rest request
 ChoosesBy word rest Explain = (word ≡ codes "explain") × (rest ≡ [])
 ChoosesBy word rest Check = (word ≡ codes "check") × (rest ≡ [])
+ChoosesBy word rest (Judge request) = (word ≡ codes "judge") × ChoosesJudge rest request
 ChoosesBy word rest Packets = (word ≡ codes "packets") × (rest ≡ [])
 ChoosesBy word rest (Trace request) = (word ≡ codes "trace") × ChoosesTrace rest request
 ChoosesBy word rest (Lists line) = (word ≡ codes "lists") × ChoosesLine rest line

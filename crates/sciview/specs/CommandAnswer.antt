@@ -2,6 +2,7 @@
 use Rattle.std.specs.Prelude.{◌≡◌, ℕ, Bool, List, Option}
 use Rattle.sci_command.specs.declared.outcome.Outcome.{Outcome, TheVariants.{Done}}
 use Rattle.sciview.specs.declared.{choice.Command.{Command}, help.TheConstants.{HELP, VERSION}}
+use Rattle.sci_axe.specs.JudgeAnswer.{IsJudgeAnswer}
 use Rattle.sci_charts.specs.ChartAnswer.{IsChartAnswer}
 use Rattle.sci_reports.specs.{CheckAnswer.{IsCheckAnswer}, ExplainAnswer.{IsExplainAnswer}, OrderAnswer.{IsOrderAnswer}}
 use Rattle.sci_traces.specs.{ListsAnswer.{IsListsAnswer}, PacketsAnswer.{IsPacketsAnswer}, TraceAnswer.{IsTraceAnswer}}
@@ -15,6 +16,7 @@ abbrev pub IsAnswerTo : Command → Option (List ℕ) → Bool → List ℕ → 
 IsAnswerTo (commands.Order request) = IsOrderAnswer request
 IsAnswerTo commands.Explain = IsExplainAnswer
 IsAnswerTo commands.Check = IsCheckAnswer
+IsAnswerTo (commands.Judge request) = IsJudgeAnswer request
 IsAnswerTo commands.Packets = IsPacketsAnswer
 IsAnswerTo (commands.Trace request) = IsTraceAnswer request
 IsAnswerTo (commands.Lists line) = IsListsAnswer line

@@ -1,14 +1,15 @@
 //! The commands, each by its word.
 
-ghost use Rattle.std.specs.Prelude.{◌≡◌, false};
-ghost use Rattle.sci_text.specs.Tap.{has_failed};
-ghost use Rattle.sci_command.specs.Writing.{HasCarriedOut};
+ghost use Rattle.std.specs.Prelude.{◌≡◌, false, None};
+ghost use Rattle.sci_text.specs.Tap.{has_failed, is_called_again, tapped};
+ghost use Rattle.sci_command.specs.{Answer.{IsAnswerAlone}, Writing.{HasCarriedOut, HasWritten}, declared.outcome.Outcome.{Outcome}};
 ghost use Rattle.sciview.specs.CommandAnswer.{IsAnswerTo};
 
 use crate::choice::Command;
 use crate::help::{HELP, VERSION};
+use sci_axe::judge_trace;
 use sci_charts::chart;
-use sci_command::{Outcome, finish, write_answer};
+use sci_command::{Ended, Outcome, show, write_answer};
 use sci_outcomes::{outcomes_of, run};
 use sci_reports::{check, explain, order};
 use sci_statistics::stats;
@@ -19,37 +20,50 @@ use std::alloc::Global;
 use std::io::{Read, Write};
 use std::thread::Threads;
 
-/// Carries out a command: reads its input to the end, if it has one, and writes its answer. After the first read or write that fails
-/// nothing more is read or written.
+/// Writes words of the program's own.
+fn show_words<W: Write>(writer: &mut Tap<W>, words: &str) -> Ended
+    requires { has_failed writer.old ≡ false }
+    ensures written { HasWritten (W.contents (tapped writer.old)) (W.contents (tapped writer.new))
+        (has_failed writer.new) result.outcome
+        (λ text outcome. (outcome ≡ Outcome.Refused → ⊥)
+        × ((text ≡ words.now) × (outcome ≡ Outcome.Done))) }
+    ensures refusal { result.refusal ≡ None }
+    ensures again { is_called_again writer.new ≡ is_called_again writer.old }
+{
+    Ended {
+        outcome: write_answer(writer, words.as_bytes(), Outcome::Done),
+        refusal: None,
+    }
+}
+
+/// Carries out a command: reads its input to the end, if it has one, and writes its answer, or nothing if the input is refused.
+/// After the first read or write that fails nothing more is read or written.
 pub fn carried_out<T: Threads + Sync, R: Read, W: Write>(
     rt: &T,
     alloc: Global,
     command: Command,
     reader: &mut Tap<R>,
     writer: &mut Tap<W>,
-) -> Outcome
+) -> Ended
     requires reader { has_failed reader.old ≡ false }
     requires writer { has_failed writer.old ≡ false }
     ensures { HasCarriedOut R.remaining W.contents reader.old reader.new writer.old writer.new
-        result (IsAnswerTo command) }
+        result.outcome (IsAnswerAlone (IsAnswerTo command) result.refusal) }
 {
     match command {
-        Command::Order(request) => finish(alloc, writer, order(alloc, request, reader)),
-        Command::Explain => finish(alloc, writer, explain(alloc, reader)),
-        Command::Check => finish(alloc, writer, check(alloc, reader)),
-        Command::Packets => finish(alloc, writer, packets(alloc, reader)),
-        Command::Trace(request) => finish(alloc, writer, trace(alloc, request, reader)),
-        Command::Lists { line } => finish(alloc, writer, lists(alloc, line, reader)),
-        Command::Stats(request) => finish(alloc, writer, stats(alloc, request, reader)),
-        Command::Chart(request) => finish(alloc, writer, chart(alloc, request, reader)),
-        Command::Random { walk, dead } => {
-            finish(alloc, writer, random_schedule(alloc, &walk, dead))
-        }
-        Command::Run(request) => finish(alloc, writer, run(alloc, request, reader)),
-        Command::Outcomes(request) => {
-            finish(alloc, writer, outcomes_of(rt, alloc, request, reader))
-        }
-        Command::Help => write_answer(writer, HELP.as_bytes(), Outcome::Done),
-        Command::Version => write_answer(writer, VERSION.as_bytes(), Outcome::Done),
+        Command::Order(request) => show(writer, order(alloc, request, reader)),
+        Command::Explain => show(writer, explain(alloc, reader)),
+        Command::Check => show(writer, check(alloc, reader)),
+        Command::Judge(request) => show(writer, judge_trace(alloc, request, reader)),
+        Command::Packets => show(writer, packets(alloc, reader)),
+        Command::Trace(request) => show(writer, trace(alloc, request, reader)),
+        Command::Lists { line } => show(writer, lists(alloc, line, reader)),
+        Command::Stats(request) => show(writer, stats(alloc, request, reader)),
+        Command::Chart(request) => show(writer, chart(alloc, request, reader)),
+        Command::Random { walk, dead } => { show(writer, random_schedule(alloc, &walk, dead)) }
+        Command::Run(request) => show(writer, run(alloc, request, reader)),
+        Command::Outcomes(request) => { show(writer, outcomes_of(rt, alloc, request, reader)) }
+        Command::Help => show_words(writer, HELP),
+        Command::Version => show_words(writer, VERSION),
     }
 }

@@ -5,9 +5,10 @@ ghost use Rattle.sci_words.specs.declared.limits.TheConstants.{MAX_LINES, MAX_NO
 ghost use Rattle.sci_text.specs.Number.{number};
 ghost use Rattle.sci_charts.specs.declared.charting.{ChartRequest.{ChartRequest}, TextLines.{TextLines}};
 ghost use Rattle.sciview.specs.declared.choice.Command.{Command};
-ghost use Rattle.sciview.specs.Choice.{Chooses, ChoosesBy, ChoosesChart, ChoosesOrder, ChoosesOutcomes, ChoosesPace, ChoosesRun, ChoosesStats};
+ghost use Rattle.sciview.specs.Choice.{Chooses, ChoosesBy, ChoosesChart, ChoosesJudge, ChoosesOrder, ChoosesOutcomes, ChoosesPace, ChoosesRun, ChoosesStats};
 ghost use Rattle.sciview.specs.Choice.{ChoosesTrace, ChoosesTurnOrder, ChoosesWalk, ChoosesWords, FitsDead, FitsEvents, FitsLine, FitsNode, FitsTurns};
 ghost use Rattle.sciview.specs.Choice.{FitsWalk, dead_words, events_words, flag, is_in_order, line_words, node_words, turns_words, walk_words};
+ghost use Rattle.sci_axe.specs.declared.judging.JudgeRequest.{JudgeRequest};
 ghost use Rattle.sci_reports.specs.declared.ordering.OrderRequest.{OrderRequest};
 ghost use Rattle.sci_walks.specs.declared.random.Walk.{Walk};
 ghost use Rattle.sci_drive.specs.declared.driver.Issuing.{Issuing};
@@ -15,6 +16,8 @@ ghost use Rattle.sci_outcomes.specs.declared.{outcomes_report.OutcomesRequest.{O
 ghost use Rattle.sci_statistics.specs.declared.counting.StatsRequest.{StatsRequest};
 ghost use Rattle.sci_traces.specs.declared.tracing.TraceRequest.{TraceRequest};
 
+use crate::usage::Complaint;
+use sci_axe::JudgeRequest;
 use sci_charts::{ChartRequest, TextLines};
 use sci_command::texts_of;
 use sci_drive::Issuing;
@@ -38,6 +41,8 @@ pub enum Command {
     Explain,
     /// Write which kind of text the input is, or why it is none.
     Check,
+    /// Write whether a trace without versions is coherent.
+    Judge(JudgeRequest),
     /// Write the bytes of the packets that a schedule sends.
     Packets,
     /// Write what each event of a schedule does.
@@ -58,6 +63,27 @@ pub enum Command {
     Help,
     /// Write which version of the program it is.
     Version,
+}
+
+impl Command {
+    /// The program and the word that chooses the command, as its messages name it.
+    pub fn name(self) -> &'static str {
+        match self {
+            Command::Order(_) => "sciview order",
+            Command::Explain => "sciview explain",
+            Command::Check => "sciview check",
+            Command::Judge(_) => "sciview judge",
+            Command::Packets => "sciview packets",
+            Command::Trace(_) => "sciview trace",
+            Command::Lists { .. } => "sciview lists",
+            Command::Stats(_) => "sciview stats",
+            Command::Chart(_) => "sciview chart",
+            Command::Random { .. } => "sciview random",
+            Command::Run(_) => "sciview run",
+            Command::Outcomes(_) => "sciview outcomes",
+            Command::Help | Command::Version => "sciview",
+        }
+    }
 }
 
 /// The line that a word says, from 0 to 63. None if it says none.
@@ -221,6 +247,18 @@ fn words_choice(words: &[&str]) -> Option<TraceRequest>
                 line,
             })
         }
+        _ => None,
+    }
+}
+
+/// What the words behind `judge` ask for: `--times`, or no word. None if they say neither.
+fn judge_choice(words: &[&str]) -> Option<JudgeRequest>
+    ensures { (request : JudgeRequest) → (result ≡ Some request) ↔
+        ChoosesJudge (map (λ word. word.now) words.now) request }
+{
+    match words {
+        [] => Some(JudgeRequest { timed: false }),
+        ["--times"] => Some(JudgeRequest { timed: true }),
         _ => None,
     }
 }
@@ -444,6 +482,7 @@ fn chosen_by(word: &str, rest: &[&str]) -> Option<Command>
 {
     match word {
         "order" => Some(Command::Order(order_choice(rest)?)),
+        "judge" => Some(Command::Judge(judge_choice(rest)?)),
         "trace" => Some(Command::Trace(trace_choice(rest)?)),
         "lists" => Some(Command::Lists {
             line: line_choice(rest)?,
@@ -484,9 +523,20 @@ pub fn choice_of(alloc: Global, words: &[String]) -> Result<Option<Command>, All
     Ok(chosen(&texts))
 }
 
-/// The command that the program was asked to do, or None if the command line chooses none. It fails if the command line
-/// can't be read, or memory is refused. No contract says what a command line has: `choice_of` has the contract.
-pub fn asked(rt: &(impl Env + AllocGlobal)) -> io::Result<Option<Command>> {
-    let words: Vec<String> = env::args(rt)?.skip(1).collect(rt.alloc())?;
-    Ok(choice_of(rt.alloc(), &words)?)
+/// The words of the command line, the program's own name left out. It fails if they can't be read, or memory is refused.
+fn words_of(rt: &(impl Env + AllocGlobal)) -> io::Result<Vec<String>> {
+    Ok(env::args(rt)?.skip(1).collect(rt.alloc())?)
+}
+
+/// The command that the program was asked to do, or what is said if the command line chooses none, can't be read, or takes
+/// memory that is refused. No contract says what a command line has: `choice_of` has the contract.
+pub fn asked(rt: &(impl Env + AllocGlobal)) -> Result<Command, Complaint> {
+    let Ok(words) = words_of(rt) else {
+        return Err(Complaint::of_no_command());
+    };
+    match choice_of(rt.alloc(), &words) {
+        Ok(Some(command)) => Ok(command),
+        Ok(None) => Err(Complaint::of(&words)),
+        Err(_) => Err(Complaint::of_no_command()),
+    }
 }

@@ -1,8 +1,8 @@
 //! What the program says of itself.
 
-/// The words that the program knows.
+/// How the program is called.
 pub const USAGE: &str =
-    "usage: sciview order [--by-serial] [--show] | explain | check | packets | trace [--json] [--strict] [--line L] | lists [--line L] | stats [--line L] [--node N] | chart [--line L] [--events FIRST LAST] | random N M C EVENTS SEED [--dead K] | run [--seed S] [--in-order] [--turns T] | outcomes [--runs R] [--seed S | --threads] [--in-order] | --help | --version";
+    "usage: sciview COMMAND [OPTIONS]; COMMAND is order, explain, judge, check, packets, trace, lists, stats, chart, random, run or outcomes";
 
 /// What stands below the usage line on standard error.
 pub const MANUAL: &str =
@@ -13,10 +13,24 @@ pub const VERSION: &str = "sciview 0.1.0\n";
 
 /// What `--help` writes.
 pub const HELP: &str = "\
-usage: sciview order [--by-serial] [--show] | explain | check | packets | trace [--json] [--strict] [--line L] | lists [--line L] | stats [--line L] [--node N] | chart [--line L] [--events FIRST LAST] | random N M C EVENTS SEED [--dead K] | run [--seed S] [--in-order] [--turns T] | outcomes [--runs R] [--seed S | --threads] [--in-order] | --help | --version
+usage: sciview COMMAND [OPTIONS]
+
+  order      whether one order of all entries explains a log, or a cycle
+  explain    what is wrong with a log, and what would be right
+  judge      whether another machine's trace is coherent, and else why not
+  run        the schedule of a script's run
+  outcomes   how often each outcome of a script comes
+  check      what a text is, or where and why it is none
+  packets    the bytes of the packets that a schedule sends
+  trace      what each event of a schedule does, or why it isn't enabled
+  lists      the sharing lists behind a schedule's events
+  stats      figures of a schedule
+  chart      a picture of a schedule in SVG
+  random     a schedule that is drawn from a seed
 
 Each command of a text reads it from standard input, to its end.
-Each command writes standard output.
+Each command writes standard output. If its input is refused, it writes nothing
+there, and standard error says what is wrong.
 
 of a log:
   order [--by-serial] [--show]
@@ -27,6 +41,13 @@ of a log:
   explain           of each line of memory that has a fault: the entry at fault,
                     what one memory of one thread gives there, and the entries
                     around it
+
+of a trace of another machine, which has no versions:
+  judge [--times]   `coherent`, `undecided at A`, or `not coherent at A` with the
+                    operations that show it, each with its line. With --times
+                    what ended before another operation at its address began
+                    has to stand before it. The text is in the notation of Axe:
+                    `0: M[8] := 5 @ 100:110` is a store, `1: M[8] == 5` a load
 
 of a script:
   run [--seed S] [--in-order] [--turns T]
@@ -42,9 +63,9 @@ of a script:
                     and whether one memory explains it in the order of the script
 
 of a script, a schedule or a log:
-  check             which of these it is, and its size; or the refusal, and a
-                    line that says where and why: the column, what was expected
-                    there, and what stands there
+  check             which of these it is, and its size; or, on standard error,
+                    where and why it is none: the line, the column, what was
+                    expected there, and what stands there
 
 of a schedule:
   packets           the bytes of all packets that it sends, one after another:
@@ -80,7 +101,7 @@ of the program:
   --version         the program's name and version
 
 The exit status is 0; or 1 if the log isn't lawful, or isn't sequentially
-consistent, if a strict trace met an event that isn't enabled, or if a run used
+consistent, if the trace isn't coherent or that is undecided, if a strict trace met an event that isn't enabled, or if a run used
 up its turns; or 2 if the input or a number was refused or the output couldn't
 be written.
 ";

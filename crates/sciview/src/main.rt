@@ -4,19 +4,27 @@
 mod carrying_out;
 mod choice;
 mod help;
+mod usage;
 
 use carrying_out::carried_out;
 use choice::asked;
-use help::{MANUAL, USAGE};
+use sci_command::Output;
 use sci_text::Tap;
 use std::process::ExitCode;
 
 fn main(rt: HostRuntime) -> ExitCode {
-    let Ok(Some(command)) = asked(&rt) else {
-        let _ = eprintln!(rt; "{USAGE}\n{MANUAL}");
-        return ExitCode::from(2);
+    let command = match asked(&rt) {
+        Ok(command) => command,
+        Err(complaint) => {
+            let _ = eprintln!(rt; "{complaint}");
+            return ExitCode::from(2);
+        }
     };
+    let mut output = Output::new(rt.stdout());
     let mut reader = Tap::new(rt.stdin());
-    let mut writer = Tap::new(rt.stdout());
-    carried_out(&rt, rt.alloc(), command, &mut reader, &mut writer).exit_code()
+    let mut writer = Tap::new(&mut output);
+    let ended = carried_out(&rt, rt.alloc(), command, &mut reader, &mut writer);
+    let mut errors = Tap::new(rt.stderr());
+    ended.tell(rt.alloc(), &mut errors, command.name(), output.is_broken());
+    ended.outcome.exit_code()
 }

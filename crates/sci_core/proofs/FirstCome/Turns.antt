@@ -17,6 +17,8 @@ use Rattle.sci_core.proofs.Shape.ShapeClauses.{stands_as}
 use Rattle.sci_core.proofs.Shape.Shapes.{Asks, IsShaped, after, before, claimed_list, fronts_list, home_sent, stays_alike}
 use Rattle.sci_core.proofs.Shape.Standings.{Alike, Coming, Following, Leading, Role, role_of}
 use Rattle.sci_core.proofs.Shape.Views.{Shift, View, link_in}
+use Rattle.sci_cache.specs.Accepting.{settled}
+use Rattle.sci_core.proofs.Shape.Views.{settled_in}
 use Rattle.sci_packets.specs.declared.body.Body.TheVariants as body
 use Rattle.sci_home.specs.declared.state.HomeState.TheVariants as at
 
@@ -72,7 +74,8 @@ turned_alike old new first ns alike list = turned_same old new first ns (λ n. s
 
 -- the asker's role, if it gets one that doesn't lead, and every other's
 others_lead : (old new : View) (a : ℕ) (asker : CacheState) (body : Body) → Asks old new a asker body
-    → (role_of asker (Some body) ≡ Some Leading → role_of asker None ≡ Some Leading) → (n : ℕ) → role_in new n ≡ Some Leading → role_in old n ≡ Some Leading
+    → (role_of (settled asker (Some body)) ≡ Some Leading → role_of asker ≡ Some Leading) → (n : ℕ) → role_in new n ≡ Some Leading
+    → role_in old n ≡ Some Leading
 others_lead old new a asker body asks so n leads =
     elim (cases_eq n a) [
       | inl here ↦ ap (role_in old) here
@@ -82,8 +85,8 @@ others_lead old new a asker body asks so n leads =
 
 -- the asker enters a list that is led, at its front
 enters_front : (old new : View) (home home' : HomeState) (a : ℕ) (asker : CacheState) (body : Body) (ns : List ℕ) → Asks old new a asker body
-    → link_of asker None ≡ None → link_of asker (Some body) ≡ Some (head_of home) → head_of home' ≡ Some a
-    → role_of asker (Some body) ≡ Some Coming → IsListOf (link_in old) (head_of home) ns → Turned old new (head_of home') ns (a ∷ [])
+    → link_of asker ≡ None → link_of (settled asker (Some body)) ≡ Some (head_of home) → head_of home' ≡ Some a
+    → role_of (settled asker (Some body)) ≡ Some Coming → IsListOf (link_in old) (head_of home) ns → Turned old new (head_of home') ns (a ∷ [])
 enters_front old new home home' a asker body ns asks none joins head comes list =
     let absent : IsAmong a ns → ⊥ = not_in (link_in old) (head_of home) ns a (before link_of old new a asker body asks ∙ none) list in
     let same = coming_same old new ns (λ n h. same_role old new n (asks.others n (λ e. absent (subst (λ (m : ℕ). IsAmong m ns) e h)))) in
@@ -93,14 +96,15 @@ enters_front old new home home' a asker body ns asks none joins head comes list 
       nodes = a ∷ ns;
       list = fronts_list old new home home' a asker body ns asks none joins head list;
       successor = [];
-      succeeds = Nobody refl (others_lead old new a asker body asks (λ e. absurd (roles_differ Coming Leading (role_of asker (Some body)) comes e (λ s. cc))));
+      succeeds = Nobody refl (others_lead old new a asker body asks
+          (λ e. absurd (roles_differ Coming Leading (role_of (settled asker (Some body))) comes e (λ s. cc))));
       turn = sym now ∙ sym (append-nil (coming_in new (a ∷ ns)));
     }
 
 -- the asker is the only one, and leads
 enters_alone : (old new : View) (home' : HomeState) (c : Stamped) (a : ℕ) (asker : CacheState) (body : Body) (ns : List ℕ) → Asks old new a asker body
-    → link_of asker None ≡ None → link_of asker (Some body) ≡ Some None → head_of home' ≡ Some a
-    → role_of asker (Some body) ≡ Some Leading → (role_of asker None ≡ Some Leading → ⊥) → IsListOf (link_in old) None ns
+    → link_of asker ≡ None → link_of (settled asker (Some body)) ≡ Some None → head_of home' ≡ Some a
+    → role_of (settled asker (Some body)) ≡ Some Leading → (role_of asker ≡ Some Leading → ⊥) → IsListOf (link_in old) None ns
     → Turned old new (head_of home') ns (a ∷ [])
 enters_alone old new home' c a asker body ns asks none joins head leads not list =
     let empty : coming_in old ns ≡ [] = ap (coming_in old) (none_empty (link_in old) None ns refl list) in
@@ -167,8 +171,8 @@ front_leads view first a (n ∷ ns) head leads linked = grind (arith, coming_end
 
 -- the only one leaves
 leaves_turns : (old new : View) (home : HomeState) (back : Stamped) (p a : ℕ) (asker : CacheState) → head_of home ≡ Some p → p ≡ a
-    → link_of asker None ≡ Some None → link_of asker (Some body.Wbok) ≡ None
-    → role_of asker None ≡ Some Leading → (role_of asker (Some body.Wbok) ≡ Some Leading → ⊥) → HomeTurns old new a asker home [] (at.Home back, body.Wbok)
+    → link_of asker ≡ Some None → link_of (settled asker (Some body.Wbok)) ≡ None
+    → role_of asker ≡ Some Leading → (role_of (settled asker (Some body.Wbok)) ≡ Some Leading → ⊥) → HomeTurns old new a asker home [] (at.Home back, body.Wbok)
 leaves_turns old new home back p a asker head same ends gone leads not asks ns list = record {
   nodes = [];
   list = chain_gone (link_in old) (link_in new) (head_of home) None a ns (head ∙ ap Some same) (before link_of old new a asker body.Wbok asks ∙ ends)
@@ -255,7 +259,7 @@ joined_turned old new a q home c ns joined is =
 
 -- the node that leads is a member
 leading_linked : (view : View) (n : ℕ) → link_in view n ≡ None → role_in view n ≡ Some Leading → ⊥
-leading_linked view n none leads = let member = (stands_as (view.state n) (view.answer n) (Some Leading) leads).member in cc
+leading_linked view n none leads = let member = (stands_as (settled_in view n) (Some Leading) leads).member in cc
 
 -- one that follows leaves
 left_turned : (old new : View) (x y : ℕ) (home : HomeState) (c : Stamped) (ns : List ℕ) → LeftAt old new x y → IsShaped old home c ns

@@ -9,11 +9,13 @@ use Rattle.sci_cache.specs.Cache.{line_of, with_line}
 use Rattle.sci_core.specs.declared.pending.Pending.{Pending}
 use Rattle.sci_core.specs.Node.{NodeOf, IsNode, IsPendingOn, pending_on, may_issue, node_issued, node_issuing, performed_by, node_performing}
 use Rattle.sci_core.specs.{Core.{Core, node_at}, Reached.{IsReached}}
-use Rattle.sci_core.specs.Sharing.{packets_of, answer_in, answer_to, sharer_of, authority_contents, contents_held, last_at}
+use Rattle.sci_core.specs.Sharing.{packets_of, answer_in, answer_to, settled_at, last_at}
 use Rattle.sci_core.specs.Work.{IsIssued, IsLogged}
 use Rattle.sci_core.proofs.{Step.{NodeSides.{perform_as}, Nodes.{some_below}}, Basics.Options.{of_some}}
 use Rattle.sci_core.proofs.WellFormed.{Ranges.{reached_contents}, WellFormedSteps.{reached_well}}
 use Rattle.sci_core.proofs.{ReachedLaws.{reached_shapes}, Tidy.{TidyRuns.{reached_tidy}, RowWaits.{idle_has_none}}}
+use Rattle.sci_cache.specs.Accepting.{settled}
+use Rattle.sci_cache.specs.Member.{contents_held}
 
 -- ---- Issue
 
@@ -66,10 +68,10 @@ sole_performs core n line pending c reached lt inside at sole =
     let quiet = idle_has_none (line % core.size.nodes) (line_of node.cache line) (packets_of core n line) (ap waits sole)
     (reached_tidy core reached n line lt inside) in
     let told : answer_to core n line ≡ None = ap answer_in quiet in
-    let held : authority_contents (sharer_of core line n) ≡ Some c =
-    ap (λ (s : CacheState). contents_held s (answer_to core n line)) sole ∙ ap (contents_held (Head None c)) told in
+    let held : contents_held (settled_at core line n) ≡ Some c =
+    ap contents_held (ap (settled (line_of node.cache line).state) told ∙ sole) in
     let last : c ≡ last_at core line =
-    of_some (λ (d : Stamped). d ≡ last_at core line) (authority_contents (sharer_of core line n)) c held
+    of_some (λ (d : Stamped). d ≡ last_at core line) (contents_held (settled_at core line n)) c held
     ((reached_shapes core reached line inside).contents.authority n) in
     let few = (reached_contents core line reached inside).version in
     let version = ap (λ (s : Stamped). s.version) last in

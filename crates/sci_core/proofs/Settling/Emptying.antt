@@ -12,11 +12,12 @@ use Rattle.sci_core.specs.{Core.{Core, node_at}, Draining.{IsDrained}, Node.{Nod
 use Rattle.sci_core.specs.Reached.{IsReached}
 use Rattle.sci_core.specs.Rounds.{At_home, In_cache, IsRepliedTo, IsNext, IsRound, IsServed, Joins, Parts, Tells, entry_rank, is_head, is_telling}
 use Rattle.sci_core.specs.{Rounds.{joins_before, parting, rank, server_of}, Shape.{state_at}, Sharing.{home_at}}
-use Rattle.sci_core.specs.{Fresh.{is_fresh}, WellFormed.{NamesNodes}}
+use Rattle.sci_core.specs.{WellFormed.{NamesNodes}}
 use Rattle.sci_core.proofs.{Shape.Standings.{role_of}, WellFormed.WellFormedSteps.{reached_well}}
 use Rattle.sci_core.proofs.Settling.Ranks.{Pair, rank_shift, rank_two}
 use Rattle.sci_core.proofs.Settling.Resting.{Quiet, head_first, home_fresh, home_gone, line_known, next_below, next_fresh, out_beyond, quiet}
 use Rattle.sci_core.proofs.{Settling.Shifts.{Shifts}, Basics.Options.{same_some}}
+use Rattle.sci_cache.specs.Member.{is_fresh}
 use Rattle.sci_words.specs.declared.event.AskKind.TheVariants as kind
 use Rattle.sci_packets.specs.declared.body.Body.TheVariants as body
 use Rattle.sci_home.specs.declared.state.HomeState.TheVariants as at
@@ -316,11 +317,11 @@ joins_lower core n line a reached q lt inside head joins =
       | inr fresh_joining ↦
           let c = fresh_joining.0 in
           let is = fresh_joining.1 in
-          let fresh = next_fresh core line n a q (ap (λ (s : CacheState). role_of s None) is) (ap (λ (s : CacheState). link_of s None) is)
-          (ap (λ (s : CacheState). is_fresh s None) is) in
+          let fresh = next_fresh core line n a q (ap role_of is) (ap link_of is)
+          (ap is_fresh is) in
           lowers_so core n line kind.Cread (FreshJoining a false c) (record { to = Some a; request = body.Cread; next = FreshJoining a true c }) reached lt
           inside is refl refl (λ new k. elim (one_of (state_at core line a) head) [
-            | inl stale ↦ (let not : is_fresh (state_at core line a) None ≡ false = ap (λ (s : CacheState). is_fresh s None) stale.2 in
+            | inl stale ↦ (let not : is_fresh (state_at core line a) ≡ false = ap is_fresh stale.2 in
                 let clash : true ≡ false = sym fresh ∙ not in absurd cc)
             | inr also ↦ fresh_join_lowers core new n line a c also.0 also.1 lt below inside is also.2 k
           ])
@@ -329,11 +330,11 @@ joins_lower core n line a reached q lt inside head joins =
 head_parts : (core : Core) (n line : ℕ) (f : Option ℕ) (c : Stamped) → IsReached core → Quiet core line → n < core.size.nodes → line < core.size.lines
     → state_at core line n ≡ Head f c → head_of (home_at core line) ≡ Some n → Lowers core n line (parting (Head f c))
 head_parts core n line None c reached q lt inside is first =
-    let gone = home_gone core line n q first (ap (λ (s : CacheState). is_fresh s None) is) in
+    let gone = home_gone core line n q first (ap is_fresh is) in
     lowers_so core n line kind.Wback (Head None c) (record { to = None; request = body.Wback c; next = Returning c }) reached lt inside is refl refl
     (λ new k. wback_lowers core new n line c lt inside is gone k)
 head_parts core n line (Some m) c reached q lt inside is first =
-    let next = next_below core line n m q (ap (λ (s : CacheState). role_of s None) is) (ap (λ (s : CacheState). link_of s None) is) in
+    let next = next_below core line n m q (ap role_of is) (ap link_of is) in
     let names = ((reached_well core reached).each_part n lt).states line in
     let below : m < core.size.nodes = subst (NamesNodes core.size.nodes) is names in
     lowers_so core n line kind.Purge (Head (Some m) c) (record { to = Some m; request = body.Purge; next = Purging m c }) reached lt inside is refl refl
@@ -342,11 +343,11 @@ head_parts core n line (Some m) c reached q lt inside is first =
 fresh_parts : (core : Core) (n line : ℕ) (f : Option ℕ) (c : Stamped) → IsReached core → Quiet core line → n < core.size.nodes → line < core.size.lines
     → state_at core line n ≡ FreshHead f c → head_of (home_at core line) ≡ Some n → Lowers core n line (parting (FreshHead f c))
 fresh_parts core n line None c reached q lt inside is first =
-    let fresh = home_fresh core line n q first (ap (λ (s : CacheState). is_fresh s None) is) in
+    let fresh = home_fresh core line n q first (ap is_fresh is) in
     lowers_so core n line kind.Clear (FreshHead None c) (record { to = None; request = body.Clear; next = Clearing c }) reached lt inside is refl refl
     (λ new k. clear_lowers core new n line c fresh.0 lt inside is fresh.1 k)
 fresh_parts core n line (Some m) c reached q lt inside is first =
-    let fresh = home_fresh core line n q first (ap (λ (s : CacheState). is_fresh s None) is) in
+    let fresh = home_fresh core line n q first (ap is_fresh is) in
     lowers_so core n line kind.Claim (FreshHead (Some m) c) (record { to = None; request = body.Claim; next = Claiming (Some m) c }) reached lt inside is refl
     refl (λ new k. claim_lowers core new n line (Some m) c fresh.0 lt inside is fresh.1 k)
 

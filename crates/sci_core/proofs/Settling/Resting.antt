@@ -4,7 +4,6 @@ use Rattle.std.proofs.{Common.{subst, rules, ◌∙◌, arith, inl, inr}, lemmas
 use Rattle.std.proofs.lemmas.List.{get_or_past}
 use Rattle.std.specs.{Prelude.{option_to_list, IsSome}, List.{flat_map}}
 use Rattle.sci_words.specs.declared.stamped.Stamped.{Stamped}
-use Rattle.sci_packets.specs.declared.body.Body.{Body}
 use Rattle.sci_home.specs.{declared.state.HomeState.{HomeState}, Serving.{head_of}}
 use Rattle.sci_cache.specs.State.{CacheState, Out, Joining, FreshJoining, Head, FreshHead, Below, Rolling, waits}
 use Rattle.sci_cache.specs.{Member.{link_of}, Cache.{Letter, line_of}}
@@ -13,14 +12,16 @@ use Rattle.sci_core.proofs.{Basics.Options.{found}, Shape.Chains.{next_of}}
 use Rattle.sci_core.proofs.Shape.Led.{IsLed, following_in, fresh_in, role_in, roles_differ}
 use Rattle.sci_core.proofs.Shape.{ShapeClauses.{led_leader, leads_member, member_below}, ShapeSteps.{view_of}}
 use Rattle.sci_core.proofs.Shape.{Shapes.{IsShaped}, Standings.{Coming, Following, Leading, role_of}}
-use Rattle.sci_core.proofs.{Shape.{StaleFronts.{any_stale}, Views.{View, link_in}}, ReachedLaws.{any_shaped}}
+use Rattle.sci_core.proofs.{Shape.{StaleFronts.{any_stale}, Views.{View, link_in, settled_in}}, ReachedLaws.{any_shaped}}
 use Rattle.sci_core.proofs.{Tidy.TidyRuns.{reached_tidy}, FirstCome.Turns.{led_of}}
 use Rattle.sci_core.proofs.WellFormed.WellFormedSteps.{reachable, reached_well}
-use Rattle.sci_core.specs.{Core.{Core, node_at}, Draining.{IsDrained}, Fresh.{is_fresh}}
+use Rattle.sci_core.specs.{Core.{Core, node_at}, Draining.{IsDrained}}
 use Rattle.sci_core.specs.{Node.{NodeOf, lines_of, no_node}, Reached.{IsReached}}
 use Rattle.sci_core.specs.{Rounds.{is_head, is_telling, joins_before}, Shape.{IsGoneStale, state_at}}
 use Rattle.sci_core.specs.Sharing.{answer_in, home_at, is_about, packets_of, under_way, answer_to as told}
 use Rattle.sci_core.specs.{SharingList.{LinkedFrom}, Tidy.{HasItsPackets}}
+use Rattle.sci_cache.specs.Accepting.{settled}
+use Rattle.sci_cache.specs.Member.{is_fresh}
 use Rattle.sci_home.specs.declared.state.HomeState.TheVariants as at
 
 -- ---- nothing is under way
@@ -75,10 +76,10 @@ quiet core line reached drained inside =
       stale = any_stale core line (reachable core reached) inside;
     }
 
--- what a function of state and answer gives
-pub seen : {X : Type 0} (f : CacheState → Option Body → X) (core : Core) (line n : ℕ) (s : CacheState) → Quiet core line → state_at core line n ≡ s
-    → f ((view_of core line).state n) ((view_of core line).answer n) ≡ f s None
-seen f core line n s q is = ap (f (state_at core line n)) (q.none n) ∙ ap (λ (x : CacheState). f x None) is
+-- what a function of the settled state gives
+pub seen : {X : Type 0} (f : CacheState → X) (core : Core) (line n : ℕ) (s : CacheState) → Quiet core line → state_at core line n ≡ s
+    → f (settled_in (view_of core line) n) ≡ f s
+seen f core line n s q is = ap f (ap (settled (state_at core line n)) (q.none n) ∙ is)
 
 -- ---- lists
 
@@ -123,22 +124,22 @@ fresh_behind view c must first (x ∷ xs) n q (front, inr comes) linked (inr h) 
 -- ---- of a line at rest
 
 -- a member that comes and waits for nothing is to join before the next entry
-coming_joins : (s : CacheState) (n : ℕ) → role_of s None ≡ Some Coming → link_of s None ≡ Some (Some n) → joins_before s n ≡ true
+coming_joins : (s : CacheState) (n : ℕ) → role_of s ≡ Some Coming → link_of s ≡ Some (Some n) → joins_before s n ≡ true
 coming_joins (Joining p sent) n role link = (let same : p ≡ n = cc in eq-eqb p n same)
 coming_joins (FreshJoining p sent c) n role link = (let same : p ≡ n = cc in eq-eqb p n same)
 coming_joins _ n role link = cc
 
-leading_is : (s : CacheState) → role_of s None ≡ Some Leading → waits s ≡ false → is_head s ≡ true
+leading_is : (s : CacheState) → role_of s ≡ Some Leading → waits s ≡ false → is_head s ≡ true
 leading_is (Head f c) role quiet = refl
 leading_is (FreshHead f c) role quiet = refl
 leading_is _ role quiet = cc
 
-pub head_leads : (s : CacheState) → is_head s ≡ true → role_of s None ≡ Some Leading
+pub head_leads : (s : CacheState) → is_head s ≡ true → role_of s ≡ Some Leading
 head_leads (Head f c) is = refl
 head_leads (FreshHead f c) is = refl
 head_leads _ is = cc
 
-linked_if : (s : CacheState) → waits s ≡ false → is_telling s ≡ false → (s ≡ Out) ⊎ IsSome (link_of s None)
+linked_if : (s : CacheState) → waits s ≡ false → is_telling s ≡ false → (s ≡ Out) ⊎ IsSome (link_of s)
 linked_if Out quiet not = search rules
 linked_if _ quiet not = search rules
 
@@ -153,7 +154,7 @@ all_out core line reached drained inside tellers heads n =
       | inl below ↦ elim (linked_if (state_at core line n) (q.waits n) (tellers n below)) [
         | inl out ↦ out
         | inr some ↦
-            let linked = found (link_of (state_at core line n) None) some in
+            let linked = found (link_of (state_at core line n)) some in
             let link : link_in view n ≡ Some linked.0 = seen link_of core line n (state_at core line n) q refl ∙ linked.1 in
             let led = led_of view (home_at core line) q.contents q.nodes n q.is (q.is.list.all n linked.0 link) in
             let leader = led_leader view q.contents led.0 q.nodes led.1 in
@@ -186,13 +187,13 @@ head_first core line n reached q head none =
     cc))
 
 -- the next after a head is below it
-below_is : (s : CacheState) → role_of s None ≡ Some Following → waits s ≡ false → (f : Option ℕ) × (b : ℕ) × (c : Stamped) × (s ≡ Below f b c)
+below_is : (s : CacheState) → role_of s ≡ Some Following → waits s ≡ false → (f : Option ℕ) × (b : ℕ) × (c : Stamped) × (s ≡ Below f b c)
 below_is (Below f b c) role quiet = (f, b, c, refl)
 below_is (Rolling f b c) role quiet = cc
 below_is _ role quiet = cc
 
-pub next_below : (core : Core) (line n m : ℕ) → Quiet core line → role_of (state_at core line n) None ≡ Some Leading
-    → link_of (state_at core line n) None ≡ Some (Some m) → (f : Option ℕ) × (b : ℕ) × (c : Stamped) × (state_at core line m ≡ Below f b c)
+pub next_below : (core : Core) (line n m : ℕ) → Quiet core line → role_of (state_at core line n) ≡ Some Leading
+    → link_of (state_at core line n) ≡ Some (Some m) → (f : Option ℕ) × (b : ℕ) × (c : Stamped) × (state_at core line m ≡ Below f b c)
 next_below core line n m q role link =
     let view = view_of core line in
     let leads : role_in view n ≡ Some Leading = seen role_of core line n (state_at core line n) q refl ∙ role in
@@ -203,8 +204,8 @@ next_below core line n m q role link =
     below_is (state_at core line m) (sym (seen role_of core line m (state_at core line m) q refl) ∙ follows) (q.waits m)
 
 -- the next after a fresh member that comes is fresh
-pub next_fresh : (core : Core) (line n m : ℕ) → Quiet core line → role_of (state_at core line n) None ≡ Some Coming
-    → link_of (state_at core line n) None ≡ Some (Some m) → is_fresh (state_at core line n) None ≡ true → is_fresh (state_at core line m) None ≡ true
+pub next_fresh : (core : Core) (line n m : ℕ) → Quiet core line → role_of (state_at core line n) ≡ Some Coming
+    → link_of (state_at core line n) ≡ Some (Some m) → is_fresh (state_at core line n) ≡ true → is_fresh (state_at core line m) ≡ true
 next_fresh core line n m q role link fresh =
     let view = view_of core line in
     let comes : role_in view n ≡ Some Coming = seen role_of core line n (state_at core line n) q refl ∙ role in
@@ -224,29 +225,29 @@ front_fresh view c p n first (x ∷ xs) head led linked = (let here : x ≡ n = 
 
 -- a head that isn't fresh, under a home whose contents are gone
 gone_so : (core : Core) (line n : ℕ) (home : HomeState) → Quiet core line → home_at core line ≡ home → head_of home ≡ Some n
-    → is_fresh (state_at core line n) None ≡ false → home ≡ at.Gone n
+    → is_fresh (state_at core line n) ≡ false → home ≡ at.Gone n
 gone_so core line n (at.Home d) q is head stale = cc
 gone_so core line n (at.Fresh p d) q is head stale =
     let view = view_of core line in
     let shaped = subst (λ (h : HomeState). IsShaped view h q.contents q.nodes) is q.is in
     let fresh = front_fresh view q.contents p n (Some p) q.nodes head shaped.led.1 shaped.list.linked in
-    let now : is_fresh (state_at core line n) None ≡ true = sym (seen is_fresh core line n (state_at core line n) q refl) ∙ fresh in
+    let now : is_fresh (state_at core line n) ≡ true = sym (seen is_fresh core line n (state_at core line n) q refl) ∙ fresh in
     let clash : true ≡ false = sym now ∙ stale in
     cc
 gone_so core line n (at.Gone p) q is head stale = (let same : p ≡ n = cc in ap at.Gone same)
 
-pub home_gone : (core : Core) (line n : ℕ) → Quiet core line → head_of (home_at core line) ≡ Some n → is_fresh (state_at core line n) None ≡ false
+pub home_gone : (core : Core) (line n : ℕ) → Quiet core line → head_of (home_at core line) ≡ Some n → is_fresh (state_at core line n) ≡ false
     → home_at core line ≡ at.Gone n
 home_gone core line n q head stale = gone_so core line n (home_at core line) q refl head stale
 
 -- a fresh head, under a fresh home
 fresh_so : (core : Core) (line n : ℕ) (home : HomeState) → Quiet core line → home_at core line ≡ home → head_of home ≡ Some n
-    → is_fresh (state_at core line n) None ≡ true → (d : Stamped) × (home ≡ at.Fresh n d)
+    → is_fresh (state_at core line n) ≡ true → (d : Stamped) × (home ≡ at.Fresh n d)
 fresh_so core line n (at.Home d) q is head fresh = cc
 fresh_so core line n (at.Fresh p d) q is head fresh = (let same : p ≡ n = cc in (d, ap (λ (k : ℕ). at.Fresh k d) same))
 fresh_so core line n (at.Gone p) q is head fresh = grind (arith, seen, fresh_in, view_of)
 
-pub home_fresh : (core : Core) (line n : ℕ) → Quiet core line → head_of (home_at core line) ≡ Some n → is_fresh (state_at core line n) None ≡ true
+pub home_fresh : (core : Core) (line n : ℕ) → Quiet core line → head_of (home_at core line) ≡ Some n → is_fresh (state_at core line n) ≡ true
     → (d : Stamped) × (home_at core line ≡ at.Fresh n d)
 home_fresh core line n q head fresh = fresh_so core line n (home_at core line) q refl head fresh
 

@@ -9,62 +9,65 @@ use Rattle.sci_cache.specs.State.{CacheState, Out, Asking, Joining, FreshJoining
 use Rattle.sci_cache.specs.{State.{Telling, Fading, waits}, Accepting.{accepting}}
 use Rattle.sci_cache.specs.Serving.{serving, is_next, serving_cread, serving_purge, serving_roll, serving_setback}
 use Rattle.sci_cache.specs.{Member.{link_of}, Cache.{Letter}}
-use Rattle.sci_core.specs.{Fresh.{is_fresh}, Tidy.{IsSentIn, IsAccepted}}
+use Rattle.sci_core.specs.{Tidy.{IsSentIn, IsAccepted}}
 use Rattle.sci_history.specs.Seen.{IsAmong}
 use Rattle.sci_core.proofs.Shape.Chains.{TakenOut, without, not_in_without, chain_same, chain_taken_out, next_is_member}
-use Rattle.sci_core.proofs.Shape.{Heads.{if_head, next_either}, Views.{View, link_in, Shift}}
+use Rattle.sci_core.proofs.Shape.{Heads.{if_head, next_either}, Views.{View, link_in, settled_in, Shift}}
 use Rattle.sci_core.proofs.Shape.Standings.{Coming, Leading, Following, role_of, Agrees, Alike, alike_itself}
 use Rattle.sci_core.proofs.Shape.Led.{role_in, AgreesIn, IsLed, AlikeIn, alike_moved, same_link, Stands, alike_stands, led_stands, led_without, Joins}
 use Rattle.sci_core.proofs.Shape.{Led.{led_joins}, Shapes.{AcceptsIn, IsLedFrom, IsShaped, Shaped, shaped_alike}}
+use Rattle.sci_cache.specs.Accepting.{settled}
+use Rattle.sci_cache.specs.Member.{is_fresh}
 use Rattle.sci_packets.specs.declared.body.Body.TheVariants as body
 use Rattle.sci_home.specs.declared.state.HomeState.TheVariants as at
 
 -- stands as it stood, but for the link
 pub record Stood (old : CacheState) (was : Option Body) (new : CacheState) (now : Option Body) : Type 0 where
-  pub role : role_of new now ≡ role_of old was
-  pub fresh : is_fresh new now ≡ is_fresh old was
-  pub agrees : (c : Stamped) → Agrees c old was → Agrees c new now
+  pub role : role_of (settled new now) ≡ role_of (settled old was)
+  pub fresh : is_fresh (settled new now) ≡ is_fresh (settled old was)
+  pub agrees : (c : Stamped) → Agrees c (settled old was) → Agrees c (settled new now)
 
 -- a cache joins before another, which follows it now
 pub record JoinsAs (a q : ℕ) (asker old : CacheState) (served : CacheState × Body) : Type 0 where
   pub idle : waits old ≡ false
-  pub before : link_of asker None ≡ Some (Some q)
-  pub still : link_of asker (Some served.1) ≡ Some (Some q)
-  pub coming : role_of asker None ≡ Some Coming
-  pub leads : role_of asker (Some served.1) ≡ Some Leading
-  pub leading : role_of old None ≡ Some Leading
-  pub follows : role_of served.0 None ≡ Some Following
-  pub link : link_of served.0 None ≡ link_of old None
-  pub fresh : is_fresh asker (Some served.1) ≡ is_fresh asker None
-  pub keeps : (c : Stamped) → Agrees c old None → Agrees c served.0 None
-  pub takes : (c : Stamped) → Agrees c old None → Agrees c asker None → Agrees c asker (Some served.1)
+  pub before : link_of asker ≡ Some (Some q)
+  pub still : link_of (settled asker (Some served.1)) ≡ Some (Some q)
+  pub coming : role_of asker ≡ Some Coming
+  pub leads : role_of (settled asker (Some served.1)) ≡ Some Leading
+  pub leading : role_of old ≡ Some Leading
+  pub follows : role_of served.0 ≡ Some Following
+  pub link : link_of served.0 ≡ link_of old
+  pub fresh : is_fresh (settled asker (Some served.1)) ≡ is_fresh asker
+  pub keeps : (c : Stamped) → Agrees c old → Agrees c served.0
+  pub takes : (c : Stamped) → Agrees c old → Agrees c asker → Agrees c (settled asker (Some served.1))
   pub accepted : IsSome (accepting asker served.1)
   pub differ : asker ≡ old → ⊥
 
 -- a purged cache, which followed, is no member any more; the asker links to whom it linked
 pub record PurgesAs (q : ℕ) (asker old : CacheState) (served : CacheState × Body) : Type 0 where
   pub next : Option ℕ
-  pub before : link_of asker None ≡ Some (Some q)
-  pub behind : link_of asker (Some served.1) ≡ Some next
-  pub link : (answer : Option Body) (f : Option ℕ) → link_of old answer ≡ Some f → f ≡ next
-  pub follows : (answer : Option Body) (f : Option ℕ) → link_of old answer ≡ Some f → role_of old answer ≡ Some Following
-  pub gone : (answer : Option Body) → link_of served.0 answer ≡ None
+  pub before : link_of asker ≡ Some (Some q)
+  pub behind : link_of (settled asker (Some served.1)) ≡ Some next
+  pub link : (answer : Option Body) (f : Option ℕ) → IsAccepted old answer → link_of (settled old answer) ≡ Some f → f ≡ next
+  pub follows : (answer : Option Body) (f : Option ℕ) → IsAccepted old answer → link_of (settled old answer) ≡ Some f
+      → role_of (settled old answer) ≡ Some Following
+  pub gone : (answer : Option Body) → link_of (settled served.0 answer) ≡ None
   pub stood : Stood asker None asker (Some served.1)
   pub accepted : IsSome (accepting asker served.1)
-  pub still : (answer : Option Body) (f : Option ℕ) → link_of old answer ≡ Some f → IsAccepted served.0 answer
+  pub still : (answer : Option Body) (f : Option ℕ) → IsAccepted old answer → link_of (settled old answer) ≡ Some f → IsAccepted served.0 answer
   pub differ : asker ≡ old → ⊥
 
 -- the asker, which followed, is no member any more; this cache links to whom it linked
 pub record RollsAs (a : ℕ) (asker old : CacheState) (served : CacheState × Body) : Type 0 where
   pub next : Option ℕ
   pub idle : waits old ≡ false
-  pub before : link_of old None ≡ Some (Some a)
-  pub behind : link_of served.0 None ≡ Some next
-  pub link : (f : Option ℕ) → link_of asker None ≡ Some f → f ≡ next
-  pub follows : (f : Option ℕ) → link_of asker None ≡ Some f → role_of asker None ≡ Some Following
-  pub gone : link_of asker (Some served.1) ≡ None
+  pub before : link_of old ≡ Some (Some a)
+  pub behind : link_of served.0 ≡ Some next
+  pub link : (f : Option ℕ) → link_of asker ≡ Some f → f ≡ next
+  pub follows : (f : Option ℕ) → link_of asker ≡ Some f → role_of asker ≡ Some Following
+  pub gone : link_of (settled asker (Some served.1)) ≡ None
   pub stood : Stood old None served.0 None
-  pub accepted : (f : Option ℕ) → link_of asker None ≡ Some f → IsSome (accepting asker served.1)
+  pub accepted : (f : Option ℕ) → link_of asker ≡ Some f → IsSome (accepting asker served.1)
   pub differ : asker ≡ old → ⊥
 
 -- what a cache does to its own standing and the asker's, whose state is given
@@ -81,11 +84,11 @@ refuses a q asker old busy = Keeps (alike_itself old) busy
 
 -- an asker that joins before the old head p
 record Joiner (asker : CacheState) (p : ℕ) : Type 0 where
-  pub link : (answer : Option Body) → link_of asker answer ≡ Some (Some p)
-  pub coming : role_of asker None ≡ Some Coming
-  pub leads : (d : Stamped) → role_of asker (Some (body.Cdata d)) ≡ Some Leading
-  pub fresh : (d : Stamped) → is_fresh asker (Some (body.Cdata d)) ≡ is_fresh asker None
-  pub takes : (c d : Stamped) → d ≡ c → Agrees c asker None → Agrees c asker (Some (body.Cdata d))
+  pub link : (answer : Option Body) → link_of (settled asker answer) ≡ Some (Some p)
+  pub coming : role_of asker ≡ Some Coming
+  pub leads : (d : Stamped) → role_of (settled asker (Some (body.Cdata d))) ≡ Some Leading
+  pub fresh : (d : Stamped) → is_fresh (settled asker (Some (body.Cdata d))) ≡ is_fresh asker
+  pub takes : (c d : Stamped) → d ≡ c → Agrees c asker → Agrees c (settled asker (Some (body.Cdata d)))
   pub accepted : (d : Stamped) → IsSome (accepting asker (body.Cdata d))
   pub refused : Alike asker None asker (Some body.Busy)
   pub waiting : waits asker ≡ true
@@ -93,9 +96,23 @@ record Joiner (asker : CacheState) (p : ℕ) : Type 0 where
 joining : (p : ℕ) → Joiner (Joining p true) p
 joining p = grind arith
 
-joined_before : (a q : ℕ) (asker old : CacheState) (f : Option ℕ) (d : Stamped) → Joiner asker q → waits old ≡ false → role_of old None ≡ Some Leading
-    → Some f ≡ link_of old None → ((c : Stamped) → Agrees c old None → Agrees c (Below f a d) None) → ServesAs a q asker old (Below f a d, body.Cdata d)
-joined_before a q asker old f d joins idle leading link keeps = grind arith
+joined_before : (a q : ℕ) (asker old : CacheState) (f : Option ℕ) (d : Stamped) → Joiner asker q → waits old ≡ false → role_of old ≡ Some Leading
+    → Some f ≡ link_of old → ((c : Stamped) → Agrees c old → Agrees c (Below f a d)) → ServesAs a q asker old (Below f a d, body.Cdata d)
+joined_before a q asker old f d joins idle leading link keeps = Joined (record {
+  idle = idle;
+  before = joins.link None;
+  still = joins.link (Some (body.Cdata d));
+  coming = joins.coming;
+  leads = joins.leads d;
+  leading = leading;
+  follows = refl;
+  link = link;
+  fresh = joins.fresh d;
+  keeps = keeps;
+  takes = λ c h k. joins.takes c d (keeps c h) k;
+  accepted = joins.accepted d;
+  differ = λ e. (let waits_too = ap waits e in let waiting = joins.waiting in cc);
+})
 
 cread_as : (a q : ℕ) (asker old : CacheState) → Joiner asker q → ServesAs a q asker old (serving_cread old a)
 cread_as a q asker (Head f d) joins = joined_before a q asker (Head f d) f d joins refl refl refl (λ c h. h)
@@ -106,16 +123,18 @@ cread_as a q asker old joins = refuses a q asker old joins.refused
 
 -- an entry that follows, if it is a member, and is purged
 record Purgeable (old next : CacheState) (f : Option ℕ) (answer : Option Body) : Type 0 where
-  pub link : (m : Option ℕ) → link_of old answer ≡ Some m → m ≡ f
-  pub follows : (m : Option ℕ) → link_of old answer ≡ Some m → role_of old answer ≡ Some Following
-  pub gone : link_of next answer ≡ None
-  pub still : (m : Option ℕ) → link_of old answer ≡ Some m → IsAccepted next answer
+  pub link : (m : Option ℕ) → IsAccepted old answer → link_of (settled old answer) ≡ Some m → m ≡ f
+  pub follows : (m : Option ℕ) → IsAccepted old answer → link_of (settled old answer) ≡ Some m → role_of (settled old answer) ≡ Some Following
+  pub gone : link_of (settled next answer) ≡ None
+  pub still : (m : Option ℕ) → IsAccepted old answer → link_of (settled old answer) ≡ Some m → IsAccepted next answer
 
 below_purged : (f : Option ℕ) (b : ℕ) (c : Stamped) (answer : Option Body) → Purgeable (Below f b c) Out f answer
 below_purged f b c None = search rules
 below_purged f b c _ = search rules
 
 rolling_purged : (f : Option ℕ) (b : ℕ) (c : Stamped) (answer : Option Body) → Purgeable (Rolling f b c) Fading f answer
+rolling_purged None b c (Some body.Rolled) = search rules
+rolling_purged (Some r) b c (Some body.Rolled) = search rules
 rolling_purged f b c (Some body.Busy) = search rules
 rolling_purged f b c _ = search rules
 
@@ -143,10 +162,10 @@ purge_as a q d old = refuses a q (Purging q d) old (record { sight = refl; agree
 
 -- an asker that leaves, and what it passes on: its link, if it is a member, and then it followed
 record Leaver (asker : CacheState) (m : Option ℕ) : Type 0 where
-  pub link : (f : Option ℕ) → link_of asker None ≡ Some f → f ≡ m
-  pub follows : (f : Option ℕ) → link_of asker None ≡ Some f → role_of asker None ≡ Some Following
-  pub gone : link_of asker (Some body.Rolled) ≡ None
-  pub ends : (f : Option ℕ) → link_of asker None ≡ Some f → IsSome (accepting asker body.Rolled)
+  pub link : (f : Option ℕ) → link_of asker ≡ Some f → f ≡ m
+  pub follows : (f : Option ℕ) → link_of asker ≡ Some f → role_of asker ≡ Some Following
+  pub gone : link_of (settled asker (Some body.Rolled)) ≡ None
+  pub ends : (f : Option ℕ) → link_of asker ≡ Some f → IsSome (accepting asker body.Rolled)
   pub refused : Alike asker None asker (Some body.Busy)
   pub waiting : waits asker ≡ true
 
@@ -164,8 +183,8 @@ rolling f b c = grind (arith, rolling_ends, rolling_busy)
 fading : (f : Option ℕ) → Leaver Fading f
 fading f = grind arith
 
-rolls_as : (a q : ℕ) (m : Option ℕ) (asker old next : CacheState) (f : Option ℕ) → Leaver asker m → waits old ≡ false → link_of old None ≡ Some f
-    → link_of next None ≡ Some m → Stood old None next None → ServesAs a q asker old (if is_next f a then (next, body.Rolled) else (old, body.Busy))
+rolls_as : (a q : ℕ) (m : Option ℕ) (asker old next : CacheState) (f : Option ℕ) → Leaver asker m → waits old ≡ false → link_of old ≡ Some f
+    → link_of next ≡ Some m → Stood old None next None → ServesAs a q asker old (if is_next f a then (next, body.Rolled) else (old, body.Busy))
 rolls_as a q m asker old next f leaves idle here then_ stood = grind (arith, next_either, refuses)
 
 roll_as : (a q : ℕ) (m : Option ℕ) (asker old : CacheState) → Leaver asker m → ServesAs a q asker old (serving_roll old a m)
@@ -249,27 +268,29 @@ kept_alike old new a q served shift keeps asks n =
       ]
     ]
 
--- what a function of state and answer gives at the asker and at the server, if they are two
+-- what a function of the settled state gives at the asker and at the server, if they are two
 record Sights (old new : View) (a q : ℕ) (served : CacheState × Body) : Type 1 where
-  pub asker_was : {X : Type 0} (f : CacheState → Option Body → X) → f (old.state a) (old.answer a) ≡ f (old.state a) None
-  pub asker_is : {X : Type 0} (f : CacheState → Option Body → X) → f (new.state a) (new.answer a) ≡ f (old.state a) (Some served.1)
-  pub server_is : {X : Type 0} (f : CacheState → Option Body → X) → f (new.state q) (new.answer q) ≡ f served.0 (old.answer q)
+  pub asker_was : {X : Type 0} (f : CacheState → X) → f (settled_in old a) ≡ f (old.state a)
+  pub asker_is : {X : Type 0} (f : CacheState → X) → f (settled_in new a) ≡ f (settled (old.state a) (Some served.1))
+  pub server_is : {X : Type 0} (f : CacheState → X) → f (settled_in new q) ≡ f (settled served.0 (old.answer q))
 
 sights : (old new : View) (a q : ℕ) (served : CacheState × Body) → Shift old new a q served.0 served.1 → a ≢ q → Sights old new a q served
 sights old new a q served shift apart = grind arith
 
+-- the server has no answer under way to it
+settled_none : (view : View) (q : ℕ) (state : CacheState) → view.answer q ≡ None → settled state (view.answer q) ≡ state
+settled_none view q state none = ap (settled state) none
+
 asker_agrees : (old new : View) (a q : ℕ) (served : CacheState × Body) (c : Stamped) → Shift old new a q served.0 served.1 → a ≢ q
-    → Agrees c (old.state a) (Some served.1) → AgreesIn c new a
-asker_agrees old new a q served c shift apart h =
-    subst (Agrees c (new.state a)) (sym shift.answered) (subst (λ (s : CacheState). Agrees c s (Some served.1)) (sym (shift.others a apart)) h)
+    → Agrees c (settled (old.state a) (Some served.1)) → AgreesIn c new a
+asker_agrees old new a q served c shift apart h = subst (Agrees c) (sym ((sights old new a q served shift apart).asker_is (λ s. s))) h
 
 server_agrees : (old new : View) (a q : ℕ) (served : CacheState × Body) (c : Stamped) → Shift old new a q served.0 served.1 → a ≢ q
-    → Agrees c served.0 (old.answer q) → AgreesIn c new q
-server_agrees old new a q served c shift apart h =
-    subst (Agrees c (new.state q)) (sym (shift.other_answers q (λ e. apart (sym e)))) (subst (λ (s : CacheState). Agrees c s (old.answer q)) (sym shift.here) h)
+    → Agrees c (settled served.0 (old.answer q)) → AgreesIn c new q
+server_agrees old new a q served c shift apart h = subst (Agrees c) (sym ((sights old new a q served shift apart).server_is (λ s. s))) h
 
-asker_agreed : (old : View) (a : ℕ) (c : Stamped) → old.answer a ≡ None → AgreesIn c old a → Agrees c (old.state a) None
-asker_agreed old a c none h = subst (Agrees c (old.state a)) none h
+asker_agreed : (old : View) (a : ℕ) (c : Stamped) → old.answer a ≡ None → AgreesIn c old a → Agrees c (old.state a)
+asker_agreed old a c none h = subst (Agrees c) (settled_none old a (old.state a) none) h
 
 -- a list that is led stays so
 map_led : (old new : View) (home : HomeState) (c : Stamped) (ns ms : List ℕ) → ((must : Bool) → IsLed old c must ns → IsLed new c must ms)
@@ -306,9 +327,10 @@ joined_at old new a q served shift joins =
     let see = sights old new a q served shift apart in
     let none = shift.idle joins.idle in
     let was : link_in old a ≡ Some (Some q) = see.asker_was link_of ∙ joins.before in
-    let server_same : link_in new q ≡ link_in old q =
-    see.server_is link_of ∙ (ap (link_of served.0) none ∙ (joins.link ∙ ap (link_of (old.state q)) (sym none))) in
-    let server_agreed : (d : Stamped) → AgreesIn d old q → Agrees d (old.state q) None = λ d h. subst (Agrees d (old.state q)) none h in
+    let was_at = settled_none old q (old.state q) none in
+    let is_at = settled_none old q served.0 none in
+    let server_same : link_in new q ≡ link_in old q = see.server_is link_of ∙ (ap link_of is_at ∙ (joins.link ∙ ap link_of (sym was_at))) in
+    let server_agreed : (d : Stamped) → AgreesIn d old q → Agrees d (old.state q) = λ d h. asker_agreed old q d none h in
     record {
       links = λ n. elim (cases_eq n a) [
         | inl asker ↦ ap (link_in new) asker ∙ (see.asker_is link_of ∙ (joins.still ∙ (sym was ∙ ap (link_in old) (sym asker))))
@@ -320,11 +342,11 @@ joined_at old new a q served shift joins =
       joins = record {
         link = was;
         coming = see.asker_was role_of ∙ joins.coming;
-        leading = ap (role_of (old.state q)) none ∙ joins.leading;
+        leading = ap role_of was_at ∙ joins.leading;
         leads = see.asker_is role_of ∙ joins.leads;
-        follows = see.server_is role_of ∙ (ap (role_of served.0) none ∙ joins.follows);
+        follows = see.server_is role_of ∙ (ap role_of is_at ∙ joins.follows);
         fresh = see.asker_is is_fresh ∙ (joins.fresh ∙ sym (see.asker_was is_fresh));
-        keeps = λ d h. server_agrees old new a q served d shift apart (subst (Agrees d served.0) (sym none) (joins.keeps d (server_agreed d h)));
+        keeps = λ d h. server_agrees old new a q served d shift apart (subst (Agrees d) (sym is_at) (joins.keeps d (server_agreed d h)));
         takes = λ d h k. asker_agrees old new a q served d shift apart (joins.takes d (server_agreed d h) (asker_agreed old a d shift.unanswered k));
         others = λ n not_asker not_server. alike_stands old new n (other_alike old new a q served.0 served.1 shift n not_asker not_server);
       };
@@ -378,7 +400,7 @@ purged_at old new a q served home c ns shift purges is =
     let apart : a ≢ q = λ e. purges.differ (ap old.state e) in
     let see = sights old new a q served shift apart in
     let next = purged_next old new a q served home c ns shift purges is in
-    let same : next.0 ≡ purges.next = purges.link (old.answer q) next.0 next.1 in
+    let same : next.0 ≡ purges.next = purges.link (old.answer q) next.0 (is.accepts q) next.1 in
     let asker : Stands old new a = record {
       role = see.asker_is role_of ∙ (purges.stood.role ∙ sym (see.asker_was role_of));
       fresh = see.asker_is is_fresh ∙ (purges.stood.fresh ∙ sym (see.asker_was is_fresh));
@@ -392,7 +414,7 @@ purged_at old new a q served home c ns shift purges is =
         apart = apart;
         others = λ n not_asker not_server. same_link old new n (other_alike old new a q served.0 served.1 shift n not_asker not_server);
       };
-      follows = purges.follows (old.answer q) next.0 next.1;
+      follows = purges.follows (old.answer q) next.0 (is.accepts q) next.1;
       stand = λ n not_server. elim (cases_eq n a) [
         | inl e ↦ subst (Stands old new) (sym e) asker
         | inr other ↦ alike_stands old new n (other_alike old new a q served.0 served.1 shift n other not_server)
@@ -405,13 +427,13 @@ purged_shaped old new a q served home c shift purges (ns, is) =
     let apart : a ≢ q = λ e. purges.differ (ap old.state e) in
     let next = purged_next old new a q served home c ns shift purges is in
     left_shaped old new a q home c ns (purged_at old new a q served home c ns shift purges is) is
-    (accepts_both old new a q served shift apart purges.accepted (purges.still (old.answer q) next.0 next.1) is.accepts)
+    (accepts_both old new a q served shift apart purges.accepted (purges.still (old.answer q) next.0 (is.accepts q) next.1) is.accepts)
 
 -- the next after the one that rolls out
 rolled_next : (old new : View) (a q : ℕ) (served : CacheState × Body) (home : HomeState) (c : Stamped) (ns : List ℕ) → Shift old new a q served.0 served.1
     → RollsAs a (old.state a) (old.state q) served → IsShaped old home c ns → (f : Option ℕ) × (link_in old a ≡ Some f)
 rolled_next old new a q served home c ns shift rolls is =
-    next_is_member (link_in old) (head_of home) q a ns is.list (ap (link_of (old.state q)) (shift.idle rolls.idle) ∙ rolls.before)
+    next_is_member (link_in old) (head_of home) q a ns is.list (ap link_of (settled_none old q (old.state q) (shift.idle rolls.idle)) ∙ rolls.before)
 
 pub rolled_at : (old new : View) (a q : ℕ) (served : CacheState × Body) (home : HomeState) (c : Stamped) (ns : List ℕ) → Shift old new a q served.0 served.1
     → RollsAs a (old.state a) (old.state q) served → IsShaped old home c ns → LeftAt old new q a
@@ -419,19 +441,20 @@ rolled_at old new a q served home c ns shift rolls is =
     let apart : a ≢ q = λ e. rolls.differ (ap old.state e) in
     let see = sights old new a q served shift apart in
     let none = shift.idle rolls.idle in
+    let was_at = settled_none old q (old.state q) none in
+    let is_at = settled_none old q served.0 none in
     let next = rolled_next old new a q served home c ns shift rolls is in
-    let asker_link : link_of (old.state a) None ≡ Some next.0 = sym (see.asker_was link_of) ∙ next.1 in
+    let asker_link : link_of (old.state a) ≡ Some next.0 = sym (see.asker_was link_of) ∙ next.1 in
     let same : next.0 ≡ rolls.next = rolls.link next.0 asker_link in
     let server : Stands old new q = record {
-      role = see.server_is role_of ∙ (ap (role_of served.0) none ∙ (rolls.stood.role ∙ ap (role_of (old.state q)) (sym none)));
-      fresh = see.server_is is_fresh ∙ (ap (is_fresh served.0) none ∙ (rolls.stood.fresh ∙ ap (is_fresh (old.state q)) (sym none)));
-      agrees = λ d h. server_agrees old new a q served d shift apart
-          (subst (Agrees d served.0) (sym none) (rolls.stood.agrees d (subst (Agrees d (old.state q)) none h)));
+      role = see.server_is role_of ∙ (ap role_of is_at ∙ (rolls.stood.role ∙ ap role_of (sym was_at)));
+      fresh = see.server_is is_fresh ∙ (ap is_fresh is_at ∙ (rolls.stood.fresh ∙ ap is_fresh (sym was_at)));
+      agrees = λ d h. server_agrees old new a q served d shift apart (subst (Agrees d) (sym is_at) (rolls.stood.agrees d (asker_agreed old q d none h)));
     } in
     record {
       out = record {
-        before = ap (link_of (old.state q)) none ∙ rolls.before;
-        behind = see.server_is link_of ∙ (ap (link_of served.0) none ∙ (rolls.behind ∙ (ap Some (sym same) ∙ sym next.1)));
+        before = ap link_of was_at ∙ rolls.before;
+        behind = see.server_is link_of ∙ (ap link_of is_at ∙ (rolls.behind ∙ (ap Some (sym same) ∙ sym next.1)));
         gone = see.asker_is link_of ∙ rolls.gone;
         apart = λ e. apart (sym e);
         others = λ n not_server not_asker. same_link old new n (other_alike old new a q served.0 served.1 shift n not_asker not_server);

@@ -5,20 +5,21 @@ use Rattle.std.proofs.lemmas.Bool.{cases_eq}
 use Rattle.sci_words.specs.declared.stamped.Stamped.{Stamped}
 use Rattle.sci_packets.specs.declared.body.Body.{Body}
 use Rattle.sci_cache.specs.State.{CacheState}
-use Rattle.sci_core.specs.{Fresh.{is_fresh}, SharingList.{IsOnce, LinkedFrom}}
+use Rattle.sci_core.specs.{SharingList.{IsOnce, LinkedFrom}}
 use Rattle.sci_history.specs.Seen.{IsAmong}
 use Rattle.sci_core.proofs.Shape.Chains.{without, without_nil, without_this, without_other, next_of}
-use Rattle.sci_core.proofs.Shape.Views.{View, link_in}
+use Rattle.sci_core.proofs.Shape.Views.{View, link_in, settled_in}
 use Rattle.sci_core.proofs.Shape.Standings.{Role, Coming, Leading, Following, role_of, Agrees, Alike, alike_itself, coming_empty}
+use Rattle.sci_cache.specs.Member.{is_fresh}
 
 abbrev pub role_in : View → ℕ → Option Role
-role_in view n = role_of (view.state n) (view.answer n)
+role_in view n = role_of (settled_in view n)
 
 abbrev pub fresh_in : View → ℕ → Bool
-fresh_in view n = is_fresh (view.state n) (view.answer n)
+fresh_in view n = is_fresh (settled_in view n)
 
 abbrev pub AgreesIn : Stamped → View → ℕ → Type 0
-AgreesIn c view n = Agrees c (view.state n) (view.answer n)
+AgreesIn c view n = Agrees c (settled_in view n)
 
 abbrev pub AreFollowing : View → Stamped → List ℕ → Type 0
 AreFollowing view c [] = Unit {0}
@@ -191,14 +192,13 @@ ends_empty : (link : ℕ → Option (Option ℕ)) (next : Option ℕ) (ns : List
 ends_empty link next [] e linked = refl
 ends_empty link next (n ∷ ns) e linked = let at = linked.0 in cc
 
+settled_same : (old new : View) (q n : ℕ) (c : Stamped) → Made old new q c → n ≢ q → settled_in new n ≡ settled_in old n
+settled_same old new q n c made apart = grind arith
+
 -- who comes before is not fresh, so has no contents
 empty_agrees : (old new : View) (q n : ℕ) (c : Stamped) → Made old new q c → n ≢ q → role_in old n ≡ Some Coming → fresh_in old n ≡ false → AgreesIn c new n
-empty_agrees old new q n c made apart comes stale = grind (arith, coming_empty)
-
-reading_same : {X : Type 0} (f : CacheState → Option Body → X) (old new : View) (q n : ℕ) (c : Stamped) → Made old new q c → n ≢ q
-    → f (new.state n) (new.answer n) ≡ f (old.state n) (old.answer n)
-reading_same f old new q n c made apart =
-    ap (f (new.state n)) (made.same_answer n apart) ∙ ap (λ (s : CacheState). f s (old.answer n)) (made.same_state n apart)
+empty_agrees old new q n c made apart comes stale =
+    subst (Agrees c) (sym (settled_same old new q n c made apart)) (coming_empty (settled_in old n) c comes stale)
 
 not_true : (b : Bool) → (b ≡ true → ⊥) → b ≡ false
 not_true true not = absurd (not refl)
@@ -217,10 +217,10 @@ led_made old new q b c must first (n ∷ ns) made linked (inr h) (front, inr com
     let rest = led_made old new q b c (fresh_in old n) linked.1.0 ns made linked.1.2 h comes.1 in
     let stale : fresh_in old n ≡ false = not_true (fresh_in old n) rest.0 in
     let not : must ≡ true → ⊥ = λ m. rest.0 (front.0 m) in
-    let fresh : fresh_in new n ≡ fresh_in old n = reading_same is_fresh old new q n c made apart in (
+    let fresh : fresh_in new n ≡ fresh_in old n = ap is_fresh (settled_same old new q n c made apart) in (
       not,
       (
         (λ m. absurd (not m), empty_agrees old new q n c made apart comes.0 stale),
-        inr (reading_same role_of old new q n c made apart ∙ comes.0, subst (λ (f : Bool). IsLed new c f ns) (sym fresh) rest.1),
+        inr (ap role_of (settled_same old new q n c made apart) ∙ comes.0, subst (λ (f : Bool). IsLed new c f ns) (sym fresh) rest.1),
       ),
     )

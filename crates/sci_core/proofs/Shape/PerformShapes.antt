@@ -5,13 +5,13 @@ use Rattle.std.specs.Prelude.{IfSome}
 use Rattle.sci_words.specs.declared.{stamped.Stamped.{Stamped}, operation.Act.{Act, TheVariants.{Load, Store, Lock}}}
 use Rattle.sci_words.specs.{declared.operation.Op.{Op}, Operation.{effect_of_act, is_maker, makes_version}}
 use Rattle.sci_words.specs.Stamped.{after, reply_of}
-use Rattle.sci_packets.specs.declared.body.Body.{Body}
 use Rattle.sci_home.specs.{declared.state.HomeState.{HomeState}, Serving.{head_of}}
 use Rattle.sci_cache.specs.{State.{CacheState, Head, contents_of}, Performing.{Performed}, Member.{link_of}}
-use Rattle.sci_core.proofs.Shape.{Chains.{chain_same, none_empty}, Views.{View, link_in}}
+use Rattle.sci_core.proofs.Shape.{Chains.{chain_same, none_empty}, Views.{View, link_in, settled_in}}
 use Rattle.sci_core.proofs.Shape.Standings.{role_of, Agrees, Leaves, Reads, Makes, Performs}
 use Rattle.sci_core.proofs.Shape.Led.{AgreesIn, alike_same, led_agrees, Made, led_made}
 use Rattle.sci_core.proofs.Shape.Shapes.{AcceptsIn, IsLedFrom, IsShaped, Shaped, shaped_alike}
+use Rattle.sci_cache.specs.Accepting.{settled}
 use Rattle.sci_home.specs.declared.state.HomeState.TheVariants as at
 
 -- ---- a load
@@ -39,8 +39,8 @@ member_agrees view (at.Home d) c ns n behind member is = absurd (no_members view
 member_agrees view (at.Fresh p d) c ns n behind member is = led_agrees view c true ns n is.led.1 (is.list.all n behind member)
 member_agrees view (at.Gone p) c ns n behind member is = led_agrees view c false ns n is.led (is.list.all n behind member)
 
-pub has_last : (c d : Stamped) (state : CacheState) (answer : Option Body) → contents_of state ≡ Some d → Agrees c state answer → d ≡ c
-has_last c d state answer has agrees = (subst (λ (o : Option Stamped). IfSome o (λ e. e ≡ c)) has agrees.0)
+pub has_last : (c d : Stamped) (state : CacheState) → contents_of state ≡ Some d → Agrees c state → d ≡ c
+has_last c d state has agrees = subst (λ (o : Option Stamped). IfSome o (λ e. e ≡ c)) has agrees
 
 -- ---- an operation
 
@@ -65,14 +65,12 @@ read_shaped old new home c q next moves e shaped =
       | inr other ↦ moves.others n other
     ]) (moves.answers n)) shaped
 
--- what a function of state and answer gives at the maker, before and after
-seen_before : {X : Type 0} (f : CacheState → Option Body → X) (old new : View) (q : ℕ) (state next : CacheState) → Moves old new q next → old.state q ≡ state
-    → f (old.state q) (old.answer q) ≡ f state None
-seen_before f old new q state next moves is = ap (f (old.state q)) moves.none ∙ ap (λ (s : CacheState). f s None) is
+-- the maker's settled state, before and after
+seen_before : (old new : View) (q : ℕ) (state next : CacheState) → Moves old new q next → old.state q ≡ state → settled_in old q ≡ state
+seen_before old new q state next moves is = ap (settled (old.state q)) moves.none ∙ is
 
-seen_after : {X : Type 0} (f : CacheState → Option Body → X) (old new : View) (q : ℕ) (state next : CacheState) → Moves old new q state → state ≡ next
-    → f (new.state q) (new.answer q) ≡ f next None
-seen_after f old new q state next moves is = ap (f (new.state q)) (moves.answers q ∙ moves.none) ∙ ap (λ (s : CacheState). f s None) (moves.here ∙ is)
+seen_after : (old new : View) (q : ℕ) (state next : CacheState) → Moves old new q state → state ≡ next → settled_in new q ≡ next
+seen_after old new q state next moves is = ap (settled (new.state q)) (moves.answers q ∙ moves.none) ∙ (moves.here ∙ is)
 
 pub made_view : (old new : View) (q : ℕ) (c d : Stamped) (next : CacheState) → Moves old new q next → old.state q ≡ Head None c → next ≡ Head None d
     → Made old new q d
@@ -83,9 +81,9 @@ pub made_links : (old new : View) (q : ℕ) (c d : Stamped) (next : CacheState) 
 made_links old new q c d next moves was is n =
     elim (cases_eq n q) [
       | inl here ↦ ap (link_in new) here
-          ∙ (seen_after link_of old new q next (Head None d) moves is
-          ∙ (sym (seen_before link_of old new q (Head None c) next moves was) ∙ ap (link_in old) (sym here)))
-      | inr other ↦ ap (link_of (new.state n)) (moves.answers n) ∙ ap (λ (s : CacheState). link_of s (old.answer n)) (moves.others n other)
+          ∙ (ap link_of (seen_after old new q next (Head None d) moves is)
+          ∙ (sym (ap link_of (seen_before old new q (Head None c) next moves was)) ∙ ap (link_in old) (sym here)))
+      | inr other ↦ ap link_of (ap (settled (new.state n)) (moves.answers n) ∙ ap (λ (s : CacheState). settled s (old.answer n)) (moves.others n other))
     ]
 
 made_accepts : (old new : View) (q : ℕ) (next : CacheState) → Moves old new q next → ((n : ℕ) → AcceptsIn old n) → (n : ℕ) → AcceptsIn new n
@@ -119,9 +117,10 @@ left_shaped old new home c q op next moves (Makes was is) shaped = made_shaped o
 pub performed_shaped : (old new : View) (home : HomeState) (c : Stamped) (q : ℕ) (op : Op) (done : Performed) → Performs (old.state q) op done
     → Moves old new q done.next → Shaped old home c → Did new home c op done
 performed_shaped old new home c q op done performs moves shaped =
-    let member : link_in old q ≡ Some performs.behind = ap (link_of (old.state q)) moves.none ∙ performs.member in
+    let here : settled_in old q ≡ old.state q = ap (settled (old.state q)) moves.none in
+    let member : link_in old q ≡ Some performs.behind = ap link_of here ∙ performs.member in
     let agrees = member_agrees old home c shaped.0 q performs.behind member shaped.1 in
-    let same : performs.contents ≡ c = has_last c performs.contents (old.state q) (old.answer q) performs.has agrees in
+    let same : performs.contents ≡ c = has_last c performs.contents (settled_in old q) (ap contents_of here ∙ performs.has) agrees in
     record {
       reply = performs.reply ∙ ap (λ (d : Stamped). reply_of d.line op) same;
       version = performs.version ∙ ap (λ (d : Stamped). (after d op).version) same;

@@ -12,7 +12,7 @@ use Rattle.sci_cache.specs.{Accepting.{accepting}, Member.{link_of}, Cache.{Lett
 use Rattle.sci_core.specs.Core.{Core, node_at}
 use Rattle.sci_core.specs.Shape.{comes, follows, state_at, IsAuthority, IsSplit, HasOneAuthority, HasAuthorities, HaveContents, is_home_fresh, IsGoneStale}
 use Rattle.sci_core.specs.Shape.{HasShape}
-use Rattle.sci_core.specs.Sharing.{contents_held, packets_of, answer_in, Sharer, sharer_of, sharers, home_at, authority_contents, first_authority, last_at}
+use Rattle.sci_core.specs.Sharing.{packets_of, answer_in, settled_at, all_settled, home_at, first_authority, last_at}
 use Rattle.sci_core.specs.{Sharing.{answer_to as told}, Tidy.{IsSentIn, HasItsPackets, IsTidy, IsAccepted}}
 use Rattle.sci_core.specs.WellFormed.{IsWellFormed}
 use Rattle.sci_history.specs.Seen.{IsAmong}
@@ -22,45 +22,55 @@ use Rattle.sci_core.proofs.Shape.Led.{role_in, fresh_in, AreFollowing, IsLed, fo
 use Rattle.sci_core.proofs.Shape.Shapes.{IsLedFrom, IsShaped, Shaped}
 use Rattle.sci_core.proofs.Shape.PerformShapes.{no_members, member_agrees, has_last}
 use Rattle.sci_core.proofs.{Shape.ShapeSteps.{view_of, ShapedAt, request_tells}, Basics.Options.{found, same_some}}
+use Rattle.sci_cache.specs.Accepting.{settled}
+use Rattle.sci_cache.specs.Member.{contents_held}
 use Rattle.sci_packets.specs.declared.body.Body.TheVariants as body
 use Rattle.sci_home.specs.declared.state.HomeState.TheVariants as at
 
 -- ---- standings and states
 
 -- a node that holds contents as the authority leads
-record Holds (state : CacheState) (answer : Option Body) (d : Stamped) : Type 0 where
-  pub leads : role_of state answer ≡ Some Leading
-  pub same : (c : Stamped) → Agrees c state answer → d ≡ c
+record Holds (state : CacheState) (d : Stamped) : Type 0 where
+  pub leads : role_of state ≡ Some Leading
+  pub same : (c : Stamped) → Agrees c state → d ≡ c
 
-held : (state : CacheState) (answer : Option Body) → IfSome (contents_held state answer) (Holds state answer)
-held Asking (Some (body.Fdata None d)) = search rules
-held _ (Some body.Busy) = search rules
-held _ _ = search rules
+held : (state : CacheState) → IfSome (contents_held state) (Holds state)
+held _ = search rules
 
 -- the node that leads is the authority, and a member
-pub record Leader (state : CacheState) (answer : Option Body) : Type 0 where
-  pub holds : IsSome (contents_held state answer)
-  pub member : IsSome (link_of state answer)
+pub record Leader (state : CacheState) : Type 0 where
+  pub holds : IsSome (contents_held state)
+  pub member : IsSome (link_of state)
 
 -- a member that follows has contents
-pub record Follower (state : CacheState) (answer : Option Body) : Type 0 where
+pub record Follower (state : CacheState) : Type 0 where
   pub follows_one : follows state ≡ true
-  pub has : (c : Stamped) → Agrees c state answer → contents_of state ≡ Some c
+  pub has : (c : Stamped) → Agrees c state → contents_of state ≡ Some c
 
 -- what a role says of a state
-abbrev pub Standing : Option Role → CacheState → Option Body → Type 0
-Standing None state answer = Unit {0}
-Standing (Some Coming) state answer = comes state ≡ true
-Standing (Some Leading) state answer = Leader state answer
-Standing (Some Following) state answer = Follower state answer
+abbrev pub Standing : Option Role → CacheState → Type 0
+Standing None state = Unit {0}
+Standing (Some Coming) state = comes state ≡ true
+Standing (Some Leading) state = Leader state
+Standing (Some Following) state = Follower state
 
-standing : (state : CacheState) (answer : Option Body) → Standing (role_of state answer) state answer
-standing Asking (Some (body.Fdata None d)) = search rules
-standing _ (Some body.Busy) = search rules
-standing _ _ = search rules
+standing : (state : CacheState) → Standing (role_of state) state
+standing _ = search rules
 
-pub stands_as : (state : CacheState) (answer : Option Body) (role : Option Role) → role_of state answer ≡ role → Standing role state answer
-stands_as state answer role e = subst (λ (r : Option Role). Standing r state answer) e (standing state answer)
+pub stands_as : (state : CacheState) (role : Option Role) → role_of state ≡ role → Standing role state
+stands_as state role e = subst (λ (r : Option Role). Standing r state) e (standing state)
+
+-- contents that come from a home, or that a joining member has, stay the same once the answer has come
+fdata_settles : (p : Option ℕ) (d : Stamped)
+    → (link_of (settled Asking (Some (body.Fdata p d))) ≡ Some p) × (contents_of (settled Asking (Some (body.Fdata p d))) ≡ Some d)
+fdata_settles None d = (refl, refl)
+fdata_settles (Some p) d = (refl, refl)
+
+joining_settles : (p : ℕ) (sent : Bool) (d : Stamped) (answer : Option Body)
+    → (link_of (settled (FreshJoining p sent d) answer) ≡ Some (Some p)) × (contents_of (settled (FreshJoining p sent d) answer) ≡ Some d)
+joining_settles p sent d None = (refl, refl)
+joining_settles p true d (Some _) = search rules
+joining_settles p false d (Some _) = search rules
 
 -- who takes contents from a home asks for them
 fdata_asks : (state : CacheState) (p : Option ℕ) (d : Stamped) → IsSome (accepting state (body.Fdata p d)) → state ≡ Asking
@@ -143,27 +153,27 @@ member_below core line n f well member = grind (arith, cases_lt, get_or_past, li
 -- an authority's contents, and that it leads
 record Authority (core : Core) (line n : ℕ) : Type 0 where
   pub contents : Stamped
-  pub are : authority_contents (sharer_of core line n) ≡ Some contents
-  pub holds : Holds (state_at core line n) (told core n line) contents
+  pub are : contents_held (settled_at core line n) ≡ Some contents
+  pub holds : Holds (settled_at core line n) contents
 
-authority_so : (core : Core) (line n : ℕ) (o : Option Stamped) → authority_contents (sharer_of core line n) ≡ o
-    → IfSome o (Holds (state_at core line n) (told core n line)) → IsSome o → Authority core line n
+authority_so : (core : Core) (line n : ℕ) (o : Option Stamped) → contents_held (settled_at core line n) ≡ o
+    → IfSome o (Holds (settled_at core line n)) → IsSome o → Authority core line n
 authority_so core line n None is holds some = cc
 authority_so core line n (Some d) is holds some = record { contents = d; are = is; holds = holds }
 
 authority_of : (core : Core) (line n : ℕ) → IsAuthority core line n → Authority core line n
 authority_of core line n authority =
-    authority_so core line n (authority_contents (sharer_of core line n)) refl (held (state_at core line n) (told core n line)) authority
+    authority_so core line n (contents_held (settled_at core line n)) refl (held (settled_at core line n)) authority
 
 pub authority_leads : (core : Core) (line n : ℕ) → IsAuthority core line n → role_in (view_of core line) n ≡ Some Leading
 authority_leads core line n authority = (authority_of core line n authority).holds.leads
 
 pub leads_authority : (core : Core) (line n : ℕ) → role_in (view_of core line) n ≡ Some Leading → IsAuthority core line n
-leads_authority core line n leads = (stands_as (state_at core line n) (told core n line) (Some Leading) leads).holds
+leads_authority core line n leads = (stands_as (settled_at core line n) (Some Leading) leads).holds
 
 pub leads_member : (core : Core) (line n : ℕ) → role_in (view_of core line) n ≡ Some Leading → (f : Option ℕ) × (link_in (view_of core line) n ≡ Some f)
 leads_member core line n leads =
-    found (link_in (view_of core line) n) (stands_as (state_at core line n) (told core n line) (Some Leading) leads).member
+    found (link_in (view_of core line) n) (stands_as (settled_at core line n) (Some Leading) leads).member
 
 same_if : (o : Option Stamped) (c : Stamped) → ((d : Stamped) → o ≡ Some d → d ≡ c) → IfSome o (λ d. d ≡ c)
 same_if None c h = tt
@@ -171,9 +181,9 @@ same_if (Some d) c h = h d refl
 
 -- every authority has the last contents
 authority_same : (core : Core) (line : ℕ) (home : HomeState) (c : Stamped) (ns : List ℕ) (n : ℕ) → IsShaped (view_of core line) home c ns
-    → IfSome (authority_contents (sharer_of core line n)) (λ d. d ≡ c)
+    → IfSome (contents_held (settled_at core line n)) (λ d. d ≡ c)
 authority_same core line home c ns n is =
-    same_if (authority_contents (sharer_of core line n)) c (λ d e. (
+    same_if (contents_held (settled_at core line n)) c (λ d e. (
     let some : IsAuthority core line n = ap (λ (o : Option Stamped). is_some o) e in
     let leads = authority_leads core line n some in
     let member = leads_member core line n leads in
@@ -184,35 +194,35 @@ authority_same core line home c ns n is =
 
 -- ---- the last contents
 
--- one authority in some list of sharers, if all have the same contents
+-- one authority in some list of all_settled, if all have the same contents
 first_or : (o rest : Option Stamped) (c : Stamped) → IfSome o (λ d. d ≡ c) → IsSome o ⊎ (rest ≡ Some c) → option_or o rest ≡ Some c
 first_or (Some d) rest c same some = ap Some same
 first_or None rest c same (inl some) = cc
 first_or None rest c same (inr there) = there
 
-first_held : (xs : List Sharer) (c : Stamped) (d : Sharer) (i : ℕ) → ((j : ℕ) → j < length xs → IfSome (authority_contents (get_or xs j d)) (λ e. e ≡ c))
-    → i < length xs → IsSome (authority_contents (get_or xs i d)) → first_authority xs ≡ Some c
+first_held : (xs : List CacheState) (c : Stamped) (d : CacheState) (i : ℕ) → ((j : ℕ) → j < length xs → IfSome (contents_held (get_or xs j d)) (λ e. e ≡ c))
+    → i < length xs → IsSome (contents_held (get_or xs i d)) → first_authority xs ≡ Some c
 first_held [] c d i all within some = absurd (omega arith)
-first_held (x ∷ xs) c d zero all within some = first_or (authority_contents x) (first_authority xs) c (all 0 within) (inl some)
+first_held (x ∷ xs) c d zero all within some = first_or (contents_held x) (first_authority xs) c (all 0 within) (inl some)
 first_held (x ∷ xs) c d (suc i) all within some =
     let rest = first_held xs c d i (λ j lt. all (suc j) (omega arith)) (omega arith) some in
-    first_or (authority_contents x) (first_authority xs) c (all 0 (omega arith)) (inr rest)
+    first_or (contents_held x) (first_authority xs) c (all 0 (omega arith)) (inr rest)
 
 last_led : (core : Core) (line : ℕ) (home : HomeState) (c : Stamped) (ns : List ℕ) (a : ℕ) → IsWellFormed core → current_of (home_at core line) ≡ None
     → IsShaped (view_of core line) home c ns → role_in (view_of core line) a ≡ Some Leading → last_at core line ≡ c
 last_led core line home c ns a well none is leads =
-    let d = sharer_of core line a in
+    let d = settled_at core line a in
     let member = leads_member core line a leads in
     let below = member_below core line a member.0 well member.1 in
-    let all = length-map-range_with_len (sharer_of core line) 0 core.size.nodes in
-    let at : (j : ℕ) → j < core.size.nodes → get_or (sharers core line) j d ≡ sharer_of core line j =
-    λ j lt. get_or-map-range_with_len (sharer_of core line) 0 core.size.nodes j j d lt (omega arith) in
-    let same : (j : ℕ) → j < length (sharers core line) → IfSome (authority_contents (get_or (sharers core line) j d)) (λ e. e ≡ c) =
-    λ j lt. subst (λ (s : Sharer). IfSome (authority_contents s) (λ e. e ≡ c)) (sym (at j (omega arith))) (authority_same core line home c ns j is) in
-    let some : IsSome (authority_contents (get_or (sharers core line) a d)) =
-    subst (λ (s : Sharer). IsSome (authority_contents s)) (sym (at a below)) (leads_authority core line a leads) in
-    let first = first_held (sharers core line) c d a same (omega arith) some in
-    ap (λ (o : Option Stamped). unwrap_or (option_or o (first_authority (sharers core line))) zero_stamped) none
+    let all = length-map-range_with_len (settled_at core line) 0 core.size.nodes in
+    let at : (j : ℕ) → j < core.size.nodes → get_or (all_settled core line) j d ≡ settled_at core line j =
+    λ j lt. get_or-map-range_with_len (settled_at core line) 0 core.size.nodes j j d lt (omega arith) in
+    let same : (j : ℕ) → j < length (all_settled core line) → IfSome (contents_held (get_or (all_settled core line) j d)) (λ e. e ≡ c) =
+    λ j lt. subst (λ (s : CacheState). IfSome (contents_held s) (λ e. e ≡ c)) (sym (at j (omega arith))) (authority_same core line home c ns j is) in
+    let some : IsSome (contents_held (get_or (all_settled core line) a d)) =
+    subst (λ (s : CacheState). IsSome (contents_held s)) (sym (at a below)) (leads_authority core line a leads) in
+    let first = first_held (all_settled core line) c d a same (omega arith) some in
+    ap (λ (o : Option Stamped). unwrap_or (option_or o (first_authority (all_settled core line))) zero_stamped) none
     ∙ ap (λ (o : Option Stamped). unwrap_or o zero_stamped) first
 
 last_so : (core : Core) (line : ℕ) (home : HomeState) (c : Stamped) → IsWellFormed core → home_at core line ≡ home → Shaped (view_of core line) home c
@@ -271,12 +281,12 @@ split_parts core line home c ns before a after is split =
     (subst (IsLed (view_of core line) c (is_home_fresh home)) split.whole (split_led core line home c ns a split.authority is))
 
 all_coming : (core : Core) (line : ℕ) (ns : List ℕ) → AllByRecursion (λ n. role_in (view_of core line) n ≡ Some Coming) ns
-    → AllByRecursion (λ n. comes (state_at core line n) ≡ true) ns
+    → AllByRecursion (λ n. comes (settled_at core line n) ≡ true) ns
 all_coming core line [] all = tt
-all_coming core line (n ∷ ns) all = (stands_as (state_at core line n) (told core n line) (Some Coming) all.0, all_coming core line ns all.1)
+all_coming core line (n ∷ ns) all = (stands_as (settled_at core line n) (Some Coming) all.0, all_coming core line ns all.1)
 
 all_following : (core : Core) (line : ℕ) (c : Stamped) (ns : List ℕ) → AreFollowing (view_of core line) c ns
-    → AllByRecursion (λ n. follows (state_at core line n) ≡ true) ns × AllByRecursion (λ n. contents_of (state_at core line n) ≡ Some c) ns
+    → AllByRecursion (λ n. follows (settled_at core line n) ≡ true) ns × AllByRecursion (λ n. contents_of (settled_at core line n) ≡ Some c) ns
 all_following core line c [] all = (tt, tt)
 all_following core line c (n ∷ ns) all = grind (arith, stands_as, all_following core line c ns all.2)
 
@@ -285,26 +295,27 @@ all_following core line c (n ∷ ns) all = grind (arith, stands_as, all_followin
 told_same : (core : Core) (line : ℕ) (home : HomeState) (c : Stamped) (ns : List ℕ) (n : ℕ) (p : Option ℕ) (d : Stamped)
     → IsShaped (view_of core line) home c ns → told core n line ≡ Some (body.Fdata p d) → d ≡ c
 told_same core line home c ns n p d is e =
-    let accepted = subst (IsAccepted (state_at core line n)) e (is.accepts n) in
-    let asks = fdata_asks (state_at core line n) p d accepted in
-    let link : link_in (view_of core line) n ≡ Some p =
-    ap (link_of (state_at core line n)) e ∙ ap (λ (s : CacheState). link_of s (Some (body.Fdata p d))) asks in
-    let agrees = member_agrees (view_of core line) home c ns n p link is in
-    let here : Agrees c Asking (Some (body.Fdata p d)) =
-    subst (λ (s : CacheState). Agrees c s (Some (body.Fdata p d))) asks (subst (Agrees c (state_at core line n)) e agrees) in
-    here.1
+    let asks = fdata_asks (state_at core line n) p d (subst (IsAccepted (state_at core line n)) e (is.accepts n)) in
+    let here : settled_at core line n ≡ settled Asking (Some (body.Fdata p d)) =
+    ap (settled (state_at core line n)) e ∙ ap (λ (s : CacheState). settled s (Some (body.Fdata p d))) asks in
+    let settles = fdata_settles p d in
+    let agrees = member_agrees (view_of core line) home c ns n p (ap link_of here ∙ settles.0) is in
+    has_last c d (settled_at core line n) (ap contents_of here ∙ settles.1) agrees
 
 joining_same : (core : Core) (line : ℕ) (home : HomeState) (c : Stamped) (ns : List ℕ) (n p : ℕ) (sent : Bool) (d : Stamped)
     → IsShaped (view_of core line) home c ns → state_at core line n ≡ FreshJoining p sent d → d ≡ c
 joining_same core line home c ns n p sent d is e =
-    let link : link_in (view_of core line) n ≡ Some (Some p) = ap (λ (s : CacheState). link_of s (told core n line)) e in
-    has_last c d (state_at core line n) (told core n line) (ap contents_of e) (member_agrees (view_of core line) home c ns n (Some p) link is)
+    let here : settled_at core line n ≡ settled (FreshJoining p sent d) (told core n line) = ap (λ (s : CacheState). settled s (told core n line)) e in
+    let settles = joining_settles p sent d (told core n line) in
+    let agrees = member_agrees (view_of core line) home c ns n (Some p) (ap link_of here ∙ settles.0) is in
+    has_last c d (settled_at core line n) (ap contents_of here ∙ settles.1) agrees
 
 returning_same : (core : Core) (line : ℕ) (home : HomeState) (c : Stamped) (ns : List ℕ) (n : ℕ) (d : Stamped) → IsShaped (view_of core line) home c ns
     → state_at core line n ≡ Returning d → told core n line ≡ None → d ≡ c
 returning_same core line home c ns n d is e none =
-    let link : link_in (view_of core line) n ≡ Some None = ap (link_of (state_at core line n)) none ∙ ap (λ (s : CacheState). link_of s None) e in
-    has_last c d (state_at core line n) (told core n line) (ap contents_of e) (member_agrees (view_of core line) home c ns n None link is)
+    let here : settled_at core line n ≡ Returning d = ap (settled (state_at core line n)) none ∙ e in
+    let agrees = member_agrees (view_of core line) home c ns n None (ap link_of here) is in
+    has_last c d (settled_at core line n) (ap contents_of here) agrees
 
 back_same : (core : Core) (line : ℕ) (home : HomeState) (c : Stamped) (ns : List ℕ) (n : ℕ) (letters : List Letter) → IsShaped (view_of core line) home c ns
     → packets_of core n line ≡ letters → HasItsPackets (line % core.size.nodes) (line_of (node_at core n).cache line) letters

@@ -8,12 +8,14 @@ use Rattle.sci_home.specs.declared.state.HomeState.{HomeState}
 use Rattle.sci_home.specs.Serving.{head_of, serving_mread, serving_fread, serving_claim, serving_clear, serving_wback, home_serving as at_home}
 use Rattle.sci_cache.specs.State.{CacheState, Asking, Joining, FreshJoining, Purging, Claiming, Clearing, Returning, Rolling, Telling, Fading}
 use Rattle.sci_cache.specs.{Accepting.{accepting}, Member.{link_of}, Cache.{Letter}}
-use Rattle.sci_core.specs.{Fresh.{is_fresh}, SharingList.{IsListOf}, Tidy.{IsSentIn, IsAccepted}}
+use Rattle.sci_core.specs.{SharingList.{IsListOf}, Tidy.{IsSentIn, IsAccepted}}
 use Rattle.sci_history.specs.Seen.{IsAmong}
 use Rattle.sci_core.proofs.Shape.{Chains.{chain_same, chain_front, chain_gone, none_empty, not_in}, Heads.{if_head}}
-use Rattle.sci_core.proofs.Shape.{Views.{View, link_in}, Standings.{Coming, Leading, role_of, Agrees, sight_of, Alike}}
+use Rattle.sci_core.proofs.Shape.{Views.{View, link_in, settled_in}, Standings.{Coming, Leading, role_of, Agrees, sight_of, Alike}}
 use Rattle.sci_core.proofs.Shape.Led.{role_in, AgreesIn, IsLed, AlikeIn, same_link, Stands, alike_stands, following_stand, led_weaker, led_stands}
 use Rattle.sci_core.proofs.Shape.Led.{led_agrees}
+use Rattle.sci_cache.specs.Accepting.{settled}
+use Rattle.sci_cache.specs.Member.{is_fresh}
 use Rattle.sci_packets.specs.declared.body.Body.TheVariants as body
 use Rattle.sci_home.specs.declared.state.HomeState.TheVariants as at
 
@@ -64,21 +66,20 @@ pub record Asks (old new : View) (a : ℕ) (asker : CacheState) (body : Body) : 
   pub answered : new.answer a ≡ Some body
   pub others : (n : ℕ) → n ≢ a → AlikeIn old new n
 
-pub before : {X : Type 0} (f : CacheState → Option Body → X) (old new : View) (a : ℕ) (asker : CacheState) (body : Body) → Asks old new a asker body
-    → f (old.state a) (old.answer a) ≡ f asker None
-before f old new a asker body asks = ap (f (old.state a)) asks.unanswered ∙ ap (λ (s : CacheState). f s None) asks.was
+pub before : {X : Type 0} (f : CacheState → X) (old new : View) (a : ℕ) (asker : CacheState) (body : Body) → Asks old new a asker body
+    → f (settled_in old a) ≡ f asker
+before f old new a asker body asks = ap f (ap (settled (old.state a)) asks.unanswered ∙ asks.was)
 
-pub after : {X : Type 0} (f : CacheState → Option Body → X) (old new : View) (a : ℕ) (asker : CacheState) (body : Body) → Asks old new a asker body
-    → f (new.state a) (new.answer a) ≡ f asker (Some body)
-after f old new a asker body asks = ap (f (new.state a)) asks.answered ∙ ap (λ (s : CacheState). f s (Some body)) asks.state
+pub after : {X : Type 0} (f : CacheState → X) (old new : View) (a : ℕ) (asker : CacheState) (body : Body) → Asks old new a asker body
+    → f (settled_in new a) ≡ f (settled asker (Some body))
+after f old new a asker body asks = ap f (ap (settled (new.state a)) asks.answered ∙ ap (λ (s : CacheState). settled s (Some body)) asks.state)
 
-agrees_before : (c : Stamped) (old new : View) (a : ℕ) (asker : CacheState) (body : Body) → Asks old new a asker body → AgreesIn c old a → Agrees c asker None
-agrees_before c old new a asker body asks h = subst (λ (s : CacheState). Agrees c s None) asks.was (subst (Agrees c (old.state a)) asks.unanswered h)
+agrees_before : (c : Stamped) (old new : View) (a : ℕ) (asker : CacheState) (body : Body) → Asks old new a asker body → AgreesIn c old a → Agrees c asker
+agrees_before c old new a asker body asks h = subst (Agrees c) (before (λ (s : CacheState). s) old new a asker body asks) h
 
-agrees_after : (c : Stamped) (old new : View) (a : ℕ) (asker : CacheState) (body : Body) → Asks old new a asker body → Agrees c asker (Some body)
+agrees_after : (c : Stamped) (old new : View) (a : ℕ) (asker : CacheState) (body : Body) → Asks old new a asker body → Agrees c (settled asker (Some body))
     → AgreesIn c new a
-agrees_after c old new a asker body asks h =
-    subst (Agrees c (new.state a)) (sym asks.answered) (subst (λ (s : CacheState). Agrees c s (Some body)) (sym asks.state) h)
+agrees_after c old new a asker body asks h = subst (Agrees c) (sym (after (λ (s : CacheState). s) old new a asker body asks)) h
 
 -- the answer is one that the asker takes
 accepts_after : (old new : View) (a : ℕ) (asker : CacheState) (body : Body) → Asks old new a asker body → IsSome (accepting asker body)
@@ -113,7 +114,7 @@ stays old new home c a asker body asks alike shaped = shaped_alike old new home 
 
 -- the asker, which was no member, is the front now
 pub fronts_list : (old new : View) (home home' : HomeState) (a : ℕ) (asker : CacheState) (body : Body) (ns : List ℕ) → Asks old new a asker body
-    → link_of asker None ≡ None → link_of asker (Some body) ≡ Some (head_of home) → head_of home' ≡ Some a
+    → link_of asker ≡ None → link_of (settled asker (Some body)) ≡ Some (head_of home) → head_of home' ≡ Some a
     → IsListOf (link_in old) (head_of home) ns → IsListOf (link_in new) (head_of home') (a ∷ ns)
 fronts_list old new home home' a asker body ns asks none joins head list =
     chain_front (link_in old) (link_in new) (head_of home) (head_of home') a ns (before link_of old new a asker body asks ∙ none)
@@ -121,32 +122,32 @@ fronts_list old new home home' a asker body ns asks none joins head list =
     (λ n other. same_link old new n (asks.others n other)) list
 
 others_stand : (old new : View) (first : Option ℕ) (a : ℕ) (asker : CacheState) (body : Body) (ns : List ℕ) → Asks old new a asker body
-    → link_of asker None ≡ None → IsListOf (link_in old) first ns → (n : ℕ) → IsAmong n ns → Stands old new n
+    → link_of asker ≡ None → IsListOf (link_in old) first ns → (n : ℕ) → IsAmong n ns → Stands old new n
 others_stand old new first a asker body ns asks none list n h =
     alike_stands old new n (asks.others n
     (λ e. not_in (link_in old) first ns a (before link_of old new a asker body asks ∙ none) list (subst (λ (m : ℕ). IsAmong m ns) e h)))
 
 -- it comes before the old head
 comes_first : (old new : View) (first : Option ℕ) (a : ℕ) (asker : CacheState) (body : Body) (c : Stamped) (must : Bool) (ns : List ℕ)
-    → Asks old new a asker body → link_of asker None ≡ None → IsListOf (link_in old) first ns
-    → role_of asker (Some body) ≡ Some Coming → (must ≡ true → is_fresh asker (Some body) ≡ true) → Agrees c asker (Some body)
-    → IsLed old c (is_fresh asker (Some body)) ns → IsLed new c must (a ∷ ns)
+    → Asks old new a asker body → link_of asker ≡ None → IsListOf (link_in old) first ns
+    → role_of (settled asker (Some body)) ≡ Some Coming → (must ≡ true → is_fresh (settled asker (Some body)) ≡ true) → Agrees c (settled asker (Some body))
+    → IsLed old c (is_fresh (settled asker (Some body))) ns → IsLed new c must (a ∷ ns)
 comes_first old new first a asker body c must ns asks none list role fresh agrees led =
     let fresh_now = after is_fresh old new a asker body asks in
-    let rest = led_stands old new c (is_fresh asker (Some body)) ns (others_stand old new first a asker body ns asks none list) led in (
+    let rest = led_stands old new c (is_fresh (settled asker (Some body))) ns (others_stand old new first a asker body ns asks none list) led in (
       (λ e. fresh_now ∙ fresh e, agrees_after c old new a asker body asks agrees),
       inr (after role_of old new a asker body asks ∙ role, subst (λ (b : Bool). IsLed new c b ns) (sym fresh_now) rest),
     )
 
 -- it is the only one, and leads
 leads_alone : (old new : View) (a : ℕ) (asker : CacheState) (body : Body) (c : Stamped) (must : Bool) (ns : List ℕ) → Asks old new a asker body → ns ≡ []
-    → role_of asker (Some body) ≡ Some Leading → (must ≡ true → is_fresh asker (Some body) ≡ true) → Agrees c asker (Some body)
+    → role_of (settled asker (Some body)) ≡ Some Leading → (must ≡ true → is_fresh (settled asker (Some body)) ≡ true) → Agrees c (settled asker (Some body))
     → IsLed new c must (a ∷ ns)
 leads_alone old new a asker body c must ns asks empty role fresh agrees = grind (arith, after, agrees_after, role_of)
 
 -- the asker is in front of the list
 fronted : (old new : View) (home next : HomeState) (a : ℕ) (body : Body) (c : Stamped) (ns : List ℕ) → Asks old new a Asking body → IsShaped old home c ns
-    → link_of Asking (Some body) ≡ Some (head_of home) → head_of next ≡ Some a → IsSome (accepting Asking body) → IsLedFrom new next c (a ∷ ns)
+    → link_of (settled Asking (Some body)) ≡ Some (head_of home) → head_of next ≡ Some a → IsSome (accepting Asking body) → IsLedFrom new next c (a ∷ ns)
     → Shaped new next c
 fronted old new home next a body c ns asks is joins head accepted led = (
   a ∷ ns,
@@ -162,13 +163,13 @@ told_front : (old new : View) (home : HomeState) (p a : ℕ) (c : Stamped) (ns :
     → IsShaped old home c ns → IsLed old c false ns → Shaped new (at.Gone a) c
 told_front old new home p a c ns head asks is led =
     fronted old new home (at.Gone a) a (body.Mgone p) c ns asks is (ap Some (sym head)) refl refl
-    (comes_first old new (head_of home) a Asking (body.Mgone p) c false ns asks refl is.list refl (λ e. cc) (tt, tt) led)
+    (comes_first old new (head_of home) a Asking (body.Mgone p) c false ns asks refl is.list refl (λ e. cc) tt led)
 
 mread_shaped : (old new : View) (home : HomeState) (c : Stamped) (a : ℕ) → Asks old new a Asking (serving_mread home a).1 → Shaped old home c
     → Shaped new (serving_mread home a).0 c
 mread_shaped old new (at.Home d) c a asks (ns, is) =
     fronted old new (at.Home d) (at.Gone a) a (body.Mdata d) c ns asks is refl refl refl
-    (leads_alone old new a Asking (body.Mdata d) c false ns asks (none_empty (link_in old) None ns refl is.list) refl (λ e. cc) (tt, is.led))
+    (leads_alone old new a Asking (body.Mdata d) c false ns asks (none_empty (link_in old) None ns refl is.list) refl (λ e. cc) is.led)
 mread_shaped old new (at.Fresh p d) c a asks (ns, is) = told_front old new (at.Fresh p d) p a c ns refl asks is (led_weaker old c true ns is.led.1)
 mread_shaped old new (at.Gone p) c a asks (ns, is) = told_front old new (at.Gone p) p a c ns refl asks is is.led
 
@@ -176,11 +177,11 @@ fread_shaped : (old new : View) (home : HomeState) (c : Stamped) (a : ℕ) → A
     → Shaped new (serving_fread home a).0 c
 fread_shaped old new (at.Home d) c a asks (ns, is) =
     fronted old new (at.Home d) (at.Fresh a d) a (body.Fdata None d) c ns asks is refl refl refl
-    (is.led, leads_alone old new a Asking (body.Fdata None d) c true ns asks (none_empty (link_in old) None ns refl is.list) refl (λ e. refl) (tt, is.led))
+    (is.led, leads_alone old new a Asking (body.Fdata None d) c true ns asks (none_empty (link_in old) None ns refl is.list) refl (λ e. refl) is.led)
 fread_shaped old new (at.Fresh p d) c a asks (ns, is) =
     let body = (serving_fread (at.Fresh p d) a).1 in
     fronted old new (at.Fresh p d) (at.Fresh a d) a body c ns asks is refl refl refl
-    (is.led.0, comes_first old new (Some p) a Asking body c true ns asks refl is.list refl (λ e. refl) (tt, is.led.0) is.led.1)
+    (is.led.0, comes_first old new (Some p) a Asking body c true ns asks refl is.list refl (λ e. refl) is.led.0 is.led.1)
 fread_shaped old new (at.Gone p) c a asks (ns, is) = told_front old new (at.Gone p) p a c ns refl asks is is.led
 
 -- ---- claims, clears and write-backs
@@ -236,7 +237,7 @@ claim_shaped old new home c a f d asks shaped =
 
 -- the only one leaves, and the home has the line alone
 leaves_shaped : (old new : View) (home : HomeState) (c : Stamped) (p a : ℕ) (asker : CacheState) (back : Stamped) → head_of home ≡ Some p → p ≡ a
-    → Asks old new a asker body.Wbok → link_of asker None ≡ Some None → link_of asker (Some body.Wbok) ≡ None
+    → Asks old new a asker body.Wbok → link_of asker ≡ Some None → link_of (settled asker (Some body.Wbok)) ≡ None
     → IsSome (accepting asker body.Wbok) → ((ns : List ℕ) → IsShaped old home c ns → back ≡ c) → Shaped old home c → Shaped new (at.Home back) c
 leaves_shaped old new home c p a asker back head same asks ends gone accepted contents (ns, is) = (
   [],
@@ -265,7 +266,7 @@ returned : (old new : View) (c : Stamped) (p a : ℕ) (d : Stamped) → Asks old
 returned old new c p a d asks ns is =
     let member = is.list.all a None (before link_of old new a (Returning d) body.Wbok asks) in
     let agrees = agrees_before c old new a (Returning d) body.Wbok asks (led_agrees old c false ns a is.led member) in
-    agrees.0
+    agrees
 
 wback_shaped : (old new : View) (home : HomeState) (c : Stamped) (a : ℕ) (d : Stamped) → Asks old new a (Returning d) (serving_wback home a d).1
     → Shaped old home c → Shaped new (serving_wback home a d).0 c

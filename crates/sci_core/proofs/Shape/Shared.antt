@@ -6,14 +6,15 @@ use Rattle.sci_words.specs.declared.stamped.Stamped.{Stamped}
 use Rattle.sci_history.specs.Seen.{IsAmong}
 use Rattle.sci_home.specs.{declared.state.HomeState.{HomeState}, Serving.{current_of, head_of}}
 use Rattle.sci_core.specs.{Core.{Core}, declared.sharing_list.Authority.{Authority}}
-use Rattle.sci_core.specs.Sharing.{authority_contents, home_at, last_at, sharer_of}
+use Rattle.sci_core.specs.Sharing.{home_at, last_at, settled_at}
 use Rattle.sci_core.specs.Shape.{HasAuthorities, HasOneAuthority, HasShape, IsAuthority}
 use Rattle.sci_core.specs.SharingList.{IsSharingList, LinkedFrom, link_at}
 use Rattle.sci_core.proofs.Shape.Chains.{linked_has}
+use Rattle.sci_cache.specs.Member.{contents_held}
 use Rattle.sci_home.specs.declared.state.HomeState.TheVariants as at
 
 abbrev HasNone : Core → ℕ → ℕ → Type 0
-HasNone core line n = authority_contents (sharer_of core line n) ≡ None
+HasNone core line n = contents_held (settled_at core line n) ≡ None
 
 among_all : (P : ℕ → Type 0) (xs : List ℕ) (x : ℕ) → AllByRecursion P xs → IsAmong x xs → P x
 among_all P [] x all h = absurd h
@@ -28,16 +29,16 @@ some_is : (contents : Option Stamped) (c : Stamped) → contents ≡ Some c → 
 some_is None c is = absurd (cc)
 some_is (Some d) c is = refl
 
-pub is_authority : (core : Core) (line n : ℕ) (c : Stamped) → authority_contents (sharer_of core line n) ≡ Some c → IsAuthority core line n
-is_authority core line n c is = some_is (authority_contents (sharer_of core line n)) c is
+pub is_authority : (core : Core) (line n : ℕ) (c : Stamped) → contents_held (settled_at core line n) ≡ Some c → IsAuthority core line n
+is_authority core line n c is = some_is (contents_held (settled_at core line n)) c is
 
 -- the authority has the last contents
 same_contents : (contents : Option Stamped) (c last : Stamped) → IfSome contents (λ d. d ≡ last) → contents ≡ Some c → c ≡ last
 same_contents None c last if is = absurd (cc)
 same_contents (Some d) c last if is = cc
 
-pub has_last : (core : Core) (line n : ℕ) (c : Stamped) → HasShape core line → authority_contents (sharer_of core line n) ≡ Some c → c ≡ last_at core line
-has_last core line n c shape is = same_contents (authority_contents (sharer_of core line n)) c (last_at core line) (shape.contents.authority n) is
+pub has_last : (core : Core) (line n : ℕ) (c : Stamped) → HasShape core line → contents_held (settled_at core line n) ≡ Some c → c ≡ last_at core line
+has_last core line n c shape is = same_contents (contents_held (settled_at core line n)) c (last_at core line) (shape.contents.authority n) is
 
 -- one authority of a list would stand in every list of the line
 one_is_listed : (core : Core) (line : ℕ) (nodes listed : List ℕ) → LinkedFrom (link_at core line) (head_of (home_at core line)) listed
@@ -45,7 +46,7 @@ one_is_listed : (core : Core) (line : ℕ) (nodes listed : List ℕ) → LinkedF
 one_is_listed core line nodes listed linked one list none =
     let link = linked_has (link_at core line) (head_of (home_at core line)) listed one.node linked one.listed in
     let among = list.all one.node link.0 link.1 in
-    not_both (authority_contents (sharer_of core line one.node)) one.authority
+    not_both (contents_held (settled_at core line one.node)) one.authority
     (among_all (HasNone core line) nodes one.node (recursion_from_All (HasNone core line) nodes none) among)
 
 -- if no authority stands in the list, there is none, and the home has the contents
@@ -65,27 +66,27 @@ none_may_change core line nodes shape list none = none_if core line nodes shape.
 -- the authority among the nodes so far, or none
 pub record Sought (core : Core) (line : ℕ) (nodes : List ℕ) (found : Option Authority) : Type 0 where
   pub below : IfSome found (λ at. at.node < core.size.nodes)
-  pub has : IfSome found (λ at. authority_contents (sharer_of core line at.node) ≡ Some at.contents)
+  pub has : IfSome found (λ at. contents_held (settled_at core line at.node) ≡ Some at.contents)
   pub none : found ≡ None → All (HasNone core line) nodes
 
 pub sought_first : (core : Core) (line : ℕ) → Sought core line [] None
 sought_first core line = record { below = tt; has = tt; none = λ e. All-nil (HasNone core line) }
 
 found_here : (core : Core) (line node : ℕ) (nodes : List ℕ) (result : Option Authority) (c : Stamped) → node < core.size.nodes
-    → Some c ≡ authority_contents (sharer_of core line node)
+    → Some c ≡ contents_held (settled_at core line node)
     → IfSome result (λ at. (at.node ≡ node) × (at.contents ≡ c)) → IsSome result → Sought core line nodes result
 found_here core line node nodes None c lt is here some = absurd (cc)
 found_here core line node nodes (Some at) c lt is here some = grind arith
 
 -- one node more
 pub sought_more : (core : Core) (line node : ℕ) (nodes : List ℕ) (found result : Option Authority) (contents : Option Stamped) → Sought core line nodes found
-    → node < core.size.nodes → contents ≡ authority_contents (sharer_of core line node)
+    → node < core.size.nodes → contents ≡ contents_held (settled_at core line node)
     → IfSome contents (λ c. IfSome result (λ at. (at.node ≡ node) × (at.contents ≡ c)) × IsSome result) → (contents ≡ None → result ≡ found)
     → Sought core line (nodes ++ node ∷ []) result
 sought_more core line node nodes found result None was lt is here before =
     let same = before refl in record {
       below = subst (λ (o : Option Authority). IfSome o (λ at. at.node < core.size.nodes)) (sym same) was.below;
-      has = subst (λ (o : Option Authority). IfSome o (λ at. authority_contents (sharer_of core line at.node) ≡ Some at.contents)) (sym same) was.has;
+      has = subst (λ (o : Option Authority). IfSome o (λ at. contents_held (settled_at core line at.node) ≡ Some at.contents)) (sym same) was.has;
       none = λ e. All-push (HasNone core line) nodes node (was.none (sym same ∙ e)) (sym is);
     }
 sought_more core line node nodes found result (Some c) was lt is here before = found_here core line node (nodes ++ node ∷ []) result c lt is here.0 here.1

@@ -12,10 +12,10 @@ use Rattle.sci_cache.specs.{Serving.{serving}, Line.{LineState, line_in, untouch
 use Rattle.sci_core.specs.declared.lane.LaneKind.TheVariants.{Requests}
 use Rattle.sci_core.specs.{Core.{Core, node_at, stepping, with_lane, with_node}, Done.{performed}}
 use Rattle.sci_core.specs.Network.{Happens, Move, Overtakes, moved, moved_from, overtaken}
-use Rattle.sci_core.specs.{Fresh.{is_fresh}, Node.{NodeOf, no_node, node_serving}, Reached.{IsReachable}}
+use Rattle.sci_core.specs.{Node.{NodeOf, no_node, node_serving}, Reached.{IsReachable}}
 use Rattle.sci_core.specs.{Sharing.{answer_in, home_at, answer_to as told}, Shape.{IsGoneStale}, Size.{Size}}
 use Rattle.sci_core.specs.{Tidy.{IsSentIn, IsTidy}, WellFormed.{IsPart, IsWellFormed}}
-use Rattle.sci_core.proofs.Shape.{Heads.{if_head}, Led.{fresh_in, same_fresh}, Shapes.{Asks, home_sent}}
+use Rattle.sci_core.proofs.Shape.{Heads.{if_head}, Led.{fresh_in, same_fresh}, Shapes.{Asks, after, before, home_sent}}
 use Rattle.sci_core.proofs.Shape.ShapeRuns.{LineStep, Performed, Served, Stood, answered, line_steps, operates_so, opening_at_home}
 use Rattle.sci_core.proofs.Shape.ShapeServes.{Answered, home_keeps, other_line, served_shift, with_served}
 use Rattle.sci_core.proofs.Shape.ShapeSteps.{SameLine, homes_same, overtaken_line, view_of}
@@ -24,6 +24,8 @@ use Rattle.sci_core.proofs.Step.NodeSides.{At_home, In_cache, PerformedAs, Serve
 use Rattle.sci_core.proofs.{Step.Steps.{Stepped, Taken, stepping_stepped}, Basics.Options.{of_some}}
 use Rattle.sci_core.proofs.Tidy.{PacketMoves.{packets_changed}, TidyRuns.{opening_tidy, move_tidy}}
 use Rattle.sci_core.proofs.{Tidy.WaitingNodes.{Answers, serve_answers}, WellFormed.WellFormedSteps.{opened, move_well}}
+use Rattle.sci_cache.specs.Accepting.{settled}
+use Rattle.sci_cache.specs.Member.{is_fresh}
 use Rattle.sci_packets.specs.declared.body.Body.TheVariants as body
 use Rattle.sci_home.specs.declared.state.HomeState.TheVariants as at
 
@@ -49,19 +51,13 @@ keeps_stale old new (at.Gone p) none stale = still_stale old new p none stale
 
 -- ---- a home serves
 
-fresh_after : (old new : View) (a : ℕ) (asker : CacheState) (b : Body) → Asks old new a asker b → fresh_in new a ≡ is_fresh asker (Some b)
-fresh_after old new a asker b asks = ap (is_fresh (new.state a)) asks.answered ∙ ap (λ (s : CacheState). is_fresh s (Some b)) asks.state
-
-fresh_before : (old new : View) (a : ℕ) (asker : CacheState) (b : Body) → Asks old new a asker b → fresh_in old a ≡ is_fresh asker None
-fresh_before old new a asker b asks = ap (is_fresh (old.state a)) asks.unanswered ∙ ap (λ (s : CacheState). is_fresh s None) asks.was
-
 asker_no_fresher : (old new : View) (a : ℕ) (asker : CacheState) (b : Body) → Asks old new a asker b
-    → (is_fresh asker (Some b) ≡ true → is_fresh asker None ≡ true) → NoFresher old new
+    → (is_fresh (settled asker (Some b)) ≡ true → is_fresh asker ≡ true) → NoFresher old new
 asker_no_fresher old new a asker b asks so n fresh =
     elim (cases_eq n a) [
       | inl here ↦
-          let now : is_fresh asker (Some b) ≡ true = sym (fresh_after old new a asker b asks) ∙ (ap (fresh_in new) (sym here) ∙ fresh) in
-          ap (fresh_in old) here ∙ (fresh_before old new a asker b asks ∙ so now)
+          let now : is_fresh (settled asker (Some b)) ≡ true = sym (after is_fresh old new a asker b asks) ∙ (ap (fresh_in new) (sym here) ∙ fresh) in
+          ap (fresh_in old) here ∙ (before is_fresh old new a asker b asks ∙ so now)
       | inr other ↦ sym (same_fresh old new n (asks.others n other)) ∙ fresh
     ]
 
@@ -70,18 +66,18 @@ abbrev Leaves_stale : View → View → ℕ → CacheState → HomeState → Hom
 Leaves_stale old new a asker home served = Asks old new a asker served.1 → IsStale old home → IsStale new served.0
 
 mread_stale : (old new : View) (a : ℕ) (home : HomeState) → Leaves_stale old new a Asking home (serving_mread home a)
-mread_stale old new a (at.Home c) asks stale = fresh_after old new a Asking (body.Mdata c) asks
-mread_stale old new a (at.Fresh p c) asks stale = fresh_after old new a Asking (body.Mgone p) asks
-mread_stale old new a (at.Gone p) asks stale = fresh_after old new a Asking (body.Mgone p) asks
+mread_stale old new a (at.Home c) asks stale = after is_fresh old new a Asking (body.Mdata c) asks
+mread_stale old new a (at.Fresh p c) asks stale = after is_fresh old new a Asking (body.Mgone p) asks
+mread_stale old new a (at.Gone p) asks stale = after is_fresh old new a Asking (body.Mgone p) asks
 
 fread_stale : (old new : View) (a : ℕ) (home : HomeState) → Leaves_stale old new a Asking home (serving_fread home a)
 fread_stale old new a (at.Home c) asks stale = tt
 fread_stale old new a (at.Fresh p c) asks stale = tt
-fread_stale old new a (at.Gone p) asks stale = fresh_after old new a Asking (body.Mgone p) asks
+fread_stale old new a (at.Gone p) asks stale = after is_fresh old new a Asking (body.Mgone p) asks
 
 claim_stale : (old new : View) (a : ℕ) (f : Option ℕ) (d : Stamped) (home : HomeState) → Leaves_stale old new a (Claiming f d) home (serving_claim home a)
 claim_stale old new a f d (at.Home c) asks stale = tt
-claim_stale old new a f d (at.Fresh p c) asks stale = grind (arith, if_head, fresh_after)
+claim_stale old new a f d (at.Fresh p c) asks stale = grind (arith, if_head, after)
 claim_stale old new a f d (at.Gone p) asks stale = still_stale old new p (asker_no_fresher old new a (Claiming f d) body.Wbno asks (λ e. refl)) stale
 
 clear_stale : (old new : View) (a : ℕ) (d : Stamped) (home : HomeState) → Leaves_stale old new a (Clearing d) home (serving_clear home a)
@@ -109,12 +105,12 @@ abbrev tells_fresh : Body → Bool
 tells_fresh (body.Fdata p c) = true
 tells_fresh _ = false
 
-fresh_untold : (state : CacheState) (b : Body) → tells_fresh b ≡ false → is_fresh state (Some b) ≡ true → is_fresh state None ≡ true
+fresh_untold : (state : CacheState) (b : Body) → tells_fresh b ≡ false → is_fresh (settled state (Some b)) ≡ true → is_fresh state ≡ true
 fresh_untold Asking (body.Fdata p c) told fresh = search rules
 fresh_untold _ _ told fresh = search rules
 
 record Freshens (state : CacheState) (served : CacheState × Body) : Type 0 where
-  pub keeps : (answer : Option Body) → is_fresh served.0 answer ≡ true → is_fresh state answer ≡ true
+  pub keeps : (answer : Option Body) → is_fresh (settled served.0 answer) ≡ true → is_fresh (settled state answer) ≡ true
   pub told : tells_fresh served.1 ≡ false
 
 serving_freshens : (state : CacheState) (n : ℕ) (request : Body) → IfSome (serving state n request) (Freshens state)
@@ -123,18 +119,25 @@ serving_freshens _ n body.Cread = search rules
 serving_freshens _ n _ = search rules
 
 shifted_state : (old new : View) (a q : ℕ) (next : CacheState) (b : Body) → Shift old new a q next b → Freshens (old.state q) (next, b)
-    → (n : ℕ) (answer : Option Body) → is_fresh (new.state n) answer ≡ true → is_fresh (old.state n) answer ≡ true
-shifted_state old new a q next b shift freshens n answer fresh = grind (arith, cases_eq)
+    → (n : ℕ) (answer : Option Body) → is_fresh (settled (new.state n) answer) ≡ true → is_fresh (settled (old.state n) answer) ≡ true
+shifted_state old new a q next b shift freshens n answer fresh =
+    let seen : CacheState → Bool = λ (s : CacheState). is_fresh (settled s answer) in
+    elim (cases_eq n q) [
+      | inl here ↦ ap seen (ap old.state here) ∙ freshens.keeps answer (ap seen (sym (ap new.state here ∙ shift.here)) ∙ fresh)
+      | inr other ↦ ap seen (sym (shift.others n other)) ∙ fresh
+    ]
 
 shift_no_fresher : (old new : View) (a q : ℕ) (next : CacheState) (b : Body) → Shift old new a q next b → Freshens (old.state q) (next, b) → NoFresher old new
 shift_no_fresher old new a q next b shift freshens n fresh =
     elim (cases_eq n a) [
       | inl here ↦
-          let now : is_fresh (new.state n) (Some b) ≡ true = ap (is_fresh (new.state n)) (sym (ap new.answer here ∙ shift.answered)) ∙ fresh in
-          let was : is_fresh (old.state n) (Some b) ≡ true = shifted_state old new a q next b shift freshens n (Some b) now in
-          ap (is_fresh (old.state n)) (ap old.answer here ∙ shift.unanswered) ∙ fresh_untold (old.state n) b freshens.told was
+          let now : is_fresh (settled (new.state n) (Some b)) ≡ true =
+          ap (λ (o : Option Body). is_fresh (settled (new.state n) o)) (sym (ap new.answer here ∙ shift.answered)) ∙ fresh in
+          let was : is_fresh (settled (old.state n) (Some b)) ≡ true = shifted_state old new a q next b shift freshens n (Some b) now in
+          ap (λ (o : Option Body). is_fresh (settled (old.state n) o)) (ap old.answer here ∙ shift.unanswered) ∙ fresh_untold (old.state n) b freshens.told was
       | inr other ↦
-          let now : is_fresh (new.state n) (old.answer n) ≡ true = ap (is_fresh (new.state n)) (sym (shift.other_answers n other)) ∙ fresh in
+          let now : is_fresh (settled (new.state n) (old.answer n)) ≡ true =
+          ap (λ (o : Option Body). is_fresh (settled (new.state n) o)) (sym (shift.other_answers n other)) ∙ fresh in
           shifted_state old new a q next b shift freshens n (old.answer n) now
     ]
 
@@ -146,11 +149,16 @@ StaleAt core line = IsStale (view_of core line) (home_at core line)
 stood_stale : (core new : Core) (line : ℕ) → SameLine core new line → StaleAt core line → StaleAt new line
 stood_stale core new line same stale = grind (arith, view_of, keeps_stale, same_fresh)
 
+head_stale : (f : Option ℕ) (c : Stamped) (answer : Option Body) → is_fresh (settled (Head f c) answer) ≡ true → ⊥
+head_stale f c None fresh = cc
+head_stale f c (Some _) fresh = cc
+
 -- an operation makes nobody fresh
-left_fresh : (state : CacheState) (op : Op) (c : Stamped) (next : CacheState) → Leaves state op c next → (answer : Option Body) → is_fresh next answer ≡ true
-    → is_fresh state answer ≡ true
-left_fresh state op c next (Reads not same) answer fresh = ap (λ (s : CacheState). is_fresh s answer) (sym same) ∙ fresh
-left_fresh state op c next (Makes here then_) answer fresh = let stale : false ≡ true = ap (λ (s : CacheState). is_fresh s answer) (sym then_) ∙ fresh in cc
+left_fresh : (state : CacheState) (op : Op) (c : Stamped) (next : CacheState) → Leaves state op c next → (answer : Option Body)
+    → is_fresh (settled next answer) ≡ true → is_fresh (settled state answer) ≡ true
+left_fresh state op c next (Reads not same) answer fresh = ap (λ (s : CacheState). is_fresh (settled s answer)) (sym same) ∙ fresh
+left_fresh state op c next (Makes here then_) answer fresh =
+    absurd (head_stale None _ answer (ap (λ (s : CacheState). is_fresh (settled s answer)) (sym then_) ∙ fresh))
 
 performed_stale : (core : Core) (n at : ℕ) (done : NodeOf × Entry) (does : PerformedAs (node_at core n) at done) → IsWellFormed core → n < core.size.nodes
     → (line : ℕ) → StaleAt core line → StaleAt (with_node core n done.0) line
@@ -160,27 +168,29 @@ performed_stale core n at done does well lt line stale =
     let op = does.pending.op in
     let old_state = (line_of (node_at core n).cache op.line).state in
     let performs = of_some (Performs old_state op) (performing old_state op) does.did does.performs (performing_does old_state op) in
-    let states : (m : ℕ) (answer : Option Body) → is_fresh ((view_of new line).state m) answer ≡ true → is_fresh ((view_of core line).state m) answer ≡ true =
+    let states : (m : ℕ) (answer : Option Body) → is_fresh (settled ((view_of new line).state m) answer) ≡ true
+    → is_fresh (settled ((view_of core line).state m) answer) ≡ true =
     λ m answer fresh.
     elim (cases_eq m n) [
       | inl here ↦
           let node : node_at new m ≡ done.0 = ap (node_at new) here ∙ get_or-set_same core.parts n done.0 no_node operates.below in
-          let now : is_fresh (line_of done.0.cache line).state answer ≡ true =
-          ap (λ (p : NodeOf). is_fresh (line_of p.cache line).state answer) (sym node) ∙ fresh in
-          ap (λ (j : ℕ). is_fresh (line_of (node_at core j).cache line).state answer) here ∙ (elim (cases_eq line op.line) [
+          let now : is_fresh (settled (line_of done.0.cache line).state answer) ≡ true =
+          ap (λ (p : NodeOf). is_fresh (settled (line_of p.cache line).state answer)) (sym node) ∙ fresh in
+          ap (λ (j : ℕ). is_fresh (settled (line_of (node_at core j).cache line).state answer)) here ∙ (elim (cases_eq line op.line) [
             | inl on ↦
-                let there : is_fresh does.did.next answer ≡ true =
-                ap (λ (s : CacheState). is_fresh s answer) (sym operates.state)
-                ∙ (ap (λ (k : ℕ). is_fresh (line_of done.0.cache k).state answer) (sym on) ∙ now) in
-                ap (λ (k : ℕ). is_fresh (line_of (node_at core n).cache k).state answer) on
+                let there : is_fresh (settled does.did.next answer) ≡ true =
+                ap (λ (s : CacheState). is_fresh (settled s answer)) (sym operates.state)
+                ∙ (ap (λ (k : ℕ). is_fresh (settled (line_of done.0.cache k).state answer)) (sym on) ∙ now) in
+                ap (λ (k : ℕ). is_fresh (settled (line_of (node_at core n).cache k).state answer)) on
                 ∙ left_fresh old_state op performs.contents does.did.next performs.leaves answer there
-            | inr off ↦ ap (λ (l : LineState). is_fresh l.state answer) (sym (operates.others line off)) ∙ now
+            | inr off ↦ ap (λ (l : LineState). is_fresh (settled l.state answer)) (sym (operates.others line off)) ∙ now
           ])
-      | inr other ↦ ap (λ (p : NodeOf). is_fresh (line_of p.cache line).state answer) (sym (get_or-set_other core.parts n m done.0 no_node other)) ∙ fresh
+      | inr other ↦ ap (λ (p : NodeOf). is_fresh (settled (line_of p.cache line).state answer))
+          (sym (get_or-set_other core.parts n m done.0 no_node other)) ∙ fresh
     ] in
     let none : NoFresher (view_of core line) (view_of new line) = λ m fresh.
     let same : told new m line ≡ told core m line = ap answer_in (packets_changed core n done.0 m line operates.below operates.waiting) in
-    states m (told core m line) (ap (is_fresh ((view_of new line).state m)) (sym same) ∙ fresh) in
+    states m (told core m line) (ap (λ (o : Option Body). is_fresh (settled ((view_of new line).state m) o)) (sym same) ∙ fresh) in
     subst (IsStale (view_of new line)) (sym (homes_same core n done.0 operates.homes line))
     (keeps_stale (view_of core line) (view_of new line) (home_at core line) none stale)
 

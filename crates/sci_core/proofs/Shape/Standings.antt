@@ -6,10 +6,12 @@ use Rattle.std.specs.Prelude.{IfSome}
 use Rattle.sci_words.specs.{declared.{stamped.Stamped.{Stamped}, operation.Op.{Op}}, Operation.{is_maker}}
 use Rattle.sci_words.specs.Stamped.{after, reply_of}
 use Rattle.sci_packets.specs.declared.body.Body.{Body}
-use Rattle.sci_cache.specs.State.{CacheState, Asking, Joining, FreshJoining, Head, FreshHead, Below, Purging, Claiming, Clearing, Returning, Rolling}
+use Rattle.sci_cache.specs.State.{CacheState, Joining, FreshJoining, Head, FreshHead, Below, Purging, Claiming, Clearing, Returning, Rolling}
 use Rattle.sci_cache.specs.{State.{Telling, waits, contents_of}, Performing.{Performed, performing}, Member.{link_of}}
 use Rattle.sci_cache.specs.Cache.{Letter}
-use Rattle.sci_core.specs.{Fresh.{is_fresh}, Node.{is_setback}, Tidy.{IsSentIn, IsAccepted}}
+use Rattle.sci_core.specs.{Node.{is_setback}, Tidy.{IsSentIn, IsAccepted}}
+use Rattle.sci_cache.specs.Accepting.{settled}
+use Rattle.sci_cache.specs.Member.{is_fresh}
 use Rattle.sci_packets.specs.declared.body.Body.TheVariants as body
 
 -- a member comes, leads or follows
@@ -18,54 +20,30 @@ pub data Role : Type 0 where
   Leading : Role
   Following : Role
 
-abbrev pub role_of : CacheState → Option Body → Option Role
-role_of Asking (Some (body.Mdata c)) = Some Leading
-role_of Asking (Some (body.Mgone p)) = Some Coming
-role_of Asking (Some (body.Fdata None c)) = Some Leading
-role_of Asking (Some (body.Fdata (Some p) c)) = Some Coming
-role_of (Joining p sent) (Some (body.Cdata c)) = Some Leading
-role_of (Joining p sent) _ = Some Coming
-role_of (FreshJoining p sent c) (Some (body.Cdata d)) = Some Leading
-role_of (FreshJoining p sent c) _ = Some Coming
-role_of (Head f c) None = Some Leading
-role_of (FreshHead f c) None = Some Leading
-role_of (Below f b c) None = Some Following
-role_of (Purging q c) None = Some Leading
-role_of (Purging q c) (Some body.Busy) = Some Leading
-role_of (Purging q c) (Some (body.Purged x)) = Some Leading
-role_of (Claiming f c) None = Some Leading
-role_of (Claiming f c) (Some body.Wbok) = Some Leading
-role_of (Claiming f c) (Some body.Wbno) = Some Leading
-role_of (Claiming f c) (Some body.Busy) = Some Leading
-role_of (Clearing c) None = Some Leading
-role_of (Clearing c) (Some body.Wbno) = Some Leading
-role_of (Clearing c) (Some body.Busy) = Some Leading
-role_of (Returning c) None = Some Leading
-role_of (Returning c) (Some body.Wbno) = Some Leading
-role_of (Returning c) (Some body.Busy) = Some Leading
-role_of (Rolling f b c) None = Some Following
-role_of (Rolling f b c) (Some body.Busy) = Some Following
-role_of _ _ = None
+abbrev pub role_of : CacheState → Option Role
+role_of (Joining p sent) = Some Coming
+role_of (FreshJoining p sent c) = Some Coming
+role_of (Head f c) = Some Leading
+role_of (FreshHead f c) = Some Leading
+role_of (Purging q c) = Some Leading
+role_of (Claiming f c) = Some Leading
+role_of (Clearing c) = Some Leading
+role_of (Returning c) = Some Leading
+role_of (Below f b c) = Some Following
+role_of (Rolling f b c) = Some Following
+role_of _ = None
 
--- the contents that an answer brings
-abbrev pub brought : CacheState → Option Body → Option Stamped
-brought Asking (Some (body.Mdata c)) = Some c
-brought Asking (Some (body.Fdata p c)) = Some c
-brought (Joining p sent) (Some (body.Cdata c)) = Some c
-brought (FreshJoining p sent d) (Some (body.Cdata c)) = Some c
-brought _ _ = None
+-- the contents that a state has, if it has any, are these
+abbrev pub Agrees : Stamped → CacheState → Type 0
+Agrees c state = IfSome (contents_of state) (λ d. d ≡ c)
 
--- the contents that a member has, and those under way to it, are these
-abbrev pub Agrees : Stamped → CacheState → Option Body → Type 0
-Agrees c state answer = IfSome (contents_of state) (λ d. d ≡ c) × IfSome (brought state answer) (λ d. d ≡ c)
-
-abbrev pub sight_of : CacheState → Option Body → Option (Option ℕ) × Option Role × Bool
-sight_of state answer = (link_of state answer, role_of state answer, is_fresh state answer)
+abbrev pub sight_of : CacheState → Option (Option ℕ) × Option Role × Bool
+sight_of state = (link_of state, role_of state, is_fresh state)
 
 -- a line stands as it stood, with the same contents, and takes what comes if it took it before
 pub record Alike (old : CacheState) (was : Option Body) (new : CacheState) (now : Option Body) : Type 0 where
-  pub sight : sight_of new now ≡ sight_of old was
-  pub agrees : (c : Stamped) → Agrees c old was → Agrees c new now
+  pub sight : sight_of (settled new now) ≡ sight_of (settled old was)
+  pub agrees : (c : Stamped) → Agrees c (settled old was) → Agrees c (settled new now)
   pub accepts : IsAccepted old was → IsAccepted new now
 
 pub alike_itself : (state : CacheState) (answer : Option Body) → Alike state answer state answer
@@ -96,13 +74,13 @@ pub record Performs (state : CacheState) (op : Op) (done : Performed) : Type 0 w
   pub has : contents_of state ≡ Some contents
   pub idle : waits state ≡ false
   pub behind : Option ℕ
-  pub member : link_of state None ≡ Some behind
+  pub member : link_of state ≡ Some behind
   pub reply : done.reply ≡ reply_of contents.line op
   pub version : done.version ≡ (after contents op).version
   pub leaves : Leaves state op contents done.next
 
 reads : (state : CacheState) (op : Op) (c : Stamped) (f : Option ℕ) (makes : Bool) → contents_of state ≡ Some c → waits state ≡ false
-    → link_of state None ≡ Some f → is_maker op ≡ makes
+    → link_of state ≡ Some f → is_maker op ≡ makes
     → IfSome (if makes then None else Some (record { reply = reply_of c.line op; version = c.version; next = state })) (Performs state op)
 reads state op c f true has idle member is = tt
 reads state op c f false has idle member is = grind arith
@@ -132,10 +110,9 @@ pub performing_keeps : (P : CacheState → Type 0) (state : CacheState) (op : Op
 performing_keeps P state op h makes =
     IfSome_then (performing state op) (performing_does state op) (λ done does. leaves_so P state op does.contents done.next h makes does.leaves)
 
--- ---- a member that comes and isn't fresh has no contents, and gets none
+-- ---- a member that comes and isn't fresh has no contents
 
-pub coming_empty : (state : CacheState) (answer : Option Body) (c : Stamped) → role_of state answer ≡ Some Coming → is_fresh state answer ≡ false
-    → Agrees c state answer
-coming_empty Asking (Some (body.Fdata None d)) c comes stale = search rules
-coming_empty _ (Some body.Busy) c comes stale = search rules
-coming_empty _ _ c comes stale = search rules
+pub coming_empty : (state : CacheState) (c : Stamped) → role_of state ≡ Some Coming → is_fresh state ≡ false → Agrees c state
+coming_empty (Joining p sent) c comes stale = tt
+coming_empty (FreshJoining p sent d) c comes stale = cc
+coming_empty _ c comes stale = search rules

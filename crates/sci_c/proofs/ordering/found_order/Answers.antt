@@ -1,4 +1,4 @@
-use Rattle.std.proofs.Common.{rules, arith, ◌≡◌, ◌∙◌, ℕ, List, Option, length, map, sym, ap, subst}
+use Rattle.std.proofs.Common.{rules, arith, ◌≡◌, ◌∙◌, ℕ, List, [], Option, drop, length, map, sym, ap, subst}
 use Rattle.std.proofs.lemmas.{Grind.{common_steps}, Simd.{map-map}}
 use denote.Ref.{Bor}
 use Rattle.std.specs.Global.{Vec}
@@ -50,10 +50,15 @@ returns-in-Ok-clause-answer c =
       };
       cycle = search rules;
       unlawful = search rules;
+      nothing = search rules;
       kinds = search rules;
       ordered = search rules;
       full = grind (arith, common_steps);
     }
+
+-- no structs stand over nothing
+nothing_over : (old new : List SciEntry) (used : ℕ) → StandOver [] old new used → (used ≡ 0) × (new ≡ old)
+nothing_over old new used over = (over.length_is, over.written ∙ ap (λ (n : ℕ). drop n old) over.length_is)
 
 pub returns-in-Ok-Fault-clause-answer : goal.returns-in-Ok-Fault-clause-answer
 returns-in-Ok-Fault-clause-answer c = record {
@@ -63,6 +68,7 @@ returns-in-Ok-Fault-clause-answer c = record {
       faulty_for c.args.journal.now.logs c.logs-logs.result.now c.args.journal.now.last c.last.result.now c.in-Ok-Fault.field-0 _ _ _
       c.logs-logs.ensures.logs c.last.ensures c.in-Ok-Fault.field-0-is c.nodes-sixteen.ensures.own
       (sym c.nodes-sixteen.ensures.nodes ∙ c.nodes-sixteen.ensures.sixteen) c.in-Ok-Fault.ensures.verdict lawful;
+  nothing = λ ok kind. nothing_over c.args.entries.now c.put-in-Ok-Fault.new.entries c.put-in-Ok-Fault.new.used (c.put-in-Ok-Fault.ensures.written ok);
   kinds = search rules;
   ordered = search rules;
   full = search rules;

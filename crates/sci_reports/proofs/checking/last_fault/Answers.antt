@@ -1,4 +1,4 @@
-use Rattle.sci_reports.specs.declared.text_lines.TextKind.TheVariants.{Script, Schedule, Log}
+use Rattle.sci_command.specs.declared.text_lines.TextKind.TheVariants.{Script, Schedule, Log}
 use Rattle.sci_reports.proofs.Checked.{last_of_three}
 use Rattle.sci_reports.proofs.checking.last_fault.Goals as goal
 

@@ -13,4 +13,4 @@ returns-clause-run c =
     let schedule = ended.result.schedule in
     subst (λ (s : ScriptValue). IsRunOf s c.args.plan.issuing done schedule) (c.go_on.ensures.script ∙ c.in_ok-table.ensures.script)
     (subst (λ (i : Issuing). IsRunOf table.script i done schedule) (c.go_on.ensures.issuing ∙ c.in_ok-table.ensures.issuing)
-    (run_if table.script table.issuing table.drivers schedule done c.in_ok-ran.ensures.answered ended.ensures.run ended.ensures.whole))
+    (run_if table.script table.issuing table.drivers schedule done c.in_ok-ran.ensures.answered.0 ended.ensures.run ended.ensures.whole))

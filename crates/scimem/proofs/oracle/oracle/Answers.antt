@@ -16,8 +16,11 @@ returns g c =
     let script = c.in_ok-script.script in
     let read = c.in_ok-script.ensures.text in (
       (
-        c.in_ok-script.ensures.unfailed,
-        (script_text script, read, oracle_is c.in_ok-text.text.items script c.in_ok-script.ensures.good read.few (search rules)),
+        λ is. cc,
+        (
+          c.in_ok-script.ensures.unfailed,
+          (script_text script, read, oracle_is c.in_ok-text.text.items script c.in_ok-script.ensures.good read.few (search rules)),
+        ),
       ),
       c.read_script.ensures.again,
     )

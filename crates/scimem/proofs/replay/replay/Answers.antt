@@ -15,11 +15,15 @@ returns g c =
     let led = rw c.deref.ensures.value at c.in_ok-machine.ensures.led in
     let ends = c.finish-logs.ensures in (
       (
-        c.in_ok-input.ensures.unfailed,
+        λ is. cc,
         (
-          input,
-          c.in_ok-input.ensures.read,
-          written_is input c.in_ok-text.text.items machine nodes logs.0 logs.1 led c.extent-nodes.ensures.nodes ends.logs ends.last c.in_ok-text.ensures.text,
+          c.in_ok-input.ensures.unfailed,
+          (
+            input,
+            c.in_ok-input.ensures.read,
+            written_is input c.in_ok-text.text.items machine nodes logs.0 logs.1 led c.extent-nodes.ensures.nodes ends.logs ends.last
+                c.in_ok-text.ensures.text,
+          ),
         ),
       ),
       c.read_input.ensures.again,

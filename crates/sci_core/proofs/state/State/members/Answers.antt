@@ -1,8 +1,9 @@
 use Rattle.std.proofs.Common.{◌≡◌, List, ℕ, length, ap, subst, arith, length-append, refl}
 use Rattle.sci_home.specs.Serving.{head_of}
-use Rattle.sci_core.specs.{Sharing.{authority_contents, home_at, sharer_of}, SharingList.{link_at}}
+use Rattle.sci_core.specs.{Sharing.{home_at, settled_at}, SharingList.{link_at}}
 use Rattle.sci_core.proofs.Shape.Shared.{sought_first, sought_more}
 use Rattle.sci_core.proofs.Shape.Walking.{IsWalked, walk_begins, walk_ends, walks_more, walk_done, walked_at}
+use Rattle.sci_cache.specs.Member.{contents_held}
 use Rattle.sci_core.proofs.state.State.members.Goals as goal
 
 pub loop-place-init : goal.loop-place-init
@@ -37,7 +38,7 @@ loop-place-preserved c =
       counted = omega (arith, longer, length-append {A = ℕ}, c.loop-place.invariant.counted);
       sought = rw c.in_ok-push.ensures.items
           (sought_more core c.args.line c.get-node.result c.loop-place.nodes.items c.loop-place.authority c.behind-next.new.found
-          (authority_contents (sharer_of core c.args.line c.get-node.result)) c.loop-place.invariant.sought at.below refl c.behind-next.ensures.here
+          (contents_held (settled_at core c.args.line c.get-node.result)) c.loop-place.invariant.sought at.below refl c.behind-next.ensures.here
           c.behind-next.ensures.before);
     }
 

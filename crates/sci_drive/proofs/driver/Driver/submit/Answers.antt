@@ -85,7 +85,9 @@ returns-in-Ok-clause-submits g c =
     let asked : hears c.args.gate.now (MayIssue driver.next true ∷ []) c.may_issue.new.self = rw (← c.if-not-may_issue.false) c.may_issue.ensures in
     let at = next_is g (goal.at.returns-in-Ok-clause-submits g c).In-Some in
     let made = submits_one hears g.met.G.Gate.hears_nothing c.args.gate.now c.may_issue.new.self driver (g.W.Worker.node c.args.worker.now)
-    (g.W.Worker.node c.submit.new.self) c.in-Some.op.now asked at c.in-Ok.ensures.issued in
+    (g.W.Worker.node c.submit.new.self) c.in-Some.op.now asked
+    (subst (λ (d : DriverOf). length d.pending < most_pending d.issuing) (sym c.self.view_is)
+    (c.has_room.ensures.0 (rw (← c.if-not-has_room.false) refl))) at c.in-Ok.ensures.issued in
     rw (← c.self.view_is, c.push.ensures.items) (made.0, Issues c.in-Some.op.now ∷ [], made.1, c.in-Ok.ensures.does)
 
 not_ok : {A E : Type 0} (r : Result A E) → ((x : A) → r ≡ Ok x → ⊥) → IsErr r

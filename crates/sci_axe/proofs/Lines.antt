@@ -1,0 +1,154 @@
+-- Lines of a trace, one after another.
+use Rattle.std.proofs.Common.{◌≡◌, ℕ, suc, ◌+◌, ◌<◌, ◌≤◌, List, [], ◌∷◌, ◌++◌, length, get_or, take, drop, Some, refl, sym, ap, subst, ◌∙◌, arith}
+use Rattle.std.proofs.Common.{inl, inr}
+use Rattle.std.proofs.lemmas.{Bool.{cases_eq, eq-eqb, ne_eqb}, List.{append-nil, length-append, take_more}}
+use Rattle.std.proofs.Math.Seq.{drop-cons}
+use Rattle.sci_judge.specs.declared.access.Access.{Access}
+use Rattle.sci_axe.specs.declared.line.Said.{Said, TheVariants.{Nothing, Did}}
+use Rattle.sci_axe.specs.{Line.{line_read}, Trace.{AreSaid, IsAdded, IsKnown, accesses_of, line_split}}
+use Rattle.sci_words.specs.declared.limits.TheConstants.{MAX_NODES}
+use Rattle.sci_judge.specs.Access.{AreKnown}
+use Rattle.std.proofs.lemmas.List.Elements.{All-push}
+
+-- ---- where a line ends
+
+split_end : (b : ℕ) (bytes : List ℕ) → b ≡ 10 → line_split (b ∷ bytes) ≡ ([], bytes)
+unfolding line_split
+split_end b bytes is = rw (eq-eqb b 10 is) refl
+
+split_more : (b : ℕ) (bytes : List ℕ) → (b ≡ 10 → ⊥) → line_split (b ∷ bytes) ≡ (b ∷ (line_split bytes).0, (line_split bytes).1)
+unfolding line_split
+split_more b bytes not_ = rw (ne_eqb b 10 not_) refl
+
+pub split_none : line_split [] ≡ ([], [])
+unfolding line_split
+split_none = refl
+
+split_long : (bytes : List ℕ) → length (line_split bytes).1 ≤ length bytes
+split_long [] = rw split_none (omega arith)
+split_long (b ∷ bytes) = elim (cases_eq b 10) [
+  | inl is ↦ rw (split_end b bytes is) (omega arith)
+  | inr not_ ↦ let more = split_long bytes in rw (split_more b bytes not_) (omega arith)
+]
+
+pub split_shorter : (bytes : List ℕ) → 0 < length bytes → length (line_split bytes).1 < length bytes
+split_shorter [] some = absurd (omega arith)
+split_shorter (b ∷ bytes) some = elim (cases_eq b 10) [
+  | inl is ↦ rw (split_end b bytes is) (omega arith)
+  | inr not_ ↦ let more = split_long bytes in rw (split_more b bytes not_) (omega arith)
+]
+
+-- no line feed up to a place
+abbrev pub IsWithin : List ℕ → ℕ → Type 0
+IsWithin bytes place = line_split bytes ≡ (take place bytes ++ (line_split (drop place bytes)).0, (line_split (drop place bytes)).1)
+
+drop_all : (xs : List ℕ) → drop (length xs) xs ≡ []
+drop_all [] = refl
+drop_all (x ∷ xs) = drop_all xs
+
+take_all : (xs : List ℕ) → take (length xs) xs ≡ xs
+take_all [] = refl
+take_all (x ∷ xs) = ap (λ (ys : List ℕ). x ∷ ys) (take_all xs)
+
+append_one : (xs : List ℕ) (b : ℕ) (ys : List ℕ) → (xs ++ b ∷ []) ++ ys ≡ xs ++ b ∷ ys
+append_one [] b ys = refl
+append_one (x ∷ xs) b ys = ap (λ (zs : List ℕ). x ∷ zs) (append_one xs b ys)
+
+pub within_none : (bytes : List ℕ) → IsWithin bytes 0
+within_none bytes = refl
+
+pub within_more : (bytes : List ℕ) (place : ℕ) → place < length bytes → (get_or bytes place 0 ≡ 10 → ⊥) → IsWithin bytes place → IsWithin bytes (place + 1)
+within_more bytes place lt not_ before =
+    let b = get_or bytes place 0 in
+    let one : suc place ≡ place + 1 = omega arith in
+    let cut : drop place bytes ≡ b ∷ drop (place + 1) bytes = drop-cons bytes place 0 lt ∙ ap (λ (k : ℕ). b ∷ drop k bytes) one in
+    let split : line_split (drop place bytes) ≡ (b ∷ (line_split (drop (place + 1) bytes)).0, (line_split (drop (place + 1) bytes)).1) =
+    ap line_split cut ∙ split_more b (drop (place + 1) bytes) not_ in
+    before
+    ∙ (ap (λ (p : List ℕ × List ℕ). (take place bytes ++ p.0, p.1)) split
+    ∙ ap (λ (xs : List ℕ). (xs, (line_split (drop (place + 1) bytes)).1))
+    (sym (append_one (take place bytes) b (line_split (drop (place + 1) bytes)).0)
+    ∙ ap (λ (xs : List ℕ). xs ++ (line_split (drop (place + 1) bytes)).0) (sym (take_more bytes place 0 lt))))
+
+pub within_end : (bytes : List ℕ) (place : ℕ) → place < length bytes → get_or bytes place 0 ≡ 10 → IsWithin bytes place
+    → line_split bytes ≡ (take place bytes, drop (place + 1) bytes)
+within_end bytes place lt is before =
+    let b = get_or bytes place 0 in
+    let one : suc place ≡ place + 1 = omega arith in
+    let cut : drop place bytes ≡ b ∷ drop (place + 1) bytes = drop-cons bytes place 0 lt ∙ ap (λ (k : ℕ). b ∷ drop k bytes) one in
+    let split : line_split (drop place bytes) ≡ ([], drop (place + 1) bytes) = ap line_split cut ∙ split_end b (drop (place + 1) bytes) is in
+    before
+    ∙ (ap (λ (p : List ℕ × List ℕ). (take place bytes ++ p.0, p.1)) split
+    ∙ ap (λ (xs : List ℕ). (xs, drop (place + 1) bytes)) (append-nil (take place bytes)))
+
+pub within_all : (bytes : List ℕ) (place : ℕ) → place ≡ length bytes → IsWithin bytes place → line_split bytes ≡ (bytes, [])
+within_all bytes place is before =
+    let over : drop place bytes ≡ [] = ap (λ (k : ℕ). drop k bytes) is ∙ drop_all bytes in
+    let whole : take place bytes ≡ bytes = ap (λ (k : ℕ). take k bytes) is ∙ take_all bytes in
+    before
+    ∙ (ap (λ (p : List ℕ × List ℕ). (take place bytes ++ p.0, p.1)) (ap line_split over ∙ split_none)
+    ∙ ap (λ (xs : List ℕ). (xs, [])) (append-nil (take place bytes) ∙ whole))
+
+-- ---- what lines say
+
+pub said_push : (said : List Said) (number : ℕ) (bytes rest : List ℕ) (next : Said) → AreSaid said number bytes rest → 0 < length rest
+    → line_read (number + length said) (line_split rest).0 ≡ Some (Some next) → AreSaid (said ++ next ∷ []) number bytes (line_split rest).1
+said_push [] number bytes rest next before some reads =
+    subst (λ (xs : List ℕ). AreSaid (next ∷ []) number xs (line_split rest).1) (sym before)
+    (some, ap (λ (k : ℕ). line_read k (line_split rest).0) (omega arith) ∙ reads, refl)
+said_push (s ∷ said) number bytes rest next before some reads = (
+  before.0,
+  before.1,
+  said_push said (number + 1) (line_split bytes).1 rest next before.2 some
+      (ap (λ (k : ℕ). line_read k (line_split rest).0) (omega arith) ∙ reads),
+)
+
+pub nothing_more : (said : List Said) → accesses_of (said ++ Nothing ∷ []) ≡ accesses_of said
+nothing_more [] = refl
+nothing_more (Nothing ∷ said) = nothing_more said
+nothing_more (Did a ∷ said) = ap (λ (xs : List Access). a ∷ xs) (nothing_more said)
+
+pub access_more : (said : List Said) (access : Access) → accesses_of (said ++ Did access ∷ []) ≡ accesses_of said ++ access ∷ []
+access_more [] access = refl
+access_more (Nothing ∷ said) access = access_more said access
+access_more (Did a ∷ said) access = ap (λ (xs : List Access). a ∷ xs) (access_more said access)
+
+added_more : (said : List Said) (next : Said) (accesses new : List Access) → accesses ≡ accesses_of said → IsAdded next accesses new
+    → new ≡ accesses_of (said ++ next ∷ [])
+added_more said Nothing accesses new are added = added ∙ (are ∙ sym (nothing_more said))
+added_more said (Did access) accesses new are added =
+    added ∙ (ap (λ (xs : List Access). xs ++ access ∷ []) are ∙ sym (access_more said access))
+
+-- what is read so far
+pub record IsReadTo (bytes rest : List ℕ) (number : ℕ) (accesses : List Access) : Type 0 where
+  pub said : List Said
+  pub lines : AreSaid said 1 bytes rest
+  pub are : accesses ≡ accesses_of said
+  pub place : number ≡ length said + 1
+  pub few : number + length rest ≤ length bytes + 1
+
+pub read_none : (bytes : List ℕ) (accesses : List Access) → accesses ≡ [] → IsReadTo bytes bytes 1 accesses
+read_none bytes accesses none = record { said = []; lines = refl; are = none; place = omega arith; few = omega arith }
+
+-- a line more
+pub read_more : (bytes rest more : List ℕ) (number : ℕ) (accesses new : List Access) (said : Said) → IsReadTo bytes rest number accesses → 0 < length rest
+    → line_read number (line_split rest).0 ≡ Some (Some said) → more ≡ (line_split rest).1 → IsAdded said accesses new
+    → IsReadTo bytes more (number + 1) new
+read_more bytes rest more number accesses new said is some reads left added =
+    let shorter = split_shorter rest some in
+    let few = is.few in
+    let place = is.place in
+    let long = length-append is.said (said ∷ []) in
+    let less : length more ≡ length (line_split rest).1 = ap length left in record {
+      said = is.said ++ said ∷ [];
+      lines = subst (AreSaid (is.said ++ said ∷ []) 1 bytes) (sym left)
+          (said_push is.said 1 bytes rest said is.lines some (ap (λ (k : ℕ). line_read k (line_split rest).0) (omega arith) ∙ reads));
+      are = added_more is.said said accesses new is.are added;
+      place = omega arith;
+      few = omega arith;
+    }
+
+pub known_more : (accesses new : List Access) (said : Said) → AreKnown accesses → IsKnown said → IsAdded said accesses new → AreKnown new
+known_more accesses new Nothing known is added = subst AreKnown (sym added) known
+known_more accesses new (Did access) known is added =
+    subst AreKnown (sym added) (All-push (λ a. a.processor < MAX_NODES) accesses access known is)

@@ -1,0 +1,5 @@
+pub mod Notation
+pub mod Line
+pub mod Trace
+pub mod Telling
+pub mod JudgeAnswer

@@ -1,0 +1,89 @@
+-- What is written of a judgement.
+use Rattle.std.specs.Prelude.{ℕ, ◌==◌, if◌then◌else◌, List, [], ◌++◌, codes, slice_index_or}
+use Rattle.std.specs.List.{flat_map}
+use Rattle.sci_text.specs.Number.{field, number}
+use Rattle.sci_command.specs.declared.outcome.Outcome.{Outcome, TheVariants.{Done, Unlawful}}
+use Rattle.sci_judge.specs.declared.access.{Access.{Access}, Kind.{Kind, TheVariants.{Load, Store, Atomic}}}
+use Rattle.sci_judge.specs.declared.witness.{Step.{Step, TheVariants.{Follows, Swaps, Falls, Rises, Starts, Ends}}}
+use Rattle.sci_judge.specs.declared.witness.Witness.{Witness, TheVariants.{Unwritten, UnwrittenLast, Early, Circle}}
+use Rattle.sci_judge.specs.declared.judging.Judgement.{Judgement, TheVariants.{Coherent, NotCoherent, Undecided}}
+
+-- ---- operations
+
+-- `M[A]`
+unfoldable pub memory_text : ℕ → List ℕ
+memory_text address = codes "M[" ++ (number address ++ codes "]")
+
+unfoldable pub wrote_text : ℕ → ℕ → List ℕ
+wrote_text address word = memory_text address ++ (codes " := " ++ number word)
+
+unfoldable pub found_text : ℕ → ℕ → List ℕ
+found_text address word = memory_text address ++ (codes " == " ++ number word)
+
+-- `M[A] := V`, `M[A] == V`, or `{ M[A] == V; M[A] := W }`
+unfoldable pub kind_text : ℕ → Kind → List ℕ
+kind_text address (Load word) = found_text address word
+kind_text address (Store word) = wrote_text address word
+kind_text address (Atomic read wrote) = codes "{ " ++ (found_text address read ++ (codes "; " ++ (wrote_text address wrote ++ codes " }")))
+
+-- `line L: P: ` and what was done
+unfoldable pub access_text : Access → List ℕ
+access_text access = codes "line" ++ (field access.line ++ (codes ": " ++ (number access.processor ++ (codes ": " ++ kind_text access.address access.kind))))
+
+-- an operation that there is not
+abbrev pub no_access : Access
+no_access = record { processor = 0; address = 0; kind = Load 0; begin = 0; end = 0; line = 0 }
+
+abbrev pub access_at : List Access → ℕ → Access
+access_at accesses place = slice_index_or accesses place no_access
+
+-- the operation at a place, behind some words
+unfoldable pub told_at : List Access → List ℕ → ℕ → List ℕ
+told_at accesses words place = words ++ access_text (access_at accesses place)
+
+-- ---- witnesses
+
+-- two operations of one processor, or two that are apart in time
+unfoldable pub order_text : Access → Access → List ℕ
+order_text earlier later = if earlier.processor == later.processor then codes " (program order)\n" else codes " (time)\n"
+
+-- that one operation comes before another, and why
+unfoldable pub pair_text : List Access → (earlier later : ℕ) → List ℕ
+pair_text accesses earlier later =
+    told_at accesses [] earlier ++ (told_at accesses (codes " comes before ") later ++ order_text (access_at accesses earlier) (access_at accesses later))
+
+-- that what an atomic read and wrote stand together
+unfoldable pub joint_text : List Access → ℕ → List ℕ
+joint_text accesses place = told_at accesses (codes "nothing comes between the two of ") place ++ codes "\n"
+
+-- that a word is left before it is written
+unfoldable pub early_text : List Access → (reader writer : ℕ) → List ℕ
+early_text accesses reader writer =
+    told_at accesses [] reader ++ (told_at accesses (codes " comes before ") writer ++ codes ", which alone writes this word\n")
+
+unfoldable pub step_text : List Access → Step → List ℕ
+step_text accesses (Follows earlier later) = pair_text accesses earlier later
+step_text accesses (Swaps place) = joint_text accesses place
+step_text accesses (Falls place) = joint_text accesses place
+step_text accesses (Rises place) = joint_text accesses place
+step_text accesses (Starts place) = told_at accesses (codes "0 at the start comes before ") place ++ codes "\n"
+step_text accesses (Ends place) = told_at accesses [] place ++ codes " comes before the last word\n"
+
+unfoldable pub witness_text : List Access → Witness → List ℕ
+witness_text accesses (Unwritten reader) = told_at accesses [] reader ++ codes " finds a word that nobody wrote\n"
+witness_text accesses UnwrittenLast = codes "nobody wrote the last word\n"
+witness_text accesses (Early reader writer) = early_text accesses reader writer
+witness_text accesses (Circle steps) = flat_map (step_text accesses) steps.items
+
+-- ---- judgements
+
+unfoldable pub judgement_text : Judgement → List ℕ
+judgement_text Coherent = codes "coherent\n"
+judgement_text (NotCoherent address accesses witness) = codes "not coherent at" ++ (field address ++ (codes "\n" ++ witness_text accesses.items witness))
+judgement_text (Undecided address) = codes "undecided at" ++ (field address ++ codes "\n")
+
+-- how the command ends
+abbrev pub outcome_of : Judgement → Outcome
+outcome_of Coherent = Done
+outcome_of (NotCoherent address accesses witness) = Unlawful
+outcome_of (Undecided address) = Unlawful

@@ -1,0 +1,31 @@
+use Rattle.std.proofs.Common.{◌≡◌, true, false, sym, subst, ◌∙◌}
+use Rattle.sci_history.specs.{Audit.{AreWithin}}
+use Rattle.sci_judge.specs.Stamped.{AreStamped}
+use Rattle.sci_judge.proofs.Stamps.{stamped_own, stamped_same, stamped_sixteen, stamped_times, stamped_within}
+use Rattle.sci_judge.proofs.site.Site.is_explained_by.Goals as goal
+
+pub audit-requires : goal.audit-requires
+audit-requires c =
+    let accesses = c.args.self.now.accesses.now in
+    let versions = c.args.versions.now in
+    let stamped : AreStamped accesses versions c.in-Some.logs = rw c.in-Some.is at c.in_ok-logs.ensures in
+    subst (λ lines. AreWithin lines c.in-Some.logs) (sym c.contents_with-last.ensures) (stamped_within accesses versions c.in-Some.logs stamped)
+
+pub returns-in-Lawful : goal.returns-in-Lawful
+returns-in-Lawful c = λ _.
+    let accesses = c.args.self.now.accesses.now in
+    let versions = c.args.versions.now in
+    let stamped : AreStamped accesses versions c.in-Some.logs = rw c.in-Some.is at c.in_ok-logs.ensures in (
+      c.in-Some.logs,
+      c.contents_with-last.result,
+      record {
+        versions = record {
+          own = stamped_own accesses versions c.in-Some.logs stamped;
+          sixteen = stamped_sixteen accesses versions c.in-Some.logs stamped;
+          same = stamped_same accesses versions c.in-Some.logs stamped;
+          lawful = c.in_ok-audit.ensures.lawful.0 c.in-Lawful.is;
+          agrees = c.if-not-is_last.ensures;
+        };
+        times = λ on. stamped_times accesses versions c.in-Some.logs stamped (c.in_ok-timely.ensures c.if-not-timely.false on);
+      },
+    )

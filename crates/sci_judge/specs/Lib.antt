@@ -1,0 +1,6 @@
+pub mod Access
+pub mod Coherent
+pub mod Witness
+pub mod Stamped
+pub mod Judgement
+pub mod Times

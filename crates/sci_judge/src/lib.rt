@@ -1,0 +1,23 @@
+//! The judge of traces without versions: whether operations at each address are coherent.
+#![tactic(auto)]
+
+mod access;
+mod chains;
+mod checking;
+mod explaining;
+mod finding;
+mod judging;
+mod laws;
+mod placing;
+mod site;
+mod stretches;
+mod times;
+mod timing;
+mod witness;
+
+pub use access::{Access, Kind};
+pub use finding::Finding;
+pub use judging::{Judgement, judge};
+pub use laws::witnesses_rule_out_coherence;
+pub use site::Site;
+pub use witness::{Claim, Step, Witness};

@@ -1,0 +1,146 @@
+//! All standings to which a number of steps leads.
+
+ghost use Rattle.std.specs.Prelude.{◌≡◌, ◌<◌, ◌*◌, ◌++◌, ◌∷◌, [], List, length, map, IfErr, IfOk, OnOk};
+ghost use Rattle.std.specs.List.{All};
+ghost use Rattle.sci_words.specs.declared.event.Event.{Event};
+ghost use Rattle.sci_core.specs.Size.{IsMachineSize, size_of};
+ghost use Rattle.sci_orders.specs.declared.fault.OrdersFault.TheVariants.{TooMany};
+ghost use Rattle.sci_orders.specs.Positions.{AreReachedIn, AreStepsFrom, AreTooMany, AreTooManyFrom, AreWithin, Fits, lists_of, opening_position, operation_count, position_of, steps_from, steps_of};
+ghost use Rattle.sci_orders.specs.Orders.{HasRun, IsAmong, IsOrderOf, IsScriptOf};
+ghost use Rattle.sci_orders.specs.Witness.{seen};
+
+use crate::fault::OrdersFault;
+use crate::standing::Standing;
+use sci_words::{Extent, Op};
+use std::alloc::{AllocError, Global};
+
+/// The most standings to which a number of steps may lead.
+pub const MAX_STANDINGS: usize = 100_000;
+
+/// The operations of a script, and how many of them may wait: what says in which orders they can be done.
+#[derive(Clone, Copy)]
+pub struct Orders<'a> {
+    /// Each node's operations, in their order.
+    pub operations: &'a [Vec<Op>],
+    /// How many operations of a node may wait at a time.
+    pub window: usize,
+}
+
+impl<'a> Orders<'a> {
+    /// Appends the standings to which one step of a node leads. Refused if memory is.
+    fn push_steps_of(
+        &self,
+        alloc: Global,
+        standing: &Standing,
+        n: usize,
+        next: &mut Vec<Standing>,
+    ) -> Result<(), AllocError>
+        requires fits { Fits (lists_of self.now.operations.now) (position_of standing.now) }
+        requires node { n < length self.now.operations.now }
+        ensures { OnOk result (map position_of next.new.items
+            ≡ map position_of next.old.items
+            ++ steps_of (lists_of self.now.operations.now) self.now.window (position_of standing.now) n) }
+    {
+        for i in 0..self.operations[n].len() {
+            if let Some(further) = standing.step(alloc, self, n, i)? {
+                next.push(further)?;
+            }
+        }
+        Ok(())
+    }
+
+    /// Appends the standings to which one step leads. Refused if memory is.
+    fn push_steps(
+        &self,
+        alloc: Global,
+        standing: &Standing,
+        next: &mut Vec<Standing>,
+    ) -> Result<(), AllocError>
+        requires { Fits (lists_of self.now.operations.now) (position_of standing.now) }
+        ensures { OnOk result (map position_of next.new.items
+            ≡ map position_of next.old.items
+            ++ steps_from (lists_of self.now.operations.now) self.now.window (position_of standing.now)) }
+    {
+        for n in 0..self.operations.len() {
+            self.push_steps_of(alloc, standing, n, next)?;
+        }
+        Ok(())
+    }
+
+    /// The standings to which one step leads from these, each once. Refused if memory is, or if there are more than
+    /// 100,000.
+    fn next_level(&self, alloc: Global, level: &[Standing]) -> Result<Vec<Standing>, OrdersFault>
+        requires { All (Fits (lists_of self.now.operations.now)) (map position_of level.now) }
+        ensures steps { IfOk result (λ next. AreStepsFrom (lists_of self.now.operations.now)
+            self.now.window (map position_of level.now) (map position_of next.items)) }
+        ensures many { IfErr result (λ fault. fault ≡ TooMany → AreTooManyFrom
+            (lists_of self.now.operations.now) self.now.window (map position_of level.now)) }
+    {
+        let mut next = Vec::new(alloc);
+        for standing in level {
+            self.push_steps(alloc, standing, &mut next)?;
+        }
+        next.sort()?;
+        next.dedup();
+        if next.len() > MAX_STANDINGS {
+            return Err(OrdersFault::TooMany);
+        }
+        Ok(next)
+    }
+
+    /// The standing from which the steps go. Refused if memory is.
+    fn first_level(&self, alloc: Global, lines: u8) -> Result<Vec<Standing>, AllocError>
+        ensures { IfOk result (λ level. map position_of level.items
+            ≡ opening_position lines (lists_of self.now.operations.now) ∷ []) }
+    {
+        let mut level = Vec::new(alloc);
+        level.push(Standing::opening(alloc, lines, self.operations)?)?;
+        Ok(level)
+    }
+
+    /// The standings to which two steps of each operation lead: in each of them every operation is performed. Requires
+    /// that each operation is on one of this number of lines. Refused if memory is, or if some number of steps leads to
+    /// more than 100,000 standings.
+    pub fn last_standings(&self, alloc: Global, lines: u8) -> Result<Vec<Standing>, OrdersFault>
+        requires { AreWithin lines (lists_of self.now.operations.now) }
+        ensures reached { IfOk result (λ level. AreReachedIn lines (lists_of self.now.operations.now)
+            self.now.window (operation_count (lists_of self.now.operations.now) * 2) (map position_of level.items)) }
+        ensures many { IfErr result (λ fault. fault ≡ TooMany →
+            AreTooMany lines (lists_of self.now.operations.now) self.now.window) }
+    {
+        let mut level = self.first_level(alloc, lines)?;
+        for own in self.operations {
+            for _operation in own {
+                let half = self.next_level(alloc, &level)?;
+                level = self.next_level(alloc, &half)?;
+            }
+        }
+        Ok(level)
+    }
+
+    /// All outcomes of the script on a machine of this size: where its runs end, if each node issues its operations in
+    /// their order. They are those of `last_standings`. Each is the end of a run, and each such run ends in one of them.
+    /// Requires that the operations are the machine's. Refused as `last_standings` is.
+    pub fn outcomes(
+        &self,
+        alloc: Global,
+        extent: Extent,
+        limit: u32,
+    ) -> Result<Vec<Standing>, OrdersFault>
+        requires size { IsMachineSize (size_of extent limit) }
+        requires script { IsScriptOf (size_of extent limit) (lists_of self.now.operations.now) }
+        ensures reached { IfOk result (λ outcomes. AreReachedIn extent.lines
+            (lists_of self.now.operations.now) self.now.window
+            (operation_count (lists_of self.now.operations.now) * 2) (map position_of outcomes.items)) }
+        ensures each { IfOk result (λ outcomes. All (λ p. (schedule : List Event) × HasRun
+            (size_of extent limit) (lists_of self.now.operations.now) self.now.window p schedule)
+            (map position_of outcomes.items)) }
+        ensures all { IfOk result (λ outcomes. (schedule : List Event) →
+            IsOrderOf (lists_of self.now.operations.now) self.now.window (seen (size_of extent limit) schedule) →
+            IsAmong (size_of extent limit) (lists_of self.now.operations.now) schedule (map position_of outcomes.items)) }
+        ensures many { IfErr result (λ fault. fault ≡ TooMany →
+            AreTooMany extent.lines (lists_of self.now.operations.now) self.now.window) }
+    {
+        self.last_standings(alloc, extent.lines)
+    }
+}
