@@ -5,7 +5,7 @@ use Rattle.sci_words.specs.declared.{event.Event.{Event}, limits.TheConstants.{M
 use Rattle.sci_text.specs.{Script.{ScriptValue}, Schedule.{ScheduleValue}}
 use Rattle.sci_core.specs.{Core.{Core, node_at, opening, run}, Node.{NodeOf}}
 use Rattle.sci_policy.specs.{Deeds.{Deed}, Policy.{PolicyOf, opening_policy}}
-use Rattle.sci_drive.specs.{declared.driver.{Issuing.{Issuing}, Round.{Round}}, Calls.{AllowAll}}
+use Rattle.sci_drive.specs.{declared.driver.{Issuing.{Issuing}, Round.{Round}}, Calls.{IsOpen}}
 use Rattle.sci_drive.specs.{Driving.{DriverOf, IsAnswered, opening_driver}, Rounds.{GoesRound}}
 use Rattle.sci_text.specs.Script.{operations_of}
 use Rattle.sci_drive.specs.ScriptLogs.{size_for}
@@ -36,7 +36,7 @@ StaysBut n old new = (m : ℕ) (d : _) → m ≢ n → slice_index_or new m d �
 
 -- a round of a driver whose gate allows all that it is asked about
 abbrev pub GoesOpenly : List Deed → DriverOf → DriverOf → NodeOf → NodeOf → Result Round AllocError → Type 0
-GoesOpenly deeds old new before after result = GoesRound (λ (first : Unit {0}) calls last. AllowAll calls) deeds tt tt old new before after result
+GoesOpenly deeds old new before after result = GoesRound (λ (first : Unit {0}) calls last. All IsOpen calls) deeds tt tt old new before after result
 
 -- A round of node n by these deeds: it submits the next operation if it can, performs what it can, and takes one turn. It is
 -- never told to wait.

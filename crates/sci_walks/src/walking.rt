@@ -18,6 +18,8 @@ use std::alloc::{AllocError, Global};
 /// How many events are drawn for an enabled one, at most.
 const DRAWS: u16 = 10_000;
 
+const _: () = prove!(DRAWS == 10_000);
+
 /// The node that stands this many steps behind another in the circle of all nodes.
 fn turn(first: u8, steps: u8, nodes: u8) -> u8
     requires first { first < nodes }

@@ -22,7 +22,7 @@ returns-in-Replay g c =
 pub returns-in-Threads : goal.returns-in-Threads
 returns-in-Threads g c =
     let ended = c.finish-in-Threads in
-    rw c.in-Threads.is (carried_out_beside IsThreadsAnswer (IsTold IsScriptFault) c.threads.result
+    rw c.in-Threads.is (carried_out_beside (IsThreadsAnswer c.in-Threads.turns) (IsTold IsScriptFault) c.threads.result
     ended.result.refusal (λ text is. is)
     c.threads.ensures ended.ensures.refusal ended.ensures.written ended.ensures.again)
 
