@@ -49,14 +49,14 @@ pub record IsRound (n : ℕ) (old new : Moment) : Type 0 where
   pub policies : StaysBut n old.policies new.policies
 
 -- some operation of the script has no entry yet
-abbrev pub IsOpen : Moment → Type 0
-IsOpen moment = All IsAnswered moment.drivers → ⊥
+abbrev pub AwaitsEntries : Moment → Type 0
+AwaitsEntries moment = All IsAnswered moment.drivers → ⊥
 
 -- this many rounds, of the nodes that come in this order, each from a moment at which some operation has no entry yet
 abbrev pub Played : ℕ → ℕ → Order → Moment → Order → Moment → Type 0
 Played nodes zero order old later new = (order ≡ later) × (old ≡ new)
 Played nodes (suc rounds) order old later new =
-    (mid : Moment) × (next : Order) × Played nodes rounds order old next mid × IsOpen mid × (later ≡ next_order nodes next)
+    (mid : Moment) × (next : Order) × Played nodes rounds order old next mid × AwaitsEntries mid × (later ≡ next_order nodes next)
     × IsRound (next_node nodes next) mid new
 
 -- A round of node n begins at this moment, in which the schedule gets as many events as it can have: by some of its deeds, from the
@@ -76,7 +76,7 @@ pub record HasNoRoom (nodes turns : ℕ) (order : Order) (first : Moment) : Type
   pub next : Order
   pub moment : Moment
   pub played : Played nodes rounds order first next moment
-  pub goes_on : IsOpen moment
+  pub goes_on : AwaitsEntries moment
   pub fills : FillsAt (next_node nodes next) moment
 
 -- A run begins: the machine is new, with room for as many operations as each node has in the script at least; nothing is
