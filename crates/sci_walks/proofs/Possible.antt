@@ -17,7 +17,7 @@ use Rattle.sci_words.specs.declared.event.AskKind.TheVariants as kind
 use Rattle.sci_words.specs.declared.event.Event.TheVariants as event
 
 -- the place of a kind among all
-place_of : AskKind → ℕ
+abbrev place_of : AskKind → ℕ
 place_of kind.Mread = 0
 place_of kind.Fread = 1
 place_of kind.Cread = 2

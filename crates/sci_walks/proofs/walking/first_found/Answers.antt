@@ -29,8 +29,8 @@ pub loop-place-preserved : goal.loop-place-preserved
 loop-place-preserved c =
     let was = c.loop-place.invariant in
     let core = c.args.machine.now in
-    let here = found_here core c.loop-place.machine _ c.loop-place.place c.looked_for.result _ None was.same c.extent.ensures.lines c.looked_for.ensures.event
-    c.in_default.is c.in_ok-event.ensures.found in record {
+    let here = found_here core c.loop-place.machine _ c.loop-place.place c.looked_for.result _ None was.same c.extent-extent.ensures.lines
+    c.looked_for.ensures.event c.in_default.is c.in_ok-event.ensures.found in record {
       same = c.in_ok-event.ensures.same c.in_default.is ∙ was.same;
       none = one_more core c.loop-place.place was.none here;
     }
@@ -40,8 +40,8 @@ returns-in-Some-clause-found c =
     let was = c.loop-place.invariant in
     let core = c.args.machine.now in
     let test = c.loop-place-test.true in
-    let nodes = c.extent.ensures.nodes in
-    let lines = c.extent.ensures.lines in record {
+    let nodes = c.extent-extent.ensures.nodes in
+    let lines = c.extent-extent.ensures.lines in record {
       place = c.loop-place.place;
       within = omega (arith, test, nodes, lines);
       found = found_here core c.loop-place.machine _ c.loop-place.place c.looked_for.result _ (Some c.in-Some.event) was.same lines
@@ -49,10 +49,10 @@ returns-in-Some-clause-found c =
       none_before = was.none;
     }
 
-pub unreachable : goal.unreachable
-unreachable c =
+pub unreachable-requires : goal.unreachable-requires
+unreachable-requires c =
     let was = c.loop-place.invariant in
     let past = c.loop-place-test.false in
-    let nodes = c.extent.ensures.nodes in
-    let lines = c.extent.ensures.lines in
-    never c.args.machine.now c.extent.ensures.reached (λ place lt. was.none place (omega (arith, past, nodes, lines)))
+    let nodes = c.extent-extent.ensures.nodes in
+    let lines = c.extent-extent.ensures.lines in
+    never c.args.machine.now c.extent-extent.ensures.reached (λ place lt. was.none place (omega (arith, past, nodes, lines)))

@@ -1,5 +1,5 @@
 use Rattle.std.proofs.Common.{◌≡◌, ℕ, List, Option, Some, None, refl, sym, subst, ◌∙◌, inl, inr}
-use Rattle.std.proofs.lemmas.Bool.{ltb-false, ltb-true}
+use Rattle.std.proofs.lemmas.{Bool.{ltb-false, ltb-true}, Result.{IfOk-weaker}}
 use Rattle.sci_words.specs.declared.event.Event.{Event}
 use Rattle.std.specs.Prelude.{IfSome}
 use Rattle.sci_chance.specs.Drawing.{drawn}
@@ -59,3 +59,18 @@ loop-draw-preserved c =
       drawn = λ event later rest. c.loop-draw.invariant.drawn event later
           (draws_on c.loop-draw._draw core state mid first event later c.loop-draw-test.true drawn_here none rest);
     }
+
+pub returns-clause-next : goal.returns-clause-next
+returns-clause-next c =
+    let core = c.args.machine.now in
+    let state = c.loop-draw.random in
+    let many = ltb-false (drawn 100 c.args.random.now) c.args.share (sym c.in_hundred.ensures.drawn ∙ c.if-in_hundred.false) in
+    IfOk-weaker c.first_found.result _ _ (λ event found.
+    let here = subst (λ (at : Core). IsFirstFound at event) c.loop-draw.invariant.same found in
+    inr (many, c.loop-draw.invariant.drawn event state (draws_first c.loop-draw._draw core state event c.loop-draw-test.false here)))
+    c.first_found.ensures.found
+
+pub returns-clause-size : goal.returns-clause-size
+returns-clause-size c =
+    IfOk-weaker c.first_found.result _ _ (λ event is.
+    size_then c.args.machine.now c.loop-draw.machine _ event c.loop-draw.invariant.same c.extent-extent.ensures.reached is) c.first_found.ensures.step
