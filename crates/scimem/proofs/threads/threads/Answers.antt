@@ -1,15 +1,15 @@
 -- What is written is the text of a run of the script that was read.
-use Rattle.std.proofs.Common.{◌≡◌, ◌<◌, ◌≤◌, ℕ, List, All, Vec, length, Bool, true, false, sym, subst, ap, ◌∙◌}
+use Rattle.std.proofs.Common.{◌≡◌, ◌<◌, ◌≤◌, ℕ, List, [], All, Vec, length, Bool, true, false, sym, subst, ap, ◌∙◌}
 use Rattle.std.specs.Prelude.{◌↔◌, slice_index_or}
 use Rattle.sci_words.specs.declared.{operation.Op.{Op}, limits.TheConstants.{MAX_OPERATIONS}}
-use Rattle.sci_core.specs.{Outcome.{logs_of}, Size.{Size}}
+use Rattle.sci_core.specs.{Core.{Core}, Outcome.{logs_of}, Size.{Size}}
 use Rattle.sci_lanes.specs.Gathering.{IsLedTo}
 use Rattle.sci_drive.specs.Script.{IsLogOf, IsWholeLogOf}
-use Rattle.sci_text.specs.{Tap.{has_failed, tapped}, FirstFault.{IsTold}, Log.{log_text}, Script.{script_text}}
+use Rattle.sci_text.specs.{Tap.{has_failed, tapped}, FirstFault.{IsTold}, Log.{log_text}, Script.{ScriptValue, script_text}}
 use Rattle.sci_text.specs.ScriptFault.{IsScriptFault}
 use Rattle.sci_text.specs.Script.{operations_of}
-use Rattle.sci_drive.specs.{declared.driver.Issuing.TheVariants.{Ahead}, ScriptLogs.{HaveLogsOf, HaveWholeLogsOf}}
-use Rattle.sci_threads.specs.{Shares.{own_of}, Slices.{AreDrivenThrough}}
+use Rattle.sci_drive.specs.{declared.driver.Issuing.TheVariants.{Ahead}, Calls.{AllowAll, Call}, ScriptLogs.{HaveLogsOf, HaveWholeLogsOf, size_for}}
+use Rattle.sci_threads.specs.{Shares.{own_of}, Slices.{AreDrivenOpenly, AreDrivenThrough, hears_openly}}
 use Rattle.sci_drive.proofs.Fresh.{sized_for}
 use Rattle.sci_threads.proofs.{DrivenNodes.{by_script, led_and_driven}, Openly.{all_openly}, RunStations.{of_script}}
 use Rattle.sci_command.proofs.Answers.{answer_made}
@@ -26,6 +26,20 @@ pub run_plan-requires-clause-few : goal.run_plan-requires-clause-few
 run_plan-requires-clause-few g c = λ lts met.
     subst (All (λ (own : Vec Op _). length own.items ≤ MAX_OPERATIONS)) (sym c.deref.ensures.value) c.in_ok-operations.ensures.few
 
+-- the nodes of a machine of the script were driven with a gate for each, which allows all
+driven_openly : {G Z : Type 0} (hears : G → List Call → G → Type 0) → ((g h : G) (calls : List Call) → hears g calls h → AllowAll calls)
+    → (turns : ℕ) (script : ScriptValue) (operations : List (Vec Op Z)) (gates : List G) (size : Size) (core : Core) (all : Bool) → size ≡ size_for script
+    → length gates ≡ script.nodes → length operations ≡ script.nodes
+    → ((n : ℕ) (d : Vec Op Z) → n < script.nodes → (slice_index_or operations n d).items ≡ operations_of n script.operations)
+    → (led : IsLedTo size core) × AreDrivenThrough hears turns Ahead (own_of operations) gates core led.schedule all
+    → (led : IsLedTo (size_for script) core) × AreDrivenOpenly turns Ahead (λ node. operations_of node script.operations) core led.schedule all
+driven_openly hears allows turns script operations gates size core all is many lists own rounds =
+    let there = subst (λ (z : Size). (led : IsLedTo z core)
+    × AreDrivenThrough hears turns Ahead (own_of operations) gates core led.schedule all) is rounds in
+    let nodes = ap (λ (z : Size). z.nodes) there.0.sized in
+    let by = by_script hears turns Ahead gates core there.0.schedule all script operations lists own nodes there.1 in
+    (there.0, all_openly hears allows (many ∙ sym nodes) by)
+
 pub returns : goal.returns
 returns g c =
     let script = c.in_ok-script.script in
@@ -39,22 +53,19 @@ returns g c =
     let logs = logs_of ran.machine in
     let turns = c.args.turns in
     let sized = sized_for c.extent-extent.result script nodes c.extent-extent.ensures.lines c.extent-extent.ensures.slots in
-    let there = subst (λ (z : Size). (led : IsLedTo z ran.machine)
-    × AreDrivenThrough _ turns Ahead (own_of operations) c.in_ok-gates.gates.items ran.machine led.schedule ran.finished) sized ran.ensures.rounds in
-    let led = there.0 in
-    let by = by_script _ turns Ahead c.in_ok-gates.gates.items ran.machine led.schedule ran.finished script operations many own
-    (ap (λ (z : Size). z.nodes) led.sized) there.1 in
+    let rounds = driven_openly _ (λ old new calls all. all) turns script operations c.in_ok-gates.gates.items _ ran.machine ran.finished sized
+    (c.in_ok-gates.ensures ∙ nodes) many own ran.ensures.rounds in
     let named : HaveLogsOf script logs = of_script IsLogOf script operations logs many own c.extent-extent.result.nodes nodes ran.ensures.named in
     let whole : ran.finished ≡ true → HaveWholeLogsOf script logs =
     λ finished. of_script IsWholeLogOf script operations logs many own c.extent-extent.result.nodes nodes (ran.ensures.whole finished) in
     let ended = c.finish-logs in
     let text = c.in_ok-text.text.items in
-    let both = led_and_driven _ turns Ahead c.in_ok-gates.gates.items ran.machine ran.finished _ _ _ _ ended.ensures.logs ended.ensures.last (led, by) in
-    let many_gates = c.in_ok-gates.ensures ∙ (nodes ∙ sym (ap (λ (z : Size). z.nodes) both.0.led.sized)) in
+    let both = led_and_driven hears_openly turns Ahead [] ran.machine ran.finished _ _ ended.result.0 ended.result.1 ended.ensures.logs
+    ended.ensures.last rounds in
     let run : IsRunOf turns script ended.result.0 ended.result.1 ran.finished =
     record {
       led = both.0;
-      driven = all_openly _ (λ old new calls all. all) many_gates both.1;
+      driven = both.1;
       lawful = ended.ensures.lawful;
       consistent = ended.ensures.consistent;
       named = subst (HaveLogsOf script) (sym ended.ensures.logs) named;
