@@ -10,6 +10,11 @@ ghost use Rattle.sci_policy.specs.Policy.{PolicyOf, turned};
 ghost use Rattle.sci_turn.specs.{Moves.{IsOwn}, Posts.{PostOf, post_at}, Whole.{IsWholeTurn}};
 ghost use Rattle.sci_fair.specs.{Lanes.{AreOpen, IsWork}, Looks.{HasLooked}, Stuck.{IsStuck}, Vain.{AreInVain}};
 
+use sci_policy::PATIENCE;
+
+// The number of turns that the pages name.
+const _: () = prove!(PATIENCE == 64);
+
 /// In a machine that works by turns, no request that changes a list at its home stands behind a Cread. So it is in one that
 /// opens, and in one where nothing is under way. And it stays so with each event of a turn, each Issue and each Perform.
 pub fn turns_keep_lanes_open()
