@@ -63,7 +63,8 @@ pub fn carried_out<T: Threads + Sync, R: Read, W: Write>(
         Command::Random { walk, dead } => { show(writer, random_schedule(alloc, &walk, dead)) }
         Command::Run(request) => show(writer, run(alloc, request, reader)),
         Command::Outcomes(request) => { show(writer, outcomes_of(rt, alloc, request, reader)) }
-        Command::Help => show_words(writer, HELP),
+        Command::Help(None) => show_words(writer, HELP),
+        Command::Help(Some(verb)) => show_words(writer, verb.help()),
         Command::Version => show_words(writer, VERSION),
     }
 }
