@@ -11,7 +11,7 @@ use Rattle.sciview.specs.declared.choice.Command.TheVariants as commands
 use Rattle.sciview.specs.declared.complaint.Complaint.{Complaint}
 use Rattle.sciview.specs.declared.complaint.Complaint.TheVariants as complaints
 use Rattle.sciview.specs.declared.verb.Verb.{Verb}
-use Rattle.sciview.specs.declared.verb.Verb.TheVariants.{Random}
+use Rattle.sciview.specs.declared.verb.Verb.TheVariants.{Chart, Check, Explain, Judge, Lists, Order, Outcomes, Packets, Random, Run, Stats, Trace}
 use Rattle.sciview.specs.Choice.{Asks, Chooses, ChoosesOf, IsChosenBy, IsHelp, command_of, file_words, is_refused, options_of, shown_in, verb_word}
 
 -- a command that reads a text
@@ -19,6 +19,36 @@ pub asks_text : (verb : Verb) (settings : List Setting) (alone : List (List ℕ)
     → Asks verb settings alone command file ↔ ((command_of verb settings ≡ Some command) × (alone ≡ file_words file))
 asks_text Random settings alone command file other = absurd (other refl)
 asks_text verb settings alone command file other = (λ h. h, λ h. h)
+
+unsome : {A : Type 0} (x y : A) → Some x ≡ Some y → x ≡ y
+unsome x y same = cc
+
+-- a command that reads a text, and the file that words name, are what is asked of it, and nothing else is
+pub asked_text : (verb : Verb) (settings : List Setting) (alone : List (List ℕ)) (asked : Command) (named : Option (List ℕ)) → ¬ (verb ≡ Random)
+    → command_of verb settings ≡ Some asked → ((file : Option (List ℕ)) → (Some named ≡ Some file) ↔ (alone ≡ file_words file))
+    → (command : Command) (file : Option (List ℕ)) → (Some (asked, named) ≡ Some (command, file)) ↔ Asks verb settings alone command file
+asked_text verb settings alone asked named other is files command file =
+    let text = asks_text verb settings alone command file other in (
+      λ same.
+          let pair = unsome (asked, named) (command, file) same in
+          let first : asked ≡ command = ap (λ p. p.0) pair in
+          let second : named ≡ file = ap (λ p. p.1) pair in
+          text.1 (is ∙ ap (λ (c : Command). Some c) first, (files file).0 (ap (λ (f : Option (List ℕ)). Some f) second)),
+      λ asks.
+          let two = text.0 asks in
+          let first : asked ≡ command = unsome asked command (sym is ∙ two.0) in
+          let second : named ≡ file = unsome named file ((files file).1 two.1) in
+          ap (λ (c : Command). Some (c, named)) first ∙ ap (λ (f : Option (List ℕ)). Some (command, f)) second,
+    )
+
+-- a verb that a word chooses is the only one of that word
+pub only_verb : (found : Option Verb) (word : List ℕ) (verb : Verb) → ((v : Verb) → (found ≡ Some v) ↔ (word ≡ verb_word v)) → found ≡ Some verb
+    → (v : Verb) → verb_word verb ≡ verb_word v → v ≡ verb
+only_verb found word verb says is v same = unsome v verb (sym ((says v).1 ((says verb).0 is ∙ same)) ∙ is)
+
+pub word_of : (found : Option Verb) (word : List ℕ) (verb : Verb) → ((v : Verb) → (found ≡ Some v) ↔ (word ≡ verb_word v)) → found ≡ Some verb
+    → word ≡ verb_word verb
+word_of found word verb says is = (says verb).0 is
 
 -- a complaint that isn't about memory, if nothing is chosen
 complains : (Chosen : Command → Option (List ℕ) → Type 0) (complaint : Complaint) → ((command : Command) (file : Option (List ℕ)) → ¬ (Chosen command file))
@@ -90,7 +120,18 @@ module _ (verb : Verb) (words : List (List ℕ)) where
 -- ---- all words
 
 verbs_begin : (verb : Verb) → begins_option (verb_word verb) ≡ false
-verbs_begin verb = elim verb as (λ (v : Verb). begins_option (verb_word v) ≡ false) [ _ ↦ refl ]
+verbs_begin Order = refl
+verbs_begin Explain = refl
+verbs_begin Judge = refl
+verbs_begin Run = refl
+verbs_begin Outcomes = refl
+verbs_begin Check = refl
+verbs_begin Packets = refl
+verbs_begin Trace = refl
+verbs_begin Lists = refl
+verbs_begin Stats = refl
+verbs_begin Chart = refl
+verbs_begin Random = refl
 
 abbrev head : List (List ℕ) → List ℕ
 head [] = []
@@ -164,10 +205,11 @@ module _ (words : List (List ℕ)) where
 
     pub chosen_by : (verb : Verb) (rest : List (List ℕ)) (result : Result Choice Complaint) → words ≡ verb_word verb ∷ rest
         → ((v : Verb) → verb_word verb ≡ verb_word v → v ≡ verb) → IsChosenBy (ChoosesOf verb rest) result → IsChosenBy (Chooses words) result
-    chosen_by verb rest (Ok choice) at only is command file =
-        let here = of_verb verb rest at only command file in
-        (λ chosen. (is command file).0 (here.0 chosen), λ same. here.1 ((is command file).1 same))
+    chosen_by verb rest (Ok choice) at only is = λ command file. (
+      λ chosen. (is command file).0 ((of_verb verb rest at only command file).0 chosen),
+      λ same. (of_verb verb rest at only command file).1 ((is command file).1 same),
+    )
     chosen_by verb rest (Err complaints.Memory) at only is = tt
-    chosen_by verb rest (Err complaints.NoCommand) at only is command file chosen = is command file ((of_verb verb rest at only command file).0 chosen)
-    chosen_by verb rest (Err (complaints.Words v problem)) at only is command file chosen =
-        is command file ((of_verb verb rest at only command file).0 chosen)
+    chosen_by verb rest (Err complaints.NoCommand) at only is = λ command file chosen. is command file ((of_verb verb rest at only command file).0 chosen)
+    chosen_by verb rest (Err (complaints.Words v problem)) at only is =
+        λ command file chosen. is command file ((of_verb verb rest at only command file).0 chosen)

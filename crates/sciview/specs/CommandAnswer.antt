@@ -28,6 +28,11 @@ help_text Stats = STATS.now
 help_text Chart = CHART.now
 help_text Random = RANDOM.now
 
+-- what the program says of a command, or of all
+abbrev pub help_for : Option Verb → List ℕ
+help_for None = HELP.now
+help_for (Some verb) = help_text verb
+
 -- the text that a command writes, and how it ends, for the bytes of a reader, which has failed or not
 abbrev pub IsAnswerTo : Command → Option (List ℕ) → Bool → List ℕ → Outcome → Type 0
 IsAnswerTo (commands.Order request) = IsOrderAnswer request
@@ -42,6 +47,5 @@ IsAnswerTo (commands.Chart request) = IsChartAnswer request
 IsAnswerTo (commands.Random walk dead) = λ input failed. IsRandomAnswer walk dead
 IsAnswerTo (commands.Run request) = IsRunAnswer request
 IsAnswerTo (commands.Outcomes request) = IsOutcomesAnswer request
-IsAnswerTo (commands.Help None) = λ input failed text outcome. (text ≡ HELP.now) × (outcome ≡ Done)
-IsAnswerTo (commands.Help (Some verb)) = λ input failed text outcome. (text ≡ help_text verb) × (outcome ≡ Done)
+IsAnswerTo (commands.Help verb) = λ input failed text outcome. (text ≡ help_for verb) × (outcome ≡ Done)
 IsAnswerTo commands.Version = λ input failed text outcome. (text ≡ VERSION.now) × (outcome ≡ Done)

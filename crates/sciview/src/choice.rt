@@ -1,6 +1,6 @@
 //! What the words of the command line choose.
 
-ghost use Rattle.std.specs.Prelude.{◌≡◌, ◌↔◌, ℕ, IsTrue, List, Option, None, Some, map, option_map};
+ghost use Rattle.std.specs.Prelude.{◌≡◌, ◌↔◌, ℕ, IfSome, IsTrue, List, [], ◌∷◌, Option, None, Some, codes, map, option_map};
 ghost use Rattle.sciview.specs.declared.choice.Command.{Command};
 ghost use Rattle.sciview.specs.Choice.{Asks, Chooses, ChoosesOf, FitsWalk, IsHelp, asked_events, asked_issuing, asked_order, asked_turns};
 ghost use Rattle.sciview.specs.Choice.{IsChosenBy, command_of, file_words, shown_in, walk_words};
@@ -249,6 +249,23 @@ fn asks_help(words: &[&str]) -> bool
     matches!(words, ["--help"] | ["-h"])
 }
 
+/// Whether words are one that asks for the version.
+fn asks_version(words: &[&str]) -> bool
+    ensures { IsTrue result ↔ (map (λ word. word.now) words.now ≡ codes "--version" ∷ []) }
+{
+    matches!(words, ["--version"])
+}
+
+/// The first word, and those behind it. None if there is none.
+fn first_of<'w, 'a>(words: &'w [&'a str]) -> Option<(&'a str, &'w [&'a str])>
+    ensures some { IfSome result (λ x. map (λ word. word.now) words.now
+        ≡ x.0.now ∷ map (λ word. word.now) x.1.now) }
+    ensures none { result ≡ None → map (λ word. word.now) words.now ≡ [] }
+{
+    let (word, rest) = words.split_first()?;
+    Some((*word, rest))
+}
+
 /// What the words behind a command choose, or what is wrong with them.
 fn chosen_of<'a>(alloc: Global, verb: Verb, words: &[&'a str]) -> Result<Choice<'a>, Complaint<'a>>
     ensures { IsChosenBy (ChoosesOf verb (map (λ word. word.now) words.now)) result }
@@ -273,10 +290,10 @@ fn chosen<'a>(alloc: Global, words: &[&'a str]) -> Result<Choice<'a>, Complaint<
     if asks_help(words) {
         return Ok(Choice::of(Command::Help(None)));
     }
-    if let ["--version"] = words {
+    if asks_version(words) {
         return Ok(Choice::of(Command::Version));
     }
-    let Some((word, rest)) = words.split_first() else {
+    let Some((word, rest)) = first_of(words) else {
         return Err(Complaint::NoCommand);
     };
     match Verb::of(word) {

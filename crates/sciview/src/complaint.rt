@@ -37,7 +37,7 @@ pub enum Complaint<'a> {
 impl<'a> Complaint<'a> {
     /// What is wrong with a word behind a command, if it isn't that there is no memory.
     pub fn of_word(verb: Verb, wrong: Wrong<'a>) -> Complaint<'a>
-        ensures { is_refused result ≡ lacks_memory wrong }
+        ensures { is_refused result ≡ lacks_memory wrong.entry }
     {
         match wrong {
             Wrong::Memory => Complaint::Memory,

@@ -1,7 +1,7 @@
 //! What the program says of itself and of its commands.
 
 ghost use Rattle.std.specs.Prelude.{◌≡◌};
-ghost use Rattle.sciview.specs.CommandAnswer.{help_text};
+ghost use Rattle.sciview.specs.CommandAnswer.{help_for, help_text};
 
 use crate::verb::Verb;
 
@@ -179,6 +179,16 @@ comes. No file and no standard input is read.
   --dead K      about K in a hundred, 0 to 100, are drawn from all events,
                 enabled or not
 ";
+
+/// What the program says of a command, or of all.
+pub fn help_of(verb: Option<Verb>) -> &'static str
+    ensures { result.now ≡ help_for verb }
+{
+    match verb {
+        None => HELP,
+        Some(verb) => verb.help(),
+    }
+}
 
 impl Verb {
     /// How the command is called, and what it writes.
