@@ -296,7 +296,7 @@ def try_words(faults, program, usage, words):
     """A command line that chooses no command: how the command or the program is called, status 2, and nothing is read."""
     trial = Trial(f"{len(words)} words {words[0][:20]!r}")
     ran = faults.run([program, *words])
-    called = ran.errors == usage or re.fullmatch(rb"sciview: .*\nusage: sciview order .*\n", ran.errors)
+    called = ran.errors == usage or re.fullmatch(rb"sciview order: .*\nusage: sciview order .*\n", ran.errors)
     return trial if ran[:2] == (2, b"") and called else trial.fail("odd words", ran)
 
 

@@ -1,4 +1,2 @@
+pub mod Chosen
 pub mod WalkWords
-pub mod RunWords
-pub mod OutcomesWords
-pub mod StatsWords

@@ -1,101 +1,122 @@
 -- The words of a command line.
-use Rattle.std.specs.Prelude.{◌≡◌, ◌<◌, ◌≤◌, ◌^◌, ◌++◌, ◌⊎◌, ℕ, Bool, List, [], ◌∷◌, codes, Option, Some, None, IfSome, true, false}
+use Rattle.std.specs.Prelude.{◌≡◌, ◌↔◌, ◌<◌, ◌^◌, ◌⊎◌, if◌then◌else◌, ℕ, Bool, List, [], ◌∷◌, codes, Option, Some, None, Result, Ok, Err}
+use Rattle.std.specs.Prelude.{option_map, true, false}
 use Rattle.sci_words.specs.declared.limits.TheConstants.{MAX_LINES, MAX_NODES}
 use Rattle.sci_text.specs.Number.{number}
-use Rattle.sci_axe.specs.declared.judging.JudgeRequest.{JudgeRequest}
-use Rattle.sci_charts.specs.declared.charting.{ChartRequest.{ChartRequest}, TextLines.{TextLines}}
+use Rattle.sci_options.specs.Options.{IsGiven, is_given, number_in, place_in, two_in, value_of}
+use Rattle.sci_options.specs.declared.argument.Argument.{Argument, TheVariants.{Nothing, Number, Place, TwoNumbers}}
+use Rattle.sci_options.specs.declared.option_name.OptionName.{OptionName}
+use Rattle.sci_options.specs.declared.option_name.OptionName.TheVariants as options
+use Rattle.sci_options.specs.declared.setting.{OptionRow.{OptionRow}, Setting.{Setting}}
+use Rattle.sci_charts.specs.declared.charting.TextLines.{TextLines}
 use Rattle.sci_drive.specs.declared.driver.Issuing.{Issuing, TheVariants.{Ahead, InOrder}}
 use Rattle.sci_reports.specs.declared.ordering.NodeOrder.{NodeOrder, TheVariants.{Logged, BySerial}}
-use Rattle.sci_reports.specs.declared.ordering.OrderRequest.{OrderRequest}
 use Rattle.sci_walks.specs.declared.random.Walk.{Walk}
-use Rattle.sci_outcomes.specs.declared.{outcomes_report.{OutcomesRequest.{OutcomesRequest}, TheConstants.{MAX_RUNS}}, run_report.RunRequest.{RunRequest}}
+use Rattle.sci_outcomes.specs.declared.outcomes_report.TheConstants.{MAX_RUNS}
 use Rattle.sci_outcomes.specs.declared.trials.Turns.{Turns, TheVariants.{Drawn, Threads}}
-use Rattle.sci_statistics.specs.declared.counting.StatsRequest.{StatsRequest}
-use Rattle.sci_traces.specs.declared.tracing.TraceRequest.{TraceRequest}
-use Rattle.sciview.specs.declared.choice.Command.{Command}
-use Rattle.sciview.specs.declared.choice.Command.TheVariants.{Order, Explain, Check, Judge, Packets, Trace, Lists, Stats, Chart, Random, Run, Outcomes, Help}
-use Rattle.sciview.specs.declared.choice.Command.TheVariants.{Version}
+use Rattle.sciview.specs.declared.choice.{Choice.{Choice}, Command.{Command}}
+use Rattle.sciview.specs.declared.choice.Command.TheVariants as commands
+use Rattle.sciview.specs.declared.complaint.Complaint.{Complaint, TheVariants.{Memory}}
+use Rattle.sciview.specs.declared.verb.Verb.{Verb}
+use Rattle.sciview.specs.declared.verb.Verb.TheVariants.{Chart, Check, Explain, Judge, Lists, Order, Outcomes, Packets, Random, Run, Stats, Trace}
 
--- an option that is one word, if it is given
-abbrev pub flag : List ℕ → Bool → List (List ℕ)
-flag word false = []
-flag word true = word ∷ []
+-- the word of a command
+abbrev pub verb_word : Verb → List ℕ
+verb_word Order = codes "order"
+verb_word Explain = codes "explain"
+verb_word Judge = codes "judge"
+verb_word Run = codes "run"
+verb_word Outcomes = codes "outcomes"
+verb_word Check = codes "check"
+verb_word Packets = codes "packets"
+verb_word Trace = codes "trace"
+verb_word Lists = codes "lists"
+verb_word Stats = codes "stats"
+verb_word Chart = codes "chart"
+verb_word Random = codes "random"
 
--- an option with a number, if it is given
-abbrev pub number_words : List ℕ → Option ℕ → List (List ℕ)
-number_words name None = []
-number_words name (Some n) = name ∷ number n ∷ []
+-- rows of the table of options: an option alone, a number below a count, a number within limits, two numbers
+abbrev pub flag : OptionName → OptionRow
+flag name = record { name = name; argument = Nothing }
 
--- the words that say a line, if one is asked for
-unfoldable pub line_words : Option ℕ → List (List ℕ)
-line_words = number_words (codes "--line")
+abbrev pub place : OptionName → ℕ → OptionRow
+place name count = record { name = name; argument = Place count }
 
--- a line that some machine has
-abbrev pub FitsLine : Option ℕ → Type 0
-FitsLine line = IfSome line (λ n. n < MAX_LINES)
+abbrev pub number_from : OptionName → ℕ → ℕ → OptionRow
+number_from name least greatest = record { name = name; argument = Number least greatest }
 
--- options stand in either order
-abbrev pub AreOptions : List (List ℕ) → List (List ℕ) → List (List ℕ) → Type 0
-AreOptions words a b = (words ≡ a ++ b) ⊎ (words ≡ b ++ a)
+abbrev pub two_numbers : OptionName → OptionRow
+two_numbers name = record { name = name; argument = TwoNumbers }
 
--- what stands behind `order`
-abbrev pub asks_serials : NodeOrder → Bool
-asks_serials Logged = false
-asks_serials BySerial = true
+-- the options of each command
+abbrev pub options_of : Verb → List OptionRow
+options_of Order = flag options.BySerial ∷ flag options.Show ∷ []
+options_of Judge = flag options.Times ∷ []
+options_of Run = number_from options.Seed 0 0xffff_ffff_ffff_ffff ∷ flag options.InOrder ∷ number_from options.Turns 0 0xffff_ffff_ffff_ffff ∷ []
+options_of Outcomes = number_from options.Runs 1 MAX_RUNS ∷ number_from options.Seed 0 0xffff_ffff_ffff_ffff ∷ flag options.Threads
+    ∷ flag options.InOrder ∷ []
+options_of Trace = flag options.Json ∷ flag options.Strict ∷ place options.Line MAX_LINES ∷ []
+options_of Lists = place options.Line MAX_LINES ∷ []
+options_of Stats = place options.Line MAX_LINES ∷ place options.Node MAX_NODES ∷ []
+options_of Chart = place options.Line MAX_LINES ∷ two_numbers options.Events ∷ []
+options_of Random = number_from options.Dead 0 100 ∷ []
+options_of verb = []
 
-abbrev pub ChoosesOrder : List (List ℕ) → OrderRequest → Type 0
-ChoosesOrder words request = AreOptions words (flag (codes "--by-serial") (asks_serials request.keeps)) (flag (codes "--show") request.shows)
+abbrev pub asked_line : List Setting → Option ℕ
+asked_line settings = place_in (value_of options.Line settings)
 
--- what stands behind `judge`
-abbrev pub ChoosesJudge : List (List ℕ) → JudgeRequest → Type 0
-ChoosesJudge words request = words ≡ flag (codes "--times") request.timed
+abbrev pub asked_number : OptionName → List Setting → Option ℕ
+asked_number name settings = number_in (value_of name settings)
 
--- what stands behind `trace`
-abbrev pub ChoosesTrace : List (List ℕ) → TraceRequest → Type 0
-ChoosesTrace words request = (words ≡ flag (codes "--json") request.json ++ (flag (codes "--strict") request.strict ++ line_words request.line))
-    × FitsLine request.line
+abbrev pub asked_issuing : List Setting → Issuing
+asked_issuing settings = if is_given options.InOrder settings then InOrder else Ahead
 
--- the same without `--json`
-abbrev pub ChoosesWords : List (List ℕ) → TraceRequest → Type 0
-ChoosesWords words request = (request.json ≡ false) × (words ≡ flag (codes "--strict") request.strict ++ line_words request.line) × FitsLine request.line
+abbrev pub asked_order : List Setting → NodeOrder
+asked_order settings = if is_given options.BySerial settings then BySerial else Logged
 
--- the words that say lines of a schedule, if some are asked for
-unfoldable pub events_words : Option TextLines → List (List ℕ)
-events_words None = []
-events_words (Some lines) = codes "--events" ∷ number lines.first ∷ number lines.last ∷ []
+abbrev pub asked_events : List Setting → Option TextLines
+asked_events settings = option_map (λ two. record { first = two.0; last = two.1 }) (two_in (value_of options.Events settings))
 
--- numbers of 64 bits, the first not above the last
-abbrev pub FitsEvents : Option TextLines → Type 0
-FitsEvents None = Unit {0}
-FitsEvents (Some lines) = (lines.first ≤ lines.last) × (lines.last < 2 ^ 64)
+-- in which order nodes take turns: by a seed, or by threads, but not both
+abbrev pub turn_order : Option ℕ → Bool → Option (Option Turns)
+turn_order None false = Some None
+turn_order None true = Some (Some Threads)
+turn_order (Some seed) false = Some (Some (Drawn seed))
+turn_order (Some seed) true = None
 
--- what stands behind `chart`
-abbrev pub ChoosesChart : List (List ℕ) → ChartRequest → Type 0
-ChoosesChart words request = (words ≡ line_words request.line ++ events_words request.events) × FitsLine request.line × FitsEvents request.events
+abbrev pub asked_turns : List Setting → Option (Option Turns)
+asked_turns settings = turn_order (asked_number options.Seed settings) (is_given options.Threads settings)
 
--- what stands behind `lists`
-abbrev pub ChoosesLine : List (List ℕ) → Option ℕ → Type 0
-ChoosesLine words line = (words ≡ line_words line) × FitsLine line
+abbrev pub outcomes_asked : List Setting → Option Turns → Command
+outcomes_asked settings turns =
+    commands.Outcomes (record { runs = asked_number options.Runs settings; turns = turns; issuing = asked_issuing settings })
 
--- the words that say a node, if one is asked for
-unfoldable pub node_words : Option ℕ → List (List ℕ)
-node_words = number_words (codes "--node")
-
--- a node that some machine has
-abbrev pub FitsNode : Option ℕ → Type 0
-FitsNode node = IfSome node (λ n. n < MAX_NODES)
-
--- what stands behind `stats`
-abbrev pub ChoosesStats : List (List ℕ) → StatsRequest → Type 0
-ChoosesStats words request = (words ≡ line_words request.line ++ node_words request.node) × FitsLine request.line × FitsNode request.node
+-- what a command other than `random` is asked for
+abbrev pub command_of : Verb → List Setting → Option Command
+command_of Order settings = Some (commands.Order (record { keeps = asked_order settings; shows = is_given options.Show settings }))
+command_of Explain settings = Some commands.Explain
+command_of Judge settings = Some (commands.Judge (record { timed = is_given options.Times settings }))
+command_of Run settings = Some (commands.Run (record {
+  seed = asked_number options.Seed settings;
+  issuing = asked_issuing settings;
+  turns = asked_number options.Turns settings;
+}))
+command_of Outcomes settings = option_map (outcomes_asked settings) (asked_turns settings)
+command_of Check settings = Some commands.Check
+command_of Packets settings = Some commands.Packets
+command_of Trace settings = Some (commands.Trace (record {
+  json = is_given options.Json settings;
+  strict = is_given options.Strict settings;
+  line = asked_line settings;
+}))
+command_of Lists settings = Some (commands.Lists (asked_line settings))
+command_of Stats settings = Some (commands.Stats (record { line = asked_line settings; node = place_in (value_of options.Node settings) }))
+command_of Chart settings = Some (commands.Chart (record { line = asked_line settings; events = asked_events settings }))
+command_of Random settings = None
 
 -- the words of a walk
 unfoldable pub walk_words : Walk → List (List ℕ)
 walk_words walk = number walk.nodes ∷ number walk.lines ∷ number walk.slots ∷ number walk.events ∷ number walk.seed ∷ []
-
--- the words that say how many of a hundred events may be dead, if any do
-unfoldable pub dead_words : Option ℕ → List (List ℕ)
-dead_words = number_words (codes "--dead")
 
 -- each number of a walk has 64 bits
 pub record FitsWalk (walk : Walk) : Type 0 where
@@ -105,87 +126,43 @@ pub record FitsWalk (walk : Walk) : Type 0 where
   pub events_fit : walk.events < 2 ^ 64
   pub seed_fits : walk.seed < 2 ^ 64
 
--- so has the share
-abbrev pub FitsDead : Option ℕ → Type 0
-FitsDead share = IfSome share (λ n. n < 2 ^ 64)
+-- the word of a file, if one is named
+abbrev pub file_words : Option (List ℕ) → List (List ℕ)
+file_words None = []
+file_words (Some file) = file ∷ []
 
--- what stands behind `random`, for a walk and a share
-abbrev pub ChoosesWalk : List (List ℕ) → Walk → Option ℕ → Type 0
-ChoosesWalk words walk dead = (words ≡ walk_words walk ++ dead_words dead) × FitsWalk walk × FitsDead dead
+-- options and words that stand alone ask this of a command, of this file
+abbrev pub Asks : Verb → List Setting → List (List ℕ) → Command → Option (List ℕ) → Type 0
+Asks Random settings alone command file = (walk : Walk) × (command ≡ commands.Random walk (asked_number options.Dead settings))
+    × (alone ≡ walk_words walk) × FitsWalk walk × (file ≡ None)
+Asks verb settings alone command file = (command_of verb settings ≡ Some command) × (alone ≡ file_words file)
 
--- the words that say how many turns a run takes at most, if some do
-unfoldable pub turns_words : Option ℕ → List (List ℕ)
-turns_words = number_words (codes "--turns")
+-- one word that asks for help
+abbrev pub IsHelp : List (List ℕ) → Type 0
+IsHelp words = (words ≡ codes "--help" ∷ []) ⊎ (words ≡ codes "-h" ∷ [])
 
-abbrev pub FitsTurns : Option ℕ → Type 0
-FitsTurns turns = IfSome turns (λ n. n < 2 ^ 64)
+-- the words behind a command choose what it is to do
+abbrev pub ChoosesOf : Verb → List (List ℕ) → Command → Option (List ℕ) → Type 0
+ChoosesOf verb words command file = (IsHelp words × (command ≡ commands.Help (Some verb)) × (file ≡ None)) ⊎ (¬ (IsHelp words)
+    × (settings : List Setting) × (alone : List (List ℕ)) × IsGiven (options_of verb) words settings alone × Asks verb settings alone command file)
 
-abbrev pub is_in_order : Issuing → Bool
-is_in_order Ahead = false
-is_in_order InOrder = true
+-- the words choose the command, and the file that it reads; None is standard input
+abbrev pub Chooses : List (List ℕ) → Command → Option (List ℕ) → Type 0
+Chooses words command file = (IsHelp words × (command ≡ commands.Help None) × (file ≡ None))
+    ⊎ (((words ≡ codes "--version" ∷ []) × (command ≡ commands.Version) × (file ≡ None))
+    ⊎ ((verb : Verb) × (rest : List (List ℕ)) × (words ≡ verb_word verb ∷ rest) × ChoosesOf verb rest command file))
 
--- when operations are submitted, and how many turns there are at most
-abbrev pub ChoosesPace : List (List ℕ) → Issuing → Option ℕ → Type 0
-ChoosesPace words issuing turns = (words ≡ flag (codes "--in-order") (is_in_order issuing) ++ turns_words turns) × FitsTurns turns
+-- a choice, without where its words lie
+abbrev pub shown_in : Choice → Command × Option (List ℕ)
+shown_in choice = (choice.command, option_map (λ file. file.now) choice.file)
 
--- the words that say a seed, if one is given
-abbrev pub seed_words : Option ℕ → List (List ℕ)
-seed_words = number_words (codes "--seed")
+-- whether there is no memory for words
+abbrev pub is_refused : Complaint → Bool
+is_refused Memory = true
+is_refused complaint = false
 
-abbrev pub FitsSeed : Option ℕ → Type 0
-FitsSeed seed = IfSome seed (λ n. n < 2 ^ 64)
-
--- what stands behind `run`
-abbrev pub ChoosesRun : List (List ℕ) → RunRequest → Type 0
-ChoosesRun words request = (words ≡ seed_words request.seed ++ (flag (codes "--in-order") (is_in_order request.issuing) ++ turns_words request.turns))
-    × FitsSeed request.seed × FitsTurns request.turns
-
--- the words that say how many runs there are, if some do
-abbrev pub runs_words : Option ℕ → List (List ℕ)
-runs_words = number_words (codes "--runs")
-
-abbrev pub FitsRuns : Option ℕ → Type 0
-FitsRuns runs = IfSome runs (λ n. (1 ≤ n) × (n ≤ MAX_RUNS))
-
--- the words that say in which order nodes take turns, if some do
-abbrev pub turn_order_words : Option Turns → List (List ℕ)
-turn_order_words None = []
-turn_order_words (Some (Drawn seed)) = codes "--seed" ∷ number seed ∷ []
-turn_order_words (Some Threads) = codes "--threads" ∷ []
-
-abbrev pub FitsTurnOrder : Option Turns → Type 0
-FitsTurnOrder None = Unit {0}
-FitsTurnOrder (Some (Drawn seed)) = seed < 2 ^ 64
-FitsTurnOrder (Some Threads) = Unit {0}
-
--- in which order nodes take turns, and when operations are submitted
-abbrev pub ChoosesTurnOrder : List (List ℕ) → Option Turns → Issuing → Type 0
-ChoosesTurnOrder words turns issuing = (words ≡ turn_order_words turns ++ flag (codes "--in-order") (is_in_order issuing)) × FitsTurnOrder turns
-
--- what stands behind `outcomes`
-abbrev pub ChoosesOutcomes : List (List ℕ) → OutcomesRequest → Type 0
-ChoosesOutcomes words request =
-    (words ≡ runs_words request.runs ++ (turn_order_words request.turns ++ flag (codes "--in-order") (is_in_order request.issuing))) × FitsRuns request.runs
-    × FitsTurnOrder request.turns
-
--- the first word chooses a command, and those behind it what it is asked for
-abbrev pub ChoosesBy : List ℕ → List (List ℕ) → Command → Type 0
-ChoosesBy word rest (Order request) = (word ≡ codes "order") × ChoosesOrder rest request
-ChoosesBy word rest Explain = (word ≡ codes "explain") × (rest ≡ [])
-ChoosesBy word rest Check = (word ≡ codes "check") × (rest ≡ [])
-ChoosesBy word rest (Judge request) = (word ≡ codes "judge") × ChoosesJudge rest request
-ChoosesBy word rest Packets = (word ≡ codes "packets") × (rest ≡ [])
-ChoosesBy word rest (Trace request) = (word ≡ codes "trace") × ChoosesTrace rest request
-ChoosesBy word rest (Lists line) = (word ≡ codes "lists") × ChoosesLine rest line
-ChoosesBy word rest (Stats request) = (word ≡ codes "stats") × ChoosesStats rest request
-ChoosesBy word rest (Chart request) = (word ≡ codes "chart") × ChoosesChart rest request
-ChoosesBy word rest (Random walk dead) = (word ≡ codes "random") × ChoosesWalk rest walk dead
-ChoosesBy word rest (Run request) = (word ≡ codes "run") × ChoosesRun rest request
-ChoosesBy word rest (Outcomes request) = (word ≡ codes "outcomes") × ChoosesOutcomes rest request
-ChoosesBy word rest Help = ((word ≡ codes "--help") ⊎ (word ≡ codes "-h")) × (rest ≡ [])
-ChoosesBy word rest Version = (word ≡ codes "--version") × (rest ≡ [])
-
--- the words choose the command
-abbrev pub Chooses : List (List ℕ) → Command → Type 0
-Chooses [] command = ⊥
-Chooses (word ∷ rest) command = ChoosesBy word rest command
+-- what is chosen is what words choose, and nothing else; there is a complaint if they choose nothing, or memory is refused
+abbrev pub IsChosenBy : (Command → Option (List ℕ) → Type 0) → Result Choice Complaint → Type 0
+IsChosenBy Chosen (Ok choice) = (command : Command) (file : Option (List ℕ)) → Chosen command file ↔ (shown_in choice ≡ (command, file))
+IsChosenBy Chosen (Err Memory) = Unit {0}
+IsChosenBy Chosen (Err complaint) = (command : Command) (file : Option (List ℕ)) → ¬ (Chosen command file)

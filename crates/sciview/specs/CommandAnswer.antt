@@ -1,7 +1,9 @@
 -- What each command writes for its input, and how it ends.
-use Rattle.std.specs.Prelude.{◌≡◌, ℕ, Bool, List, Option}
+use Rattle.std.specs.Prelude.{◌≡◌, ℕ, Bool, List, Option, Some, None}
 use Rattle.sci_command.specs.declared.outcome.Outcome.{Outcome, TheVariants.{Done}}
-use Rattle.sciview.specs.declared.{choice.Command.{Command}, help.TheConstants.{HELP, VERSION}}
+use Rattle.sciview.specs.declared.{choice.Command.{Command}, verb.Verb.{Verb}, help.TheConstants.{HELP, VERSION}}
+use Rattle.sciview.specs.declared.help.TheConstants.{CHART, CHECK, EXPLAIN, JUDGE, LISTS, ORDER, OUTCOMES, PACKETS, RANDOM, RUN, STATS, TRACE}
+use Rattle.sciview.specs.declared.verb.Verb.TheVariants.{Chart, Check, Explain, Judge, Lists, Order, Outcomes, Packets, Random, Run, Stats, Trace}
 use Rattle.sci_axe.specs.JudgeAnswer.{IsJudgeAnswer}
 use Rattle.sci_charts.specs.ChartAnswer.{IsChartAnswer}
 use Rattle.sci_reports.specs.{CheckAnswer.{IsCheckAnswer}, ExplainAnswer.{IsExplainAnswer}, OrderAnswer.{IsOrderAnswer}}
@@ -10,6 +12,26 @@ use Rattle.sci_outcomes.specs.{OutcomesAnswer.{IsOutcomesAnswer}, RunAnswer.{IsR
 use Rattle.sci_walks.specs.RandomAnswer.{IsRandomAnswer}
 use Rattle.sci_statistics.specs.StatsAnswer.{IsStatsAnswer}
 use Rattle.sciview.specs.declared.choice.Command.TheVariants as commands
+
+-- what a command says of itself
+abbrev pub help_text : Verb → List ℕ
+help_text Order = ORDER.now
+help_text Explain = EXPLAIN.now
+help_text Judge = JUDGE.now
+help_text Run = RUN.now
+help_text Outcomes = OUTCOMES.now
+help_text Check = CHECK.now
+help_text Packets = PACKETS.now
+help_text Trace = TRACE.now
+help_text Lists = LISTS.now
+help_text Stats = STATS.now
+help_text Chart = CHART.now
+help_text Random = RANDOM.now
+
+-- what the program says of a command, or of all
+abbrev pub help_for : Option Verb → List ℕ
+help_for None = HELP.now
+help_for (Some verb) = help_text verb
 
 -- the text that a command writes, and how it ends, for the bytes of a reader, which has failed or not
 abbrev pub IsAnswerTo : Command → Option (List ℕ) → Bool → List ℕ → Outcome → Type 0
@@ -25,5 +47,5 @@ IsAnswerTo (commands.Chart request) = IsChartAnswer request
 IsAnswerTo (commands.Random walk dead) = λ input failed. IsRandomAnswer walk dead
 IsAnswerTo (commands.Run request) = IsRunAnswer request
 IsAnswerTo (commands.Outcomes request) = IsOutcomesAnswer request
-IsAnswerTo commands.Help = λ input failed text outcome. (text ≡ HELP.now) × (outcome ≡ Done)
+IsAnswerTo (commands.Help verb) = λ input failed text outcome. (text ≡ help_for verb) × (outcome ≡ Done)
 IsAnswerTo commands.Version = λ input failed text outcome. (text ≡ VERSION.now) × (outcome ≡ Done)

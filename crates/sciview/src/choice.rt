@@ -1,36 +1,25 @@
-//! The words of the command line.
+//! What the words of the command line choose.
 
-ghost use Rattle.std.specs.Prelude.{◌≡◌, ◌↔◌, ◌<◌, ◌≤◌, ◌+◌, ◌∷◌, length, [], ℕ, Option, IfOk, Some, map, codes};
-ghost use Rattle.sci_words.specs.declared.limits.TheConstants.{MAX_LINES, MAX_NODES};
-ghost use Rattle.sci_text.specs.Number.{number};
-ghost use Rattle.sci_charts.specs.declared.charting.{ChartRequest.{ChartRequest}, TextLines.{TextLines}};
+ghost use Rattle.std.specs.Prelude.{◌≡◌, ◌↔◌, ℕ, IfSome, IsTrue, List, [], ◌∷◌, Option, None, Some, codes, map, option_map};
 ghost use Rattle.sciview.specs.declared.choice.Command.{Command};
-ghost use Rattle.sciview.specs.Choice.{Chooses, ChoosesBy, ChoosesChart, ChoosesJudge, ChoosesOrder, ChoosesOutcomes, ChoosesPace, ChoosesRun, ChoosesStats};
-ghost use Rattle.sciview.specs.Choice.{ChoosesTrace, ChoosesTurnOrder, ChoosesWalk, ChoosesWords, FitsDead, FitsEvents, FitsLine, FitsNode, FitsTurns};
-ghost use Rattle.sciview.specs.Choice.{FitsWalk, dead_words, events_words, flag, is_in_order, line_words, node_words, turns_words, walk_words};
-ghost use Rattle.sci_axe.specs.declared.judging.JudgeRequest.{JudgeRequest};
-ghost use Rattle.sci_reports.specs.declared.ordering.OrderRequest.{OrderRequest};
+ghost use Rattle.sciview.specs.Choice.{Asks, Chooses, ChoosesOf, FitsWalk, IsHelp, asked_events, asked_issuing, asked_order, asked_turns};
+ghost use Rattle.sciview.specs.Choice.{IsChosenBy, command_of, file_words, shown_in, walk_words};
 ghost use Rattle.sci_walks.specs.declared.random.Walk.{Walk};
-ghost use Rattle.sci_drive.specs.declared.driver.Issuing.{Issuing};
-ghost use Rattle.sci_outcomes.specs.declared.{outcomes_report.OutcomesRequest.{OutcomesRequest}, run_report.RunRequest.{RunRequest}, trials.Turns.{Turns}};
-ghost use Rattle.sci_statistics.specs.declared.counting.StatsRequest.{StatsRequest};
-ghost use Rattle.sci_traces.specs.declared.tracing.TraceRequest.{TraceRequest};
 
-use crate::usage::Complaint;
+use crate::complaint::{Complaint, Problem};
+use crate::verb::Verb;
 use sci_axe::JudgeRequest;
 use sci_charts::{ChartRequest, TextLines};
 use sci_command::texts_of;
 use sci_drive::Issuing;
-use sci_outcomes::{MAX_RUNS, OutcomesRequest, RunRequest, Turns};
+use sci_options::{Given, OptionName, read_words};
+use sci_outcomes::{OutcomesRequest, RunRequest, Turns};
 use sci_reports::{NodeOrder, OrderRequest};
 use sci_statistics::StatsRequest;
 use sci_text::whole_number;
 use sci_traces::TraceRequest;
 use sci_walks::Walk;
-use sci_words::{MAX_LINES, MAX_NODES};
-use std::alloc::{AllocError, Global};
-use std::rt::Env;
-use std::{env, io};
+use std::alloc::Global;
 
 /// What the program is asked to do.
 #[derive(Clone, Copy)]
@@ -59,55 +48,148 @@ pub enum Command {
     Run(RunRequest),
     /// Write the outcomes of a script's runs.
     Outcomes(OutcomesRequest),
-    /// Write what the program knows.
-    Help,
+    /// Write what the program knows, or how one command is called and what it does.
+    Help(Option<Verb>),
     /// Write which version of the program it is.
     Version,
+}
+
+/// What words choose: a command, and the file that it reads. None is standard input.
+#[derive(Clone, Copy)]
+pub struct Choice<'a> {
+    pub command: Command,
+    pub file: Option<&'a str>,
+}
+
+impl Choice<'_> {
+    /// The command alone.
+    fn of(command: Command) -> Self
+        ensures { shown_in result ≡ (command, None) }
+    {
+        Choice {
+            command,
+            file: None,
+        }
+    }
+
+    /// The file that is to be opened. None for standard input.
+    pub fn file_to_open(&self) -> Option<&str> {
+        match self.file {
+            Some("-") | None => None,
+            Some(file) => Some(file),
+        }
+    }
 }
 
 impl Command {
     /// The program and the word that chooses the command, as its messages name it.
     pub fn name(self) -> &'static str {
         match self {
-            Command::Order(_) => "sciview order",
-            Command::Explain => "sciview explain",
-            Command::Check => "sciview check",
-            Command::Judge(_) => "sciview judge",
-            Command::Packets => "sciview packets",
-            Command::Trace(_) => "sciview trace",
-            Command::Lists { .. } => "sciview lists",
-            Command::Stats(_) => "sciview stats",
-            Command::Chart(_) => "sciview chart",
-            Command::Random { .. } => "sciview random",
-            Command::Run(_) => "sciview run",
-            Command::Outcomes(_) => "sciview outcomes",
-            Command::Help | Command::Version => "sciview",
+            Command::Order(_) => Verb::Order.name(),
+            Command::Explain => Verb::Explain.name(),
+            Command::Check => Verb::Check.name(),
+            Command::Judge(_) => Verb::Judge.name(),
+            Command::Packets => Verb::Packets.name(),
+            Command::Trace(_) => Verb::Trace.name(),
+            Command::Lists { .. } => Verb::Lists.name(),
+            Command::Stats(_) => Verb::Stats.name(),
+            Command::Chart(_) => Verb::Chart.name(),
+            Command::Random { .. } => Verb::Random.name(),
+            Command::Run(_) => Verb::Run.name(),
+            Command::Outcomes(_) => Verb::Outcomes.name(),
+            Command::Help(_) | Command::Version => "sciview",
         }
     }
 }
 
-/// The line that a word says, from 0 to 63. None if it says none.
-fn line_of(word: &str) -> Option<u8>
-    ensures { (line : ℕ) → (result ≡ Some line) ↔
-        ((word.now ≡ number line) × (line < MAX_LINES)) }
+/// How the entries of a node stand in an order, as options say.
+fn order_of(given: &Given) -> NodeOrder
+    ensures { result ≡ asked_order given.now.settings.items }
 {
-    let line = whole_number(word.as_bytes())?;
-    if line >= u64::from(MAX_LINES) {
-        return None;
+    if given.has(OptionName::BySerial) {
+        NodeOrder::BySerial
+    } else {
+        NodeOrder::Logged
     }
-    Some(line as u8)
 }
 
-/// The node that a word says, from 0 to 15. None if it says none.
-fn node_of(word: &str) -> Option<u8>
-    ensures { (node : ℕ) → (result ≡ Some node) ↔
-        ((word.now ≡ number node) × (node < MAX_NODES)) }
+/// When operations are submitted, as options say.
+fn issuing_of(given: &Given) -> Issuing
+    ensures { result ≡ asked_issuing given.now.settings.items }
 {
-    let node = whole_number(word.as_bytes())?;
-    if node >= u64::from(MAX_NODES) {
-        return None;
+    if given.has(OptionName::InOrder) {
+        Issuing::InOrder
+    } else {
+        Issuing::Ahead
     }
-    Some(node as u8)
+}
+
+/// In which order nodes take turns, as options say. None if they say two orders.
+fn turns_of(given: &Given) -> Option<Option<Turns>>
+    ensures { result ≡ asked_turns given.now.settings.items }
+{
+    match (
+        given.number(OptionName::Seed),
+        given.has(OptionName::Threads),
+    ) {
+        (Some(_), true) => None,
+        (Some(seed), false) => Some(Some(Turns::Drawn { seed })),
+        (None, true) => Some(Some(Turns::Threads)),
+        (None, false) => Some(None),
+    }
+}
+
+/// The lines of a schedule that options say.
+fn events_of(given: &Given) -> Option<TextLines>
+    ensures { result ≡ asked_events given.now.settings.items }
+{
+    let (first, last) = given.two_numbers(OptionName::Events)?;
+    Some(TextLines { first, last })
+}
+
+/// What options ask of a command that reads a text. None if they ask for two orders of turns, or the command is `random`.
+fn command_of(verb: Verb, given: &Given) -> Option<Command>
+    ensures { result ≡ command_of verb given.now.settings.items }
+{
+    let line = given.place(OptionName::Line);
+    let command = match verb {
+        Verb::Order => Command::Order(OrderRequest {
+            keeps: order_of(given),
+            shows: given.has(OptionName::Show),
+        }),
+        Verb::Explain => Command::Explain,
+        Verb::Judge => Command::Judge(JudgeRequest {
+            timed: given.has(OptionName::Times),
+        }),
+        Verb::Run => Command::Run(RunRequest {
+            seed: given.number(OptionName::Seed),
+            issuing: issuing_of(given),
+            turns: given.number(OptionName::Turns),
+        }),
+        Verb::Outcomes => Command::Outcomes(OutcomesRequest {
+            runs: given.number(OptionName::Runs),
+            turns: turns_of(given)?,
+            issuing: issuing_of(given),
+        }),
+        Verb::Check => Command::Check,
+        Verb::Packets => Command::Packets,
+        Verb::Trace => Command::Trace(TraceRequest {
+            json: given.has(OptionName::Json),
+            strict: given.has(OptionName::Strict),
+            line,
+        }),
+        Verb::Lists => Command::Lists { line },
+        Verb::Stats => Command::Stats(StatsRequest {
+            line,
+            node: given.place(OptionName::Node),
+        }),
+        Verb::Chart => Command::Chart(ChartRequest {
+            line,
+            events: events_of(given),
+        }),
+        Verb::Random => return None,
+    };
+    Some(command)
 }
 
 /// The walk that five words say, each a number below 2^64. None if they say none.
@@ -128,415 +210,105 @@ fn walk_of(words: &[&str]) -> Option<Walk>
     })
 }
 
-/// How many of a hundred events may be dead, as words say: `--dead` with a number below 2^64, or no word. None if they
-/// say neither.
-#[tactic(auto, unfolding(crate::specs::Choice::dead_words))]
-fn dead_of(words: &[&str]) -> Option<Option<u64>>
-    ensures { (dead : Option ℕ) → (result ≡ Some dead) ↔
-        ((map (λ word. word.now) words.now ≡ dead_words dead) × FitsDead dead) }
+/// The file that words name: one, or none. None if they are more.
+fn file_of<'a>(words: &[&'a str]) -> Option<Option<&'a str>>
+    ensures { (file : Option (List ℕ))
+        → (option_map (option_map (λ word. word.now)) result ≡ Some file) ↔
+        (map (λ word. word.now) words.now ≡ file_words file) }
 {
     match words {
         [] => Some(None),
-        ["--dead", share] => {
-            let share = whole_number(share.as_bytes())?;
-            Some(Some(share))
-        }
+        [file] => Some(Some(*file)),
         _ => None,
     }
 }
 
-/// The walk and the share that the words behind `random` say. None if they say none.
-#[tactic(auto, unfolding(crate::specs::Choice::walk_words, crate::specs::Choice::dead_words))]
-fn random_of(words: &[&str]) -> Option<(Walk, Option<u64>)>
-    ensures { (walk : Walk) (dead : Option ℕ) → (result ≡ Some (walk, dead)) ↔
-        ChoosesWalk (map (λ word. word.now) words.now) walk dead }
+/// What options and words that stand alone ask of a command. None if they ask nothing that it does.
+fn asked_of<'a>(verb: Verb, given: &Given<'a>) -> Option<Choice<'a>>
+    ensures { (command : Command) (file : Option (List ℕ))
+        → (option_map shown_in result ≡ Some (command, file)) ↔
+        Asks verb given.now.settings.items (map (λ word. word.now) given.now.alone.items) command file }
 {
-    let (numbers, rest) = words.split_at_checked(5)?;
-    let walk = walk_of(numbers)?;
-    let dead = dead_of(rest)?;
-    Some((walk, dead))
-}
-
-/// The line that words say: `--line` with a number from 0 to 63, or no word. None if they say neither.
-#[tactic(auto, unfolding(crate::specs::Choice::line_words))]
-fn line_choice(words: &[&str]) -> Option<Option<u8>>
-    ensures { (line : Option ℕ) → (result ≡ Some line) ↔
-        ((map (λ word. word.now) words.now ≡ line_words line) × FitsLine line) }
-{
-    match words {
-        [] => Some(None),
-        ["--line", line] => {
-            let line = line_of(line)?;
-            Some(Some(line))
-        }
-        _ => None,
-    }
-}
-
-/// The node that words say: `--node` with a number from 0 to 15, or no word. None if they say neither.
-#[tactic(auto, unfolding(crate::specs::Choice::node_words))]
-fn node_choice(words: &[&str]) -> Option<Option<u8>>
-    ensures { (node : Option ℕ) → (result ≡ Some node) ↔
-        ((map (λ word. word.now) words.now ≡ node_words node) × FitsNode node) }
-{
-    match words {
-        [] => Some(None),
-        ["--node", node] => {
-            let node = node_of(node)?;
-            Some(Some(node))
-        }
-        _ => None,
-    }
-}
-
-/// What the words behind `stats` ask for: a line, then a node, or one of them, or neither. None if they say something else.
-#[tactic(auto, unfolding(crate::specs::Choice::line_words))]
-fn stats_choice(words: &[&str]) -> Option<StatsRequest>
-    ensures { (request : StatsRequest) → (result ≡ Some request) ↔
-        ChoosesStats (map (λ word. word.now) words.now) request }
-{
-    if let Some(node) = node_choice(words) {
-        return Some(StatsRequest { line: None, node });
-    }
-    match words {
-        ["--line", line, rest @ ..] => {
-            let line = line_of(line)?;
-            let node = node_choice(rest)?;
-            Some(StatsRequest {
-                line: Some(line),
-                node,
-            })
-        }
-        _ => None,
-    }
-}
-
-/// What the words behind `order` ask for: `--by-serial`, `--show`, both, or neither. None if they say something else.
-fn order_choice(words: &[&str]) -> Option<OrderRequest>
-    ensures { (request : OrderRequest) → (result ≡ Some request) ↔
-        ChoosesOrder (map (λ word. word.now) words.now) request }
-{
-    let (keeps, shows) = match words {
-        [] => (NodeOrder::Logged, false),
-        ["--show"] => (NodeOrder::Logged, true),
-        ["--by-serial"] => (NodeOrder::BySerial, false),
-        ["--by-serial", "--show"] | ["--show", "--by-serial"] => (NodeOrder::BySerial, true),
-        _ => return None,
-    };
-    Some(OrderRequest { keeps, shows })
-}
-
-/// What words ask of a trace in words: `--strict`, then a line, or one of them, or neither. None if they say something else.
-fn words_choice(words: &[&str]) -> Option<TraceRequest>
-    ensures { (request : TraceRequest) → (result ≡ Some request) ↔
-        ChoosesWords (map (λ word. word.now) words.now) request }
-{
-    if let Some(line) = line_choice(words) {
-        return Some(TraceRequest {
-            json: false,
-            strict: false,
-            line,
+    if let Verb::Random = verb {
+        let walk = walk_of(&given.alone)?;
+        let dead = given.number(OptionName::Dead);
+        return Some(Choice {
+            command: Command::Random { walk, dead },
+            file: None,
         });
     }
-    match words {
-        ["--strict", rest @ ..] => {
-            let line = line_choice(rest)?;
-            Some(TraceRequest {
-                json: false,
-                strict: true,
-                line,
-            })
-        }
-        _ => None,
-    }
+    let command = command_of(verb, given)?;
+    let file = file_of(&given.alone)?;
+    Some(Choice { command, file })
 }
 
-/// What the words behind `judge` ask for: `--times`, or no word. None if they say neither.
-fn judge_choice(words: &[&str]) -> Option<JudgeRequest>
-    ensures { (request : JudgeRequest) → (result ≡ Some request) ↔
-        ChoosesJudge (map (λ word. word.now) words.now) request }
+/// Whether words are one that asks for help.
+fn asks_help(words: &[&str]) -> bool
+    ensures { IsTrue result ↔ IsHelp (map (λ word. word.now) words.now) }
 {
-    match words {
-        [] => Some(JudgeRequest { timed: false }),
-        ["--times"] => Some(JudgeRequest { timed: true }),
-        _ => None,
-    }
+    matches!(words, ["--help"] | ["-h"])
 }
 
-/// What the words behind `trace` ask for: `--json`, `--strict` and a line, in this order, or some of them. None if they say
-/// something else.
-fn trace_choice(words: &[&str]) -> Option<TraceRequest>
-    ensures { (request : TraceRequest) → (result ≡ Some request) ↔
-        ChoosesTrace (map (λ word. word.now) words.now) request }
+/// Whether words are one that asks for the version.
+fn asks_version(words: &[&str]) -> bool
+    ensures { IsTrue result ↔ (map (λ word. word.now) words.now ≡ codes "--version" ∷ []) }
 {
-    if let Some(request) = words_choice(words) {
-        return Some(request);
-    }
-    match words {
-        ["--json", rest @ ..] => {
-            let request = words_choice(rest)?;
-            Some(TraceRequest {
-                json: true,
-                ..request
-            })
-        }
-        _ => None,
-    }
+    matches!(words, ["--version"])
 }
 
-/// The lines of a schedule that words say: `--events` with two numbers below 2^64, the first not above the last, or no word.
-/// None if they say neither.
-#[tactic(auto, unfolding(crate::specs::Choice::events_words))]
-fn events_choice(words: &[&str]) -> Option<Option<TextLines>>
-    ensures { (events : Option TextLines) → (result ≡ Some events) ↔
-        ((map (λ word. word.now) words.now ≡ events_words events) × FitsEvents events) }
-{
-    match words {
-        [] => Some(None),
-        ["--events", first, last] => {
-            let first = whole_number(first.as_bytes())?;
-            let last = whole_number(last.as_bytes())?;
-            if first > last {
-                return None;
-            }
-            Some(Some(TextLines { first, last }))
-        }
-        _ => None,
-    }
-}
-
-/// How many of the words behind `chart` say a line of memory: all but the last three, or all if they are fewer.
-fn line_word_count(words: &[&str]) -> usize
-    ensures short { length words.now < 3 → result ≡ length words.now }
-    ensures long { 3 ≤ length words.now → result + 3 ≡ length words.now }
-    ensures within { result ≤ length words.now }
-{
-    if words.len() < 3 {
-        words.len()
-    } else {
-        words.len() - 3
-    }
-}
-
-/// What is asked of a chart, if both parts are said.
-fn chart_of(line: Option<Option<u8>>, events: Option<Option<TextLines>>) -> Option<ChartRequest>
-    ensures { (request : ChartRequest) → (result ≡ Some request) ↔
-        ((line ≡ Some request.line) × (events ≡ Some request.events)) }
-{
-    Some(ChartRequest {
-        line: line?,
-        events: events?,
-    })
-}
-
-/// What the words behind `chart` ask for: a line, then the lines of the schedule, or one of them, or neither. None if they say
-/// something else.
-fn chart_choice(words: &[&str]) -> Option<ChartRequest>
-    ensures { (request : ChartRequest) → (result ≡ Some request) ↔
-        ChoosesChart (map (λ word. word.now) words.now) request }
-{
-    let (front, back) = words.split_at(line_word_count(words));
-    chart_of(line_choice(front), events_choice(back))
-}
-
-/// How many turns a run takes at most, as words say: `--turns` with a number below 2^64, or no word. None if they say
-/// neither.
-#[tactic(auto, unfolding(crate::specs::Choice::turns_words))]
-fn turns_choice(words: &[&str]) -> Option<Option<u64>>
-    ensures { (turns : Option ℕ) → (result ≡ Some turns) ↔
-        ((map (λ word. word.now) words.now ≡ turns_words turns) × FitsTurns turns) }
-{
-    match words {
-        [] => Some(None),
-        ["--turns", turns] => {
-            let turns = whole_number(turns.as_bytes())?;
-            Some(Some(turns))
-        }
-        _ => None,
-    }
-}
-
-/// When operations are submitted, and how many turns a run takes at most, as words say: `--in-order`, then the turns, or one
-/// of them, or neither. None if they say something else.
-fn pace_choice(words: &[&str]) -> Option<(Issuing, Option<u64>)>
-    ensures { (issuing : Issuing) (turns : Option ℕ) → (result ≡ Some (issuing, turns)) ↔
-        ChoosesPace (map (λ word. word.now) words.now) issuing turns }
-{
-    if let Some(turns) = turns_choice(words) {
-        return Some((Issuing::Ahead, turns));
-    }
-    match words {
-        ["--in-order", rest @ ..] => {
-            let turns = turns_choice(rest)?;
-            Some((Issuing::InOrder, turns))
-        }
-        _ => None,
-    }
-}
-
-/// What the words behind `run` ask for: `--seed` with a number below 2^64 first, if there is one. None if they say something
-/// else.
-fn run_choice(words: &[&str]) -> Option<RunRequest>
-    ensures { (request : RunRequest) → (result ≡ Some request) ↔
-        ChoosesRun (map (λ word. word.now) words.now) request }
-{
-    if let Some((issuing, turns)) = pace_choice(words) {
-        return Some(RunRequest {
-            seed: None,
-            issuing,
-            turns,
-        });
-    }
-    match words {
-        ["--seed", seed, rest @ ..] => {
-            let seed = whole_number(seed.as_bytes())?;
-            let (issuing, turns) = pace_choice(rest)?;
-            Some(RunRequest {
-                seed: Some(seed),
-                issuing,
-                turns,
-            })
-        }
-        _ => None,
-    }
-}
-
-/// When operations are submitted, as words say: `--in-order`, or no word. None if they say neither.
-fn issuing_choice(words: &[&str]) -> Option<Issuing>
-    ensures { (issuing : Issuing) → (result ≡ Some issuing) ↔
-        (map (λ word. word.now) words.now ≡ flag (codes "--in-order") (is_in_order issuing)) }
-{
-    match words {
-        [] => Some(Issuing::Ahead),
-        ["--in-order"] => Some(Issuing::InOrder),
-        _ => None,
-    }
-}
-
-/// In which order the nodes of runs take turns, and when operations are submitted, as words say: `--seed` with a number below
-/// 2^64, or `--threads`, then `--in-order`, or one of them, or neither. None if they say something else.
-fn turns_and_issuing(words: &[&str]) -> Option<(Option<Turns>, Issuing)>
-    ensures { (turns : Option Turns) (issuing : Issuing) → (result ≡ Some (turns, issuing)) ↔
-        ChoosesTurnOrder (map (λ word. word.now) words.now) turns issuing }
-{
-    if let Some(issuing) = issuing_choice(words) {
-        return Some((None, issuing));
-    }
-    match words {
-        ["--seed", seed, rest @ ..] => {
-            let seed = whole_number(seed.as_bytes())?;
-            let issuing = issuing_choice(rest)?;
-            Some((Some(Turns::Drawn { seed }), issuing))
-        }
-        ["--threads", rest @ ..] => {
-            let issuing = issuing_choice(rest)?;
-            Some((Some(Turns::Threads), issuing))
-        }
-        _ => None,
-    }
-}
-
-/// How many runs a word says, 1 to 1,000,000. None if it says none.
-fn runs_of(word: &str) -> Option<u64>
-    ensures { (runs : ℕ) → (result ≡ Some runs) ↔
-        ((word.now ≡ number runs) × (1 ≤ runs) × (runs ≤ MAX_RUNS)) }
-{
-    let runs = whole_number(word.as_bytes())?;
-    if runs < 1 || runs > MAX_RUNS {
-        return None;
-    }
-    Some(runs)
-}
-
-/// What the words behind `outcomes` ask for: `--runs` with a number from 1 to 1,000,000 first, if there is one. None if they
-/// say something else.
-fn outcomes_choice(words: &[&str]) -> Option<OutcomesRequest>
-    ensures { (request : OutcomesRequest) → (result ≡ Some request) ↔
-        ChoosesOutcomes (map (λ word. word.now) words.now) request }
-{
-    if let Some((turns, issuing)) = turns_and_issuing(words) {
-        return Some(OutcomesRequest {
-            runs: None,
-            turns,
-            issuing,
-        });
-    }
-    match words {
-        ["--runs", runs, rest @ ..] => {
-            let runs = runs_of(runs)?;
-            let (turns, issuing) = turns_and_issuing(rest)?;
-            Some(OutcomesRequest {
-                runs: Some(runs),
-                turns,
-                issuing,
-            })
-        }
-        _ => None,
-    }
-}
-
-/// What a first word chooses, with those behind it. None if they choose nothing.
-fn chosen_by(word: &str, rest: &[&str]) -> Option<Command>
-    ensures { (command : Command) → (result ≡ Some command) ↔
-        ChoosesBy word.now (map (λ word. word.now) rest.now) command }
-{
-    match word {
-        "order" => Some(Command::Order(order_choice(rest)?)),
-        "judge" => Some(Command::Judge(judge_choice(rest)?)),
-        "trace" => Some(Command::Trace(trace_choice(rest)?)),
-        "lists" => Some(Command::Lists {
-            line: line_choice(rest)?,
-        }),
-        "stats" => Some(Command::Stats(stats_choice(rest)?)),
-        "chart" => Some(Command::Chart(chart_choice(rest)?)),
-        "random" => {
-            let (walk, dead) = random_of(rest)?;
-            Some(Command::Random { walk, dead })
-        }
-        "run" => Some(Command::Run(run_choice(rest)?)),
-        "outcomes" => Some(Command::Outcomes(outcomes_choice(rest)?)),
-        "explain" if rest.is_empty() => Some(Command::Explain),
-        "check" if rest.is_empty() => Some(Command::Check),
-        "packets" if rest.is_empty() => Some(Command::Packets),
-        "--help" | "-h" if rest.is_empty() => Some(Command::Help),
-        "--version" if rest.is_empty() => Some(Command::Version),
-        _ => None,
-    }
-}
-
-/// The command that the words of the command line choose, the program's own name left out.
-pub fn chosen(words: &[&str]) -> Option<Command>
-    ensures { (command : Command)
-        → (result ≡ Some command) ↔ Chooses (map (λ word. word.now) words.now) command }
+/// The first word, and those behind it. None if there is none.
+fn first_of<'w, 'a>(words: &'w [&'a str]) -> Option<(&'a str, &'w [&'a str])>
+    ensures some { IfSome result (λ x. map (λ word. word.now) words.now
+        ≡ x.0.now ∷ map (λ word. word.now) x.1.now) }
+    ensures none { result ≡ None → map (λ word. word.now) words.now ≡ [] }
 {
     let (word, rest) = words.split_first()?;
-    chosen_by(word, rest)
+    Some((*word, rest))
 }
 
-/// The same of words as they are read, the program's own name left out. Refused if memory is.
-pub fn choice_of(alloc: Global, words: &[String]) -> Result<Option<Command>, AllocError>
-    ensures { IfOk result (λ choice. (command : Command)
-        → (choice ≡ Some command) ↔
-        Chooses (map (λ word. word.bytes.items) words.now) command) }
+/// What the words behind a command choose, or what is wrong with them.
+fn chosen_of<'a>(alloc: Global, verb: Verb, words: &[&'a str]) -> Result<Choice<'a>, Complaint<'a>>
+    ensures { IsChosenBy (ChoosesOf verb (map (λ word. word.now) words.now)) result }
 {
-    let texts = texts_of(alloc, words)?;
-    Ok(chosen(&texts))
-}
-
-/// The words of the command line, the program's own name left out. It fails if they can't be read, or memory is refused.
-fn words_of(rt: &(impl Env + AllocGlobal)) -> io::Result<Vec<String>> {
-    Ok(env::args(rt)?.skip(1).collect(rt.alloc())?)
-}
-
-/// The command that the program was asked to do, or what is said if the command line chooses none, can't be read, or takes
-/// memory that is refused. No contract says what a command line has: `choice_of` has the contract.
-pub fn asked(rt: &(impl Env + AllocGlobal)) -> Result<Command, Complaint> {
-    let Ok(words) = words_of(rt) else {
-        return Err(Complaint::of_no_command());
+    if asks_help(words) {
+        return Ok(Choice::of(Command::Help(Some(verb))));
+    }
+    let given = match read_words(alloc, verb.options(), words) {
+        Ok(given) => given,
+        Err(wrong) => return Err(Complaint::of_word(verb, wrong)),
     };
-    match choice_of(rt.alloc(), &words) {
-        Ok(Some(command)) => Ok(command),
-        Ok(None) => Err(Complaint::of(&words)),
-        Err(_) => Err(Complaint::of_no_command()),
+    match asked_of(verb, &given) {
+        Some(choice) => Ok(choice),
+        None => Err(Complaint::Words(verb, Problem::of(verb, &given))),
+    }
+}
+
+/// What words choose, or what is wrong with them.
+fn chosen<'a>(alloc: Global, words: &[&'a str]) -> Result<Choice<'a>, Complaint<'a>>
+    ensures { IsChosenBy (Chooses (map (λ word. word.now) words.now)) result }
+{
+    if asks_help(words) {
+        return Ok(Choice::of(Command::Help(None)));
+    }
+    if asks_version(words) {
+        return Ok(Choice::of(Command::Version));
+    }
+    let Some((word, rest)) = first_of(words) else {
+        return Err(Complaint::NoCommand);
+    };
+    match Verb::of(word) {
+        Some(verb) => chosen_of(alloc, verb, rest),
+        None => Err(Complaint::NoCommand),
+    }
+}
+
+/// The command that the words of the command line choose, the program's own name left out, and the file that it reads; or what
+/// is wrong with the words, or that there is no memory for them.
+pub fn choice_of(alloc: Global, words: &[String]) -> Result<Choice<'_>, Complaint<'_>>
+    ensures { IsChosenBy (Chooses (map (λ word. word.bytes.items) words.now)) result }
+{
+    match texts_of(alloc, words) {
+        Ok(texts) => chosen(alloc, &texts),
+        Err(_) => Err(Complaint::Memory),
     }
 }

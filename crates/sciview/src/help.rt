@@ -1,19 +1,23 @@
-//! What the program says of itself.
+//! What the program says of itself and of its commands.
+
+ghost use Rattle.std.specs.Prelude.{◌≡◌};
+ghost use Rattle.sciview.specs.CommandAnswer.{help_for, help_text};
+
+use crate::verb::Verb;
 
 /// How the program is called.
 pub const USAGE: &str =
-    "usage: sciview COMMAND [OPTIONS]; COMMAND is order, explain, judge, check, packets, trace, lists, stats, chart, random, run or outcomes";
+    "usage: sciview COMMAND [OPTIONS] [FILE]; COMMAND is order, explain, judge, check, packets, trace, lists, stats, chart, random, run or outcomes";
 
 /// What stands below the usage line on standard error.
-pub const MANUAL: &str =
-    "A command but random reads standard input to its end. The manual is sciview(1), and sciview --help is its short form.";
+pub const MANUAL: &str = "sciview --help says what each command does. The manual is sciview(1).";
 
 /// What `--version` writes.
 pub const VERSION: &str = "sciview 0.1.0\n";
 
 /// What `--help` writes.
 pub const HELP: &str = "\
-usage: sciview COMMAND [OPTIONS]
+usage: sciview COMMAND [OPTIONS] [FILE]
 
   order      whether one order of all entries explains a log, or a cycle
   explain    what is wrong with a log, and what would be right
@@ -28,80 +32,191 @@ usage: sciview COMMAND [OPTIONS]
   chart      a picture of a schedule in SVG
   random     a schedule that is drawn from a seed
 
-Each command of a text reads it from standard input, to its end.
-Each command writes standard output. If its input is refused, it writes nothing
-there, and standard error says what is wrong.
+  sciview COMMAND --help   the options of a command, and what it writes
+  sciview --help           this text
+  sciview --version        the program's name and version
 
-of a log:
-  order [--by-serial] [--show]
-                    `sequentially consistent`, or a cycle of entries which shows
-                    that no order makes the log sequentially consistent. Each
-                    node's entries stand in the order as in its log, or by their
-                    serials. With --show the order follows.
-  explain           of each line of memory that has a fault: the entry at fault,
-                    what one memory of one thread gives there, and the entries
-                    around it
+Each command but random reads FILE to its end, or else standard input, which is
+also the file `-`. Options stand in any order, each at most once, as `--line 3`
+or `--line=3`. Each command writes standard output. If its input is refused, it
+writes nothing there, and standard error says what is wrong.
 
-of a trace of another machine, which has no versions:
-  judge [--times]   `coherent`, `undecided at A`, or `not coherent at A` with the
-                    operations that show it, each with its line. With --times
-                    what ended before another operation at its address began
-                    has to stand before it. The text is in the notation of Axe:
-                    `0: M[8] := 5 @ 100:110` is a store, `1: M[8] == 5` a load
-
-of a script:
-  run [--seed S] [--in-order] [--turns T]
-                    the schedule of a run of it by the policy. The nodes take
-                    a turn each in a circle, or in an order that is drawn from
-                    the seed, at most T turns all together; a node has up to
-                    four operations pending, or one if they are in order
-  outcomes [--runs R] [--seed S | --threads] [--in-order]
-                    how often each outcome of it comes in R runs, 1 to 1,000,000
-                    or else 1,000, by the seeds from S, or 1, on, or by threads:
-                    what each load and lock operation replied, the words at the
-                    end, how many runs gave it, the seed of the first of them,
-                    and whether one memory explains it in the order of the script
-
-of a script, a schedule or a log:
-  check             which of these it is, and its size; or, on standard error,
-                    where and why it is none: the line, the column, what was
-                    expected there, and what stands there
-
-of a schedule:
-  packets           the bytes of all packets that it sends, one after another:
-                    what `scimem decode` reads
-  trace [--json] [--strict] [--line L]
-                    what each event does, or why it isn't enabled, in words or
-                    as a JSON object on each line; if strict, up to the first
-                    that isn't enabled; of all events, or of those about the
-                    line L alone
-  lists [--line L]  behind each event that may have changed the sharing list of
-                    a line: the line's number, the list, the node that may
-                    change the line, and the line's last contents; of all lines,
-                    or of the line L alone
-  stats [--line L] [--node N]
-                    figures of it, one on each line: events of each kind,
-                    packets of each command, what happened to each line of
-                    memory, and what each node did; or, of these, to the line
-                    L alone, and what the node N did
-  chart [--line L] [--events FIRST LAST]
-                    a message sequence chart of its events in SVG: of all lines
-                    of memory, or of the line L, 0 to 63, alone; of all events,
-                    or of those on the schedule's lines FIRST to LAST alone
-
-of five numbers:
-  random N M C EVENTS SEED [--dead K]
-                    a schedule of EVENTS events, at most 500,000, of a machine
-                    of N nodes, M lines and C slots a node. The events are drawn
-                    from the seed, each enabled when it comes, but for about K
-                    in a hundred, 0 to 100. Standard input isn't read.
-
-of the program:
-  --help            this text
-  --version         the program's name and version
-
-The exit status is 0; or 1 if the log isn't lawful, or isn't sequentially
-consistent, if the trace isn't coherent or that is undecided, if a strict trace met an event that isn't enabled, or if a run used
-up its turns; or 2 if the input or a number was refused or the output couldn't
+The exit status is 0; or 1 if the log isn't sequentially consistent or isn't
+lawful, if the trace isn't coherent or that is undecided, if a strict trace met
+an event that isn't enabled, or if a run used up its turns; or 2 if the words,
+the input or a number was refused, FILE can't be opened, or the output couldn't
 be written.
 ";
+
+/// What `order --help` writes.
+pub const ORDER: &str = "\
+usage: sciview order [--by-serial] [--show] [FILE]
+
+Of a log: `sequentially consistent`, or a cycle of entries which shows that no
+order makes the log sequentially consistent.
+
+  --by-serial   each node's entries stand in the order by their serials, and
+                not as in its log
+  --show        the order follows
+";
+
+/// What `explain --help` writes.
+pub const EXPLAIN: &str = "\
+usage: sciview explain [FILE]
+
+Of each line of memory of a log that has a fault: the entry at fault, what one
+memory of one thread gives there, and the entries around it.
+";
+
+/// What `judge --help` writes.
+pub const JUDGE: &str = "\
+usage: sciview judge [--times] [FILE]
+
+Of a trace of another machine, which has no versions: `coherent`,
+`undecided at A`, or `not coherent at A` with the operations that show it, each
+with its line. The text is in the notation of Axe: `0: M[8] := 5 @ 100:110` is a
+store, `1: M[8] == 5` a load.
+
+  --times       what ended before another operation at its address began has to
+                stand before it
+";
+
+/// What `run --help` writes.
+pub const RUN: &str = "\
+usage: sciview run [--seed S] [--in-order] [--turns T] [FILE]
+
+Of a script: the schedule of a run of it by the policy. The nodes take a turn
+each in a circle; a node has up to four operations pending.
+
+  --seed S      the order of the turns is drawn from the seed S
+  --in-order    a node has one operation pending
+  --turns T     the run takes at most T turns all together
+";
+
+/// What `outcomes --help` writes.
+pub const OUTCOMES: &str = "\
+usage: sciview outcomes [--runs R] [--seed S | --threads] [--in-order] [FILE]
+
+Of a script: how often each outcome of it comes in many runs: what each load and
+lock operation replied, the words at the end, how many runs gave it, the seed of
+the first of them, and whether one memory explains it in the order of the script.
+
+  --runs R      this many runs, 1 to 1,000,000, and not 1,000
+  --seed S      by the seeds from S on, and not from 1
+  --threads     by threads, and not by seeds
+  --in-order    a node has one operation pending, and not up to four
+";
+
+/// What `check --help` writes.
+pub const CHECK: &str = "\
+usage: sciview check [FILE]
+
+Of a script, a schedule or a log: which of these it is, and its size; or, on
+standard error, where and why it is none: the line, the column, what was
+expected there, and what stands there.
+";
+
+/// What `packets --help` writes.
+pub const PACKETS: &str = "\
+usage: sciview packets [FILE]
+
+Of a schedule: the bytes of all packets that it sends, one after another, which
+`scimem decode` reads.
+";
+
+/// What `trace --help` writes.
+pub const TRACE: &str = "\
+usage: sciview trace [--json] [--strict] [--line L] [FILE]
+
+Of a schedule: what each event does, or why it isn't enabled.
+
+  --json        as a JSON object on each line, and not in words
+  --strict      up to the first event that isn't enabled
+  --line L      of the events about the line L, 0 to 63, alone
+";
+
+/// What `lists --help` writes.
+pub const LISTS: &str = "\
+usage: sciview lists [--line L] [FILE]
+
+Of a schedule, behind each event that may have changed the sharing list of a
+line: the line's number, the list, the node that may change the line, and the
+line's last contents.
+
+  --line L      of the line L, 0 to 63, alone
+";
+
+/// What `stats --help` writes.
+pub const STATS: &str = "\
+usage: sciview stats [--line L] [--node N] [FILE]
+
+Figures of a schedule, one on each line: events of each kind, packets of each
+command, what happened to each line of memory, and what each node did.
+
+  --line L      of the lines what happened to the line L, 0 to 63, alone
+  --node N      of the nodes what the node N, 0 to 15, did alone
+";
+
+/// What `chart --help` writes.
+pub const CHART: &str = "\
+usage: sciview chart [--line L] [--events FIRST LAST] [FILE]
+
+A message sequence chart of the events of a schedule in SVG.
+
+  --line L      of the line of memory L, 0 to 63, alone
+  --events FIRST LAST
+                of the events on the schedule's lines FIRST to LAST alone
+";
+
+/// What `random --help` writes.
+pub const RANDOM: &str = "\
+usage: sciview random N M C EVENTS SEED [--dead K]
+
+A schedule of EVENTS events, at most 500,000, of a machine of N nodes, M lines
+and C slots a node. The events are drawn from the seed, each enabled when it
+comes. No file and no standard input is read.
+
+  --dead K      about K in a hundred, 0 to 100, are drawn from all events,
+                enabled or not
+";
+
+/// What the program says of a command, or of all.
+pub fn help_of(verb: Option<Verb>) -> &'static str
+    ensures { result.now ≡ help_for verb }
+{
+    match verb {
+        None => HELP,
+        Some(verb) => verb.help(),
+    }
+}
+
+impl Verb {
+    /// How the command is called, and what it writes.
+    pub fn help(self) -> &'static str
+        ensures { result.now ≡ help_text self }
+    {
+        match self {
+            Verb::Order => ORDER,
+            Verb::Explain => EXPLAIN,
+            Verb::Judge => JUDGE,
+            Verb::Run => RUN,
+            Verb::Outcomes => OUTCOMES,
+            Verb::Check => CHECK,
+            Verb::Packets => PACKETS,
+            Verb::Trace => TRACE,
+            Verb::Lists => LISTS,
+            Verb::Stats => STATS,
+            Verb::Chart => CHART,
+            Verb::Random => RANDOM,
+        }
+    }
+
+    /// How the command is called, which is the first line of its help.
+    pub fn usage(self) -> &'static str {
+        let help = self.help();
+        match help.split_once('\n') {
+            Some((usage, _)) => usage,
+            None => help,
+        }
+    }
+}

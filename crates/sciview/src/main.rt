@@ -1,29 +1,63 @@
-//! The program `sciview`: it reads standard input, and writes standard output.
+//! The program `sciview`: it reads a file or standard input, and writes standard output.
 #![tactic(auto)]
 
 mod carrying_out;
 mod choice;
+mod complaint;
 mod help;
-mod usage;
+mod verb;
 
 use carrying_out::carried_out;
-use choice::asked;
+use choice::choice_of;
+use complaint::Complaint;
 use sci_command::Output;
 use sci_text::Tap;
 use std::process::ExitCode;
+use std::rt::Env;
+use std::{env, fs, io};
+
+/// The words of the command line, the program's own name left out. It fails if they can't be read, or memory is refused.
+fn words_of(rt: &(impl Env + AllocGlobal)) -> io::Result<Vec<String>> {
+    Ok(env::args(rt)?.skip(1).collect(rt.alloc())?)
+}
+
+/// Says what is wrong with the words of the command line.
+fn complain(rt: &HostRuntime, complaint: Complaint) -> ExitCode {
+    let _ = eprintln!(rt; "{complaint}");
+    ExitCode::from(2)
+}
 
 fn main(rt: HostRuntime) -> ExitCode {
-    let command = match asked(&rt) {
-        Ok(command) => command,
-        Err(complaint) => {
-            let _ = eprintln!(rt; "{complaint}");
-            return ExitCode::from(2);
-        }
+    let Ok(words) = words_of(&rt) else {
+        return complain(&rt, Complaint::NoCommand);
+    };
+    let choice = match choice_of(rt.alloc(), &words) {
+        Ok(choice) => choice,
+        Err(complaint) => return complain(&rt, complaint),
+    };
+    let command = choice.command;
+    let opened = match choice.file_to_open() {
+        Some(file) => match fs::open(&rt, file) {
+            Ok(input) => Some(input),
+            Err(_) => {
+                let _ = eprintln!(rt; "{}: {file} can't be opened", command.name());
+                return ExitCode::from(2);
+            }
+        },
+        None => None,
     };
     let mut output = Output::new(rt.stdout());
-    let mut reader = Tap::new(rt.stdin());
     let mut writer = Tap::new(&mut output);
-    let ended = carried_out(&rt, rt.alloc(), command, &mut reader, &mut writer);
+    let ended = match opened {
+        Some(input) => {
+            let mut reader = Tap::new(input);
+            carried_out(&rt, rt.alloc(), command, &mut reader, &mut writer)
+        }
+        None => {
+            let mut reader = Tap::new(rt.stdin());
+            carried_out(&rt, rt.alloc(), command, &mut reader, &mut writer)
+        }
+    };
     let mut errors = Tap::new(rt.stderr());
     ended.tell(rt.alloc(), &mut errors, command.name(), output.is_broken());
     ended.outcome.exit_code()

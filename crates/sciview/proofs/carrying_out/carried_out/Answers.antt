@@ -5,7 +5,7 @@ use Rattle.sci_text.specs.Tap.{has_failed, tapped}
 use Rattle.sci_command.specs.declared.{outcome.Outcome.{Outcome, TheVariants.{Done, Refused}}, refusal.Refusal.{Refusal}}
 use Rattle.sci_command.specs.{Answer.{IsAnswerAlone}, AskedLine.{IsAskedFault}, Writing.{HasWritten}}
 use Rattle.sci_command.proofs.Finished.{answered_by, carried_out}
-use Rattle.sciview.specs.declared.help.TheConstants.{HELP, VERSION}
+use Rattle.sciview.specs.declared.help.TheConstants.{VERSION}
 use Rattle.sci_axe.specs.{JudgeAnswer.{IsJudgeAnswer}, Trace.{IsTraceFault}}
 use Rattle.sci_charts.specs.ChartAnswer.{IsChartAnswer}
 use Rattle.sci_reports.specs.{CheckAnswer.{IsCheckAnswer, IsLastFault}, ExplainAnswer.{IsExplainAnswer}}
@@ -14,6 +14,7 @@ use Rattle.sci_traces.specs.{ListsAnswer.{IsListsAnswer}, PacketsAnswer.{IsPacke
 use Rattle.sci_outcomes.specs.{OutcomesAnswer.{IsGivenUpScript, IsOutcomesAnswer}, RunAnswer.{IsLongRun, IsRunAnswer, IsRunRefusal}}
 use Rattle.sci_walks.specs.RandomAnswer.{IsRandomAnswer, IsWalkFault}
 use Rattle.sci_statistics.specs.StatsAnswer.{IsStatsAnswer, IsStatsFault}
+use Rattle.sciview.specs.CommandAnswer.{help_for}
 use Rattle.sciview.proofs.carrying_out.carried_out.Goals as goal
 
 -- words of the program's own
@@ -108,11 +109,14 @@ returns-in-Random g c =
     shown.ensures.refusal shown.ensures.written shown.ensures.again)
 
 pub returns-in-Help : goal.returns-in-Help
-returns-in-Help g c = rw c.in-Help.is (record {
-  answers = words_shown HELP.now _ _ c.show_words.result.refusal c.show_words.ensures.refusal c.show_words.ensures.written;
-  read_no_more = refl;
-  wrote_no_more = c.show_words.ensures.again;
-})
+returns-in-Help g c =
+    let shown = c.show_words in
+    let help = c.help_of.ensures in
+    rw c.in-Help.is (record {
+      answers = words_shown (help_for c.in-Help.verb) _ _ shown.result.refusal shown.ensures.refusal (rw help at shown.ensures.written);
+      read_no_more = refl;
+      wrote_no_more = shown.ensures.again;
+    })
 
 pub returns-in-Version : goal.returns-in-Version
 returns-in-Version g c =

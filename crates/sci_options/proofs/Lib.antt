@@ -1,0 +1,5 @@
+pub mod Finds
+pub mod Fronts
+pub mod Items
+pub mod Steps
+pub mod Values

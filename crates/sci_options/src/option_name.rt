@@ -1,0 +1,85 @@
+//! The options by name.
+
+ghost use Rattle.std.specs.Prelude.{◌≡◌, ◌↔◌, Some};
+ghost use Rattle.sci_options.specs.Options.{option_word};
+ghost use Rattle.sci_options.specs.declared.option_name.OptionName.{OptionName};
+
+/// An option of some command.
+#[derive(Clone, Copy, PartialEq, Eq)]
+pub enum OptionName {
+    /// Each node's entries by their serials.
+    BySerial,
+    /// How many of a hundred events may be any events.
+    Dead,
+    /// The first and the last line of a text.
+    Events,
+    /// One operation at a time.
+    InOrder,
+    /// One JSON object a line.
+    Json,
+    /// A line of memory.
+    Line,
+    /// A node.
+    Node,
+    /// How many runs.
+    Runs,
+    /// The seed of what is drawn.
+    Seed,
+    /// What explains the answer, too.
+    Show,
+    /// Up to the first event that isn't enabled.
+    Strict,
+    /// One thread a node.
+    Threads,
+    /// By the times that operations took.
+    Times,
+    /// At most how many turns.
+    Turns,
+}
+
+impl OptionName {
+    /// The option that a word names. None if it names none.
+    pub fn of(word: &str) -> Option<OptionName>
+        ensures { (name : OptionName) → (result ≡ Some name) ↔ (word.now ≡ option_word name) }
+    {
+        match word {
+            "--by-serial" => Some(OptionName::BySerial),
+            "--dead" => Some(OptionName::Dead),
+            "--events" => Some(OptionName::Events),
+            "--in-order" => Some(OptionName::InOrder),
+            "--json" => Some(OptionName::Json),
+            "--line" => Some(OptionName::Line),
+            "--node" => Some(OptionName::Node),
+            "--runs" => Some(OptionName::Runs),
+            "--seed" => Some(OptionName::Seed),
+            "--show" => Some(OptionName::Show),
+            "--strict" => Some(OptionName::Strict),
+            "--threads" => Some(OptionName::Threads),
+            "--times" => Some(OptionName::Times),
+            "--turns" => Some(OptionName::Turns),
+            _ => None,
+        }
+    }
+
+    /// The word that names the option.
+    pub fn word(self) -> &'static str
+        ensures { result.now ≡ option_word self }
+    {
+        match self {
+            OptionName::BySerial => "--by-serial",
+            OptionName::Dead => "--dead",
+            OptionName::Events => "--events",
+            OptionName::InOrder => "--in-order",
+            OptionName::Json => "--json",
+            OptionName::Line => "--line",
+            OptionName::Node => "--node",
+            OptionName::Runs => "--runs",
+            OptionName::Seed => "--seed",
+            OptionName::Show => "--show",
+            OptionName::Strict => "--strict",
+            OptionName::Threads => "--threads",
+            OptionName::Times => "--times",
+            OptionName::Turns => "--turns",
+        }
+    }
+}

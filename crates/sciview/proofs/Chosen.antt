@@ -1,0 +1,215 @@
+-- What words choose, from what is read of them.
+use Rattle.std.proofs.Common.{◌≡◌, ◌↔◌, ◌⊎◌, ℕ, Bool, true, false, List, [], ◌∷◌, map, Option, Some, None, inl, inr, sym, ap, ◌∙◌, subst, refl}
+use Rattle.std.specs.Prelude.{codes, option_map, Result, Ok, Err}
+use Rattle.sci_options.specs.declared.given.{Given.{Given}, Wrong.{Wrong}}
+use Rattle.sci_options.specs.declared.given.Wrong.TheVariants as wrongs
+use Rattle.sci_options.specs.declared.setting.Setting.{Setting}
+use Rattle.sci_options.specs.Options.{IsGiven, begins_option}
+use Rattle.sci_options.specs.Given.{IsReading, lacks_memory, texts}
+use Rattle.sciview.specs.declared.choice.{Choice.{Choice}, Command.{Command}}
+use Rattle.sciview.specs.declared.choice.Command.TheVariants as commands
+use Rattle.sciview.specs.declared.complaint.Complaint.{Complaint}
+use Rattle.sciview.specs.declared.complaint.Complaint.TheVariants as complaints
+use Rattle.sciview.specs.declared.verb.Verb.{Verb}
+use Rattle.sciview.specs.declared.verb.Verb.TheVariants.{Chart, Check, Explain, Judge, Lists, Order, Outcomes, Packets, Random, Run, Stats, Trace}
+use Rattle.sciview.specs.Choice.{Asks, Chooses, ChoosesOf, IsChosenBy, IsHelp, command_of, file_words, is_refused, options_of, shown_in, verb_word}
+
+-- a command that reads a text
+pub asks_text : (verb : Verb) (settings : List Setting) (alone : List (List ℕ)) (command : Command) (file : Option (List ℕ)) → ¬ (verb ≡ Random)
+    → Asks verb settings alone command file ↔ ((command_of verb settings ≡ Some command) × (alone ≡ file_words file))
+asks_text Random settings alone command file other = absurd (other refl)
+asks_text verb settings alone command file other = (λ h. h, λ h. h)
+
+unsome : {A : Type 0} (x y : A) → Some x ≡ Some y → x ≡ y
+unsome x y same = cc
+
+-- a command that reads a text, and the file that words name, are what is asked of it, and nothing else is
+pub asked_text : (verb : Verb) (settings : List Setting) (alone : List (List ℕ)) (asked : Command) (named : Option (List ℕ)) → ¬ (verb ≡ Random)
+    → command_of verb settings ≡ Some asked → ((file : Option (List ℕ)) → (Some named ≡ Some file) ↔ (alone ≡ file_words file))
+    → (command : Command) (file : Option (List ℕ)) → (Some (asked, named) ≡ Some (command, file)) ↔ Asks verb settings alone command file
+asked_text verb settings alone asked named other is files command file =
+    let text = asks_text verb settings alone command file other in (
+      λ same.
+          let pair = unsome (asked, named) (command, file) same in
+          let first : asked ≡ command = ap (λ p. p.0) pair in
+          let second : named ≡ file = ap (λ p. p.1) pair in
+          text.1 (is ∙ ap (λ (c : Command). Some c) first, (files file).0 (ap (λ (f : Option (List ℕ)). Some f) second)),
+      λ asks.
+          let two = text.0 asks in
+          let first : asked ≡ command = unsome asked command (sym is ∙ two.0) in
+          let second : named ≡ file = unsome named file ((files file).1 two.1) in
+          ap (λ (c : Command). Some (c, named)) first ∙ ap (λ (f : Option (List ℕ)). Some (command, f)) second,
+    )
+
+-- a verb that a word chooses is the only one of that word
+pub only_verb : (found : Option Verb) (word : List ℕ) (verb : Verb) → ((v : Verb) → (found ≡ Some v) ↔ (word ≡ verb_word v)) → found ≡ Some verb
+    → (v : Verb) → verb_word verb ≡ verb_word v → v ≡ verb
+only_verb found word verb says is v same = unsome v verb (sym ((says v).1 ((says verb).0 is ∙ same)) ∙ is)
+
+pub word_of : (found : Option Verb) (word : List ℕ) (verb : Verb) → ((v : Verb) → (found ≡ Some v) ↔ (word ≡ verb_word v)) → found ≡ Some verb
+    → word ≡ verb_word verb
+word_of found word verb says is = (says verb).0 is
+
+-- a complaint that isn't about memory, if nothing is chosen
+complains : (Chosen : Command → Option (List ℕ) → Type 0) (complaint : Complaint) → ((command : Command) (file : Option (List ℕ)) → ¬ (Chosen command file))
+    → IsChosenBy Chosen (Err complaint)
+complains Chosen complaints.Memory none = tt
+complains Chosen complaint none = none
+
+-- if words are refused since there is no memory, so is the choice
+refused : (Chosen : Command → Option (List ℕ) → Type 0) (complaint : Complaint) → is_refused complaint ≡ true → IsChosenBy Chosen (Err complaint)
+refused Chosen complaints.Memory is = tt
+refused Chosen complaint is = absurd (cc)
+
+-- ---- the words behind a command
+
+-- what is read of the options and of the words that stand alone
+abbrev pub IsAsked : Verb → Given → Option Choice → Type 0
+IsAsked verb given asked = (command : Command) (file : Option (List ℕ))
+    → (option_map shown_in asked ≡ Some (command, file)) ↔ Asks verb given.settings.items (texts given.alone.items) command file
+
+module _ (verb : Verb) (words : List (List ℕ)) where
+  pub help_chosen : (choice : Choice) → IsHelp words → shown_in choice ≡ (commands.Help (Some verb), None) → IsChosenBy (ChoosesOf verb words) (Ok choice)
+  help_chosen choice help shown command file = (
+    λ chosen. elim chosen [
+      | inl here ↦ shown ∙ ap (λ (c : Command). (c, None)) (sym here.1) ∙ ap (λ (f : Option (List ℕ)). (command, f)) (sym here.2)
+      | inr there ↦ absurd (there.0 help)
+    ],
+    λ same. let whole = sym shown ∙ same in inl (help, sym (ap (λ p. p.0) whole), sym (ap (λ p. p.1) whole)),
+  )
+
+  pub none_read : (wrong : Wrong) (complaint : Complaint) → ¬ (IsHelp words) → IsReading (options_of verb) words (Err wrong)
+      → is_refused complaint ≡ lacks_memory wrong → IsChosenBy (ChoosesOf verb words) (Err complaint)
+  none_read wrongs.Memory complaint other reading same = refused (ChoosesOf verb words) complaint same
+  none_read (wrongs.NoOption word) complaint other reading same =
+      complains (ChoosesOf verb words) complaint (λ command file chosen. elim chosen [ inl here ↦ other here.0 | inr there ↦ reading there.1 there.2 there.3 ])
+  none_read (wrongs.NoValue name argument) complaint other reading same =
+      complains (ChoosesOf verb words) complaint (λ command file chosen. elim chosen [ inl here ↦ other here.0 | inr there ↦ reading there.1 there.2 there.3 ])
+  none_read (wrongs.Again name) complaint other reading same =
+      complains (ChoosesOf verb words) complaint (λ command file chosen. elim chosen [ inl here ↦ other here.0 | inr there ↦ reading there.1 there.2 there.3 ])
+
+  module _ (given : Given) (asked : Option Choice) (other : ¬ (IsHelp words)) (reading : IsReading (options_of verb) words (Ok given))
+      (asks : IsAsked verb given asked) where
+    -- what the words choose is asked of what is read
+    is_asked : (command : Command) (file : Option (List ℕ)) → ChoosesOf verb words command file → option_map shown_in asked ≡ Some (command, file)
+    is_asked command file (inl here) = absurd (other here.0)
+    is_asked command file (inr there) =
+        let same = (reading there.1 there.2).0 there.3 in
+        (asks command file).1 (subst (λ (a : List (List ℕ)). Asks verb given.settings.items a command file) same.1
+        (subst (λ (s : List Setting). Asks verb s there.2 command file) same.0 there.4))
+
+    pub none_asked : (complaint : Complaint) → asked ≡ None → IsChosenBy (ChoosesOf verb words) (Err complaint)
+    none_asked complaint none =
+        complains (ChoosesOf verb words) complaint
+        (λ command file chosen. let is = is_asked command file chosen in let no = ap (option_map shown_in) none in absurd (cc))
+
+    pub some_asked : (choice : Choice) → asked ≡ Some choice → IsChosenBy (ChoosesOf verb words) (Ok choice)
+    some_asked choice some command file = (
+      λ chosen. let is = is_asked command file chosen in let shown = ap (option_map shown_in) some in cc,
+      λ same.
+          let is : option_map shown_in asked ≡ Some (command, file) = ap (option_map shown_in) some ∙ ap (λ p. Some p) same in
+          inr (
+            other,
+            given.settings.items,
+            texts given.alone.items,
+            (reading given.settings.items (texts given.alone.items)).1 (refl, refl),
+            (asks command file).0 is,
+          ),
+    )
+
+-- ---- all words
+
+verbs_begin : (verb : Verb) → begins_option (verb_word verb) ≡ false
+verbs_begin Order = refl
+verbs_begin Explain = refl
+verbs_begin Judge = refl
+verbs_begin Run = refl
+verbs_begin Outcomes = refl
+verbs_begin Check = refl
+verbs_begin Packets = refl
+verbs_begin Trace = refl
+verbs_begin Lists = refl
+verbs_begin Stats = refl
+verbs_begin Chart = refl
+verbs_begin Random = refl
+
+abbrev head : List (List ℕ) → List ℕ
+head [] = []
+head (word ∷ words) = word
+
+abbrev tail : List (List ℕ) → List (List ℕ)
+tail [] = []
+tail (word ∷ words) = words
+
+-- a word that begins with a minus is no command
+no_verb : (verb : Verb) (word : List ℕ) (words rest : List (List ℕ)) → begins_option word ≡ true → words ≡ word ∷ [] → words ≡ verb_word verb ∷ rest → ⊥
+no_verb verb word words rest option a b =
+    let same : word ≡ verb_word verb = ap head (sym a ∙ b) in
+    let plain = ap begins_option same ∙ verbs_begin verb in
+    absurd (cc)
+
+help_is_no_verb : (verb : Verb) (words rest : List (List ℕ)) → IsHelp words → words ≡ verb_word verb ∷ rest → ⊥
+help_is_no_verb verb words rest (inl is) at = no_verb verb (codes "--help") words rest refl is at
+help_is_no_verb verb words rest (inr is) at = no_verb verb (codes "-h") words rest refl is at
+
+version_is_no_help : (words : List (List ℕ)) → words ≡ codes "--version" ∷ [] → ¬ (IsHelp words)
+version_is_no_help words is (inl help) = let same : codes "--version" ≡ codes "--help" = ap head (sym is ∙ help) in absurd (cc)
+version_is_no_help words is (inr help) = let same : codes "--version" ≡ codes "-h" = ap head (sym is ∙ help) in absurd (cc)
+
+module _ (words : List (List ℕ)) where
+  pub all_help : (choice : Choice) → IsHelp words → shown_in choice ≡ (commands.Help None, None) → IsChosenBy (Chooses words) (Ok choice)
+  all_help choice help shown command file = (
+    λ chosen. elim chosen [
+      | inl here ↦ shown ∙ ap (λ (c : Command). (c, None)) (sym here.1) ∙ ap (λ (f : Option (List ℕ)). (command, f)) (sym here.2)
+      | inr (inl version) ↦ absurd (version_is_no_help words version.0 help)
+      | inr (inr there) ↦ absurd (help_is_no_verb there.0 words there.1 help there.2)
+    ],
+    λ same. let whole = sym shown ∙ same in inl (help, sym (ap (λ p. p.0) whole), sym (ap (λ p. p.1) whole)),
+  )
+
+  pub version : (choice : Choice) → words ≡ codes "--version" ∷ [] → shown_in choice ≡ (commands.Version, None) → IsChosenBy (Chooses words) (Ok choice)
+  version choice is shown command file = (
+    λ chosen. elim chosen [
+      | inl help ↦ absurd (version_is_no_help words is help.0)
+      | inr (inl here) ↦ shown ∙ ap (λ (c : Command). (c, None)) (sym here.1) ∙ ap (λ (f : Option (List ℕ)). (command, f)) (sym here.2)
+      | inr (inr there) ↦ absurd (no_verb there.0 (codes "--version") words there.1 refl is there.2)
+    ],
+    λ same. let whole = sym shown ∙ same in inr (inl (is, sym (ap (λ p. p.0) whole), sym (ap (λ p. p.1) whole))),
+  )
+
+  module _ (other : ¬ (IsHelp words)) (newer : ¬ (words ≡ codes "--version" ∷ [])) where
+    -- words that are neither choose by a command
+    by_verb : (command : Command) (file : Option (List ℕ)) → Chooses words command file
+        → (verb : Verb) × (rest : List (List ℕ)) × (words ≡ verb_word verb ∷ rest) × ChoosesOf verb rest command file
+    by_verb command file (inl help) = absurd (other help.0)
+    by_verb command file (inr (inl version)) = absurd (newer version.0)
+    by_verb command file (inr (inr there)) = there
+
+    pub no_command : (complaint : Complaint) → ((verb : Verb) (rest : List (List ℕ)) → ¬ (words ≡ verb_word verb ∷ rest))
+        → IsChosenBy (Chooses words) (Err complaint)
+    no_command complaint none =
+        complains (Chooses words) complaint (λ command file chosen. let by = by_verb command file chosen in none by.0 by.1 by.2)
+
+    -- what the words behind a command choose
+    of_verb : (verb : Verb) (rest : List (List ℕ)) → words ≡ verb_word verb ∷ rest → ((v : Verb) → verb_word verb ≡ verb_word v → v ≡ verb)
+        → (command : Command) (file : Option (List ℕ)) → Chooses words command file ↔ ChoosesOf verb rest command file
+    of_verb verb rest at only command file = (
+      λ chosen.
+          let by = by_verb command file chosen in
+          let whole = sym at ∙ by.2 in
+          let same = only by.0 (ap head whole) in
+          subst (λ (v : Verb). ChoosesOf v rest command file) same
+          (subst (λ (ws : List (List ℕ)). ChoosesOf by.0 ws command file) (sym (ap tail whole)) by.3),
+      λ chosen. inr (inr (verb, rest, at, chosen)),
+    )
+
+    pub chosen_by : (verb : Verb) (rest : List (List ℕ)) (result : Result Choice Complaint) → words ≡ verb_word verb ∷ rest
+        → ((v : Verb) → verb_word verb ≡ verb_word v → v ≡ verb) → IsChosenBy (ChoosesOf verb rest) result → IsChosenBy (Chooses words) result
+    chosen_by verb rest (Ok choice) at only is = λ command file. (
+      λ chosen. (is command file).0 ((of_verb verb rest at only command file).0 chosen),
+      λ same. (of_verb verb rest at only command file).1 ((is command file).1 same),
+    )
+    chosen_by verb rest (Err complaints.Memory) at only is = tt
+    chosen_by verb rest (Err complaints.NoCommand) at only is = λ command file chosen. is command file ((of_verb verb rest at only command file).0 chosen)
+    chosen_by verb rest (Err (complaints.Words v problem)) at only is =
+        λ command file chosen. is command file ((of_verb verb rest at only command file).0 chosen)

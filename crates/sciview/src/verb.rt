@@ -1,0 +1,179 @@
+//! The commands by their words, and the table of the options that each takes.
+
+ghost use Rattle.std.specs.Prelude.{◌≡◌, ◌↔◌, Some};
+ghost use Rattle.sciview.specs.Choice.{options_of, verb_word};
+ghost use Rattle.sciview.specs.declared.verb.Verb.{Verb};
+
+use sci_options::{Argument, OptionName, OptionRow};
+use sci_outcomes::MAX_RUNS;
+use sci_words::{MAX_LINES, MAX_NODES};
+
+/// A command, with no options yet.
+#[derive(Clone, Copy)]
+pub enum Verb {
+    /// Whether a log is sequentially consistent.
+    Order,
+    /// What is wrong with a log.
+    Explain,
+    /// Whether a trace without versions is coherent.
+    Judge,
+    /// The schedule of a script's run.
+    Run,
+    /// The outcomes of a script's runs.
+    Outcomes,
+    /// Which kind of text the input is.
+    Check,
+    /// The packets that a schedule sends.
+    Packets,
+    /// What each event of a schedule does.
+    Trace,
+    /// The sharing lists of a schedule.
+    Lists,
+    /// Figures of a schedule.
+    Stats,
+    /// A chart of a schedule.
+    Chart,
+    /// A schedule that is drawn by chance.
+    Random,
+}
+
+const BY_SERIAL: OptionRow = OptionRow {
+    name: OptionName::BySerial,
+    argument: Argument::Nothing,
+};
+
+const DEAD: OptionRow = OptionRow {
+    name: OptionName::Dead,
+    argument: Argument::Number {
+        least: 0,
+        greatest: 100,
+    },
+};
+
+const EVENTS: OptionRow = OptionRow {
+    name: OptionName::Events,
+    argument: Argument::TwoNumbers,
+};
+
+const IN_ORDER: OptionRow = OptionRow {
+    name: OptionName::InOrder,
+    argument: Argument::Nothing,
+};
+
+const JSON: OptionRow = OptionRow {
+    name: OptionName::Json,
+    argument: Argument::Nothing,
+};
+
+const LINE: OptionRow = OptionRow {
+    name: OptionName::Line,
+    argument: Argument::Place { count: MAX_LINES },
+};
+
+const NODE: OptionRow = OptionRow {
+    name: OptionName::Node,
+    argument: Argument::Place { count: MAX_NODES },
+};
+
+const RUNS: OptionRow = OptionRow {
+    name: OptionName::Runs,
+    argument: Argument::Number {
+        least: 1,
+        greatest: MAX_RUNS,
+    },
+};
+
+const SEED: OptionRow = OptionRow {
+    name: OptionName::Seed,
+    argument: Argument::Number {
+        least: 0,
+        greatest: u64::MAX,
+    },
+};
+
+const SHOW: OptionRow = OptionRow {
+    name: OptionName::Show,
+    argument: Argument::Nothing,
+};
+
+const STRICT: OptionRow = OptionRow {
+    name: OptionName::Strict,
+    argument: Argument::Nothing,
+};
+
+const THREADS: OptionRow = OptionRow {
+    name: OptionName::Threads,
+    argument: Argument::Nothing,
+};
+
+const TIMES: OptionRow = OptionRow {
+    name: OptionName::Times,
+    argument: Argument::Nothing,
+};
+
+const TURNS: OptionRow = OptionRow {
+    name: OptionName::Turns,
+    argument: Argument::Number {
+        least: 0,
+        greatest: u64::MAX,
+    },
+};
+
+impl Verb {
+    /// The command that a word chooses. None if it chooses none.
+    pub fn of(word: &str) -> Option<Verb>
+        ensures { (verb : Verb) → (result ≡ Some verb) ↔ (word.now ≡ verb_word verb) }
+    {
+        match word {
+            "order" => Some(Verb::Order),
+            "explain" => Some(Verb::Explain),
+            "judge" => Some(Verb::Judge),
+            "run" => Some(Verb::Run),
+            "outcomes" => Some(Verb::Outcomes),
+            "check" => Some(Verb::Check),
+            "packets" => Some(Verb::Packets),
+            "trace" => Some(Verb::Trace),
+            "lists" => Some(Verb::Lists),
+            "stats" => Some(Verb::Stats),
+            "chart" => Some(Verb::Chart),
+            "random" => Some(Verb::Random),
+            _ => None,
+        }
+    }
+
+    /// The options that the command takes.
+    pub fn options(self) -> &'static [OptionRow]
+        ensures { result.now ≡ options_of self }
+    {
+        match self {
+            Verb::Order => &[BY_SERIAL, SHOW],
+            Verb::Judge => &[TIMES],
+            Verb::Run => &[SEED, IN_ORDER, TURNS],
+            Verb::Outcomes => &[RUNS, SEED, THREADS, IN_ORDER],
+            Verb::Trace => &[JSON, STRICT, LINE],
+            Verb::Lists => &[LINE],
+            Verb::Stats => &[LINE, NODE],
+            Verb::Chart => &[LINE, EVENTS],
+            Verb::Random => &[DEAD],
+            Verb::Explain | Verb::Check | Verb::Packets => &[],
+        }
+    }
+
+    /// The program and the word of the command, as messages name it.
+    pub fn name(self) -> &'static str {
+        match self {
+            Verb::Order => "sciview order",
+            Verb::Explain => "sciview explain",
+            Verb::Judge => "sciview judge",
+            Verb::Run => "sciview run",
+            Verb::Outcomes => "sciview outcomes",
+            Verb::Check => "sciview check",
+            Verb::Packets => "sciview packets",
+            Verb::Trace => "sciview trace",
+            Verb::Lists => "sciview lists",
+            Verb::Stats => "sciview stats",
+            Verb::Chart => "sciview chart",
+            Verb::Random => "sciview random",
+        }
+    }
+}
