@@ -20,3 +20,4 @@ pub mod Sameness
 pub mod LevelSteps
 pub mod Passing
 pub mod Copies
+pub mod Ways

@@ -69,7 +69,7 @@ impl<'a> Orders<'a> {
 
     /// The standings to which one step leads from these, each once. Refused if memory is, or if there are more than
     /// 100,000.
-    fn next_level(&self, alloc: Global, level: &[Standing]) -> Result<Vec<Standing>, OrdersFault>
+    pub(crate) fn next_level(&self, alloc: Global, level: &[Standing]) -> Result<Vec<Standing>, OrdersFault>
         requires { All (Fits (lists_of self.now.operations.now)) (map position_of level.now) }
         ensures steps { IfOk result (λ next. AreStepsFrom (lists_of self.now.operations.now)
             self.now.window (map position_of level.now) (map position_of next.items)) }
@@ -89,7 +89,7 @@ impl<'a> Orders<'a> {
     }
 
     /// The standing from which the steps go. Refused if memory is.
-    fn first_level(&self, alloc: Global, lines: u8) -> Result<Vec<Standing>, AllocError>
+    pub(crate) fn first_level(&self, alloc: Global, lines: u8) -> Result<Vec<Standing>, AllocError>
         ensures { IfOk result (λ level. map position_of level.items
             ≡ opening_position lines (lists_of self.now.operations.now) ∷ []) }
     {

@@ -1,0 +1,48 @@
+-- Ways to a position, from its end on.
+use Rattle.std.proofs.Common.{◌≡◌, ◌↔◌, ℕ, suc, ◌<◌, Bool, true, false, List, [], ◌∷◌, ◌++◌, length, Option, None, Some, reverse, refl, sym, ap, subst, ◌∙◌}
+use Rattle.std.proofs.Common.{append_assoc}
+use Rattle.std.proofs.lemmas.List.{reverse-append}
+use Rattle.std.specs.List.{Contains}
+use Rattle.sci_words.specs.declared.event.Event.{Event}
+use Rattle.sci_core.{proofs.Basics.Options.{same_some}, specs.Size.{Size}}
+use Rattle.sci_orders.proofs.{Changes.{list_below}, Sameness.{equal_standing, same_standing}}
+use Rattle.sci_orders.specs.Positions.{AreReachedIn, IsReachedIn, Operations, Position, own_of, position_of, step_at}
+use Rattle.sci_orders.specs.{Ways.{IsStep, IsStepBy, LeadsTo}, Witness.{schedule_of, turn_of}, declared.standing.Standing.{Standing}}
+use Rattle.sci_orders.specs.contracts.standing.StandingPartialEq.TheImpl as TheEquality
+
+-- a step leads to a standing exactly if what it gives is found equal to it
+pub leads_some : (next to : Standing) (o : Option Position) (b : Bool) → Some (position_of next) ≡ o → b ≡ (TheEquality.ghosts).eq next to
+    → (b ≡ true) ↔ (o ≡ Some (position_of to))
+leads_some next to o b is same = (
+  (λ found. sym is ∙ ap Some (same_standing next to (sym same ∙ found))),
+  (λ leads. same ∙ equal_standing next to (same_some (position_of next) (position_of to) (is ∙ leads))),
+)
+
+pub leads_none : (to : Position) (o : Option Position) → None ≡ o → (false ≡ true) ↔ (o ≡ Some to)
+leads_none to o is = ((λ found. cc), (λ leads. (let clash : None ≡ Some to = is ∙ leads in cc)))
+
+-- no step leads there if none of a node does
+pub no_step : (operations : Operations) (window : ℕ) (p q : Position) → ((m : ℕ) → m < length operations → (i : ℕ) → i < length (own_of operations m)
+    → step_at operations window p m i ≡ Some q → ⊥) → IsStep operations window p q → ⊥
+no_step operations window p q none s = none s.node (list_below operations s.node s.place s.below) s.place s.below s.step
+
+-- a position that is reached by a step more is reached from one of the level before it
+pub step_before : (lines : ℕ) (operations : Operations) (window count : ℕ) (level : List Position) (p : Position)
+    → AreReachedIn lines operations window count level → IsReachedIn lines operations window (suc count) p
+    → (q : Position) × Contains level q × IsStep operations window q p
+step_before lines operations window count level p so (q, n, i, reached, below, step) =
+    (q, so.all q reached, record { node = n; place = i; below = below; step = step })
+
+-- one event more at the beginning of a way
+pub leads_more : (operations : Operations) (window : ℕ) (p q last : Position) (e : Event) (order : List Event) → IsStepBy operations window p q e
+    → LeadsTo operations window q (reverse order) last → LeadsTo operations window p (reverse (order ++ e ∷ [])) last
+leads_more operations window p q last e order step leads =
+    subst (λ (es : List Event). LeadsTo operations window p es last) (sym (reverse-append order (e ∷ []))) (q, step, leads)
+
+-- ---- the schedule of an order
+
+pub schedule-append : (size : Size) (xs ys : List Event) → schedule_of size (xs ++ ys) ≡ schedule_of size xs ++ schedule_of size ys
+schedule-append size [] ys = refl
+schedule-append size (x ∷ xs) ys =
+    ap (λ (es : List Event). turn_of size x ++ es) (schedule-append size xs ys)
+    ∙ sym (append_assoc (turn_of size x) (schedule_of size xs) (schedule_of size ys))
