@@ -34,7 +34,8 @@ numbers_same a b c x y z is =
     (eqb-true a x first.0, (eqb-true b y second.0, eqb-true c z second.1))
 
 numbers_equal : (a b c : ℕ) → (nat_eq a a && (nat_eq b b && nat_eq c c)) ≡ true
-numbers_equal a b c = and_from (nat_eq a a) (nat_eq b b && nat_eq c c) (eq-eqb a a refl) (and_from (nat_eq b b) (nat_eq c c) (eq-eqb b b refl) (eq-eqb c c refl))
+numbers_equal a b c =
+    and_from (nat_eq a a) (nat_eq b b && nat_eq c c) (eq-eqb a a refl) (and_from (nat_eq b b) (nat_eq c c) (eq-eqb b b refl) (eq-eqb c c refl))
 
 same_replied : (a b : Replied) → (replies.ghosts).eq a b ≡ true → a ≡ b
 same_replied a b is = let all = numbers_same a.node a.serial a.word b.node b.serial b.word is in cc

@@ -3,14 +3,16 @@ use Rattle.std.proofs.Common.{◌≡◌, ◌==◌, ◌&&◌, ℕ, zero, suc, ◌
 use Rattle.std.proofs.Common.{◌∙◌, arith, inl, inr}
 use Rattle.std.proofs.lemmas.Bool.{and_from, cases_lt, eqb-true, lt-ltb}
 use Rattle.std.proofs.lemmas.List.{get_or-map, get_or_past, length-map, same_lists}
+use Rattle.std.proofs.lemmas.List.Elements.{All-get_or}
 use Rattle.std.proofs.lemmas.List.FromFn.{get_or-map-range_with_len, length-map-range_with_len}
 use Rattle.std.specs.{List.{All}, Prelude.{Vec, filter, slice_index_or, ◌^◌}}
 use Rattle.sci_words.specs.Operation.{are_words, has_words, is_word}
+use Rattle.sci_words.specs.declared.extent.Extent.{Extent}
 use Rattle.sci_words.specs.declared.operation.{Act.{Act}, LockOp.{LockOp}, Op.{Op}}
 use Rattle.sci_words.specs.declared.operation.LockOp.TheVariants.{MaskSwap, CompareSwap, FetchAdd, BoundedAdd, WrapAdd}
 use Rattle.sci_words.specs.declared.{limits.TheConstants.{MAX_OPERATIONS}, operation.Act.TheVariants.{Load, Store, Lock}}
 use Rattle.sci_text.specs.{Operation.{ActFits, LockFits}, Script.{IsScript, IsWithin, ScriptValue, operations_of}}
-use Rattle.sci_core.specs.Size.{IsMachineSize}
+use Rattle.sci_core.specs.Size.{IsMachineSize, Size, size_of}
 use Rattle.sci_drive.specs.ScriptLogs.{size_for}
 use Rattle.sci_orders.specs.{Orders.{IsScriptOf}, Positions.{lists_of, no_operation, operation_at, own_of}, Witness.{IsOperation}}
 use Rattle.sci_allowed.specs.Allowed.{shares_of}
@@ -97,3 +99,30 @@ is_script script good few = record {
 
 pub machine_size : (script : ScriptValue) → IsScript script → IsMachineSize (size_for script)
 machine_size script good = record { extent = good.size; some_operation = (omega arith); few_operations = (omega arith) }
+
+-- ---- the machine of a script
+
+pub size_is : (script : ScriptValue) (extent : Extent) → extent.nodes ≡ script.nodes → extent.lines ≡ script.lines → extent.slots ≡ script.slots
+    → size_of extent MAX_OPERATIONS ≡ size_for script
+size_is script extent nodes lines slots =
+    ap (λ (n : ℕ). let s : Size = record { nodes = n; lines = extent.lines; slots = extent.slots; limit = MAX_OPERATIONS } in s) nodes
+    ∙ (ap (λ (n : ℕ). let s : Size = record { nodes = script.nodes; lines = n; slots = extent.slots; limit = MAX_OPERATIONS } in s) lines
+    ∙ ap (λ (n : ℕ). let s : Size = record { nodes = script.nodes; lines = script.lines; slots = n; limit = MAX_OPERATIONS } in s) slots)
+
+few_below : {Z : Type 0} (vecs : List (Vec Op Z)) → All (λ own. length own.items ≤ MAX_OPERATIONS) vecs → (n : ℕ) → n < length vecs
+    → length (own_of (lists_of vecs) n) ≤ MAX_OPERATIONS
+few_below [] all n lt = absurd (omega arith)
+few_below {Z = Z} (vec ∷ vecs) all n lt =
+    subst (λ (own : List Op). length own ≤ MAX_OPERATIONS) (sym (get_or-map (λ (v : Vec Op Z). v.items) (vec ∷ vecs) n vec [] lt))
+    (All-get_or (λ (own : Vec Op Z). length own.items ≤ MAX_OPERATIONS) (vec ∷ vecs) n vec lt all)
+
+-- no node of a script has more operations than a node may issue
+pub few_own : {Z : Type 0} (vecs : List (Vec Op Z)) → All (λ own. length own.items ≤ MAX_OPERATIONS) vecs → (n : ℕ)
+    → length (own_of (lists_of vecs) n) ≤ MAX_OPERATIONS
+few_own vecs all n = elim (cases_lt n (length vecs)) [
+  | inl lt ↦ few_below vecs all n lt
+  | inr past ↦ (
+      let long = length-map vecs (λ (v : _). v.items) in
+      let none : length (own_of (lists_of vecs) n) ≡ 0 = ap (λ (own : List Op). length own) (get_or_past (lists_of vecs) n [] (omega arith)) in
+      omega arith)
+]

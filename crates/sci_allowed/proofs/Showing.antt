@@ -10,7 +10,8 @@ use Rattle.sci_allowed.{proofs.Sameness.{same_shown}, specs.Outcome.{IsPlaceWith
 use Rattle.sci_allowed.specs.declared.{outcome.{Held.{Held}, Replied.{Replied}}, place.Place.{Place}}
 
 -- what two functions give of the numbers from one on is the same, if they give the same of each
-gives_same : {Y : Type 0} (f g : ℕ → Option Y) (a n : ℕ) → ((i : ℕ) → i < a + n → f i ≡ g i) → filter_map f (range_with_len a n) ≡ filter_map g (range_with_len a n)
+gives_same : {Y : Type 0} (f g : ℕ → Option Y) (a n : ℕ) → ((i : ℕ) → i < a + n → f i ≡ g i)
+    → filter_map f (range_with_len a n) ≡ filter_map g (range_with_len a n)
 gives_same f g a zero same = refl
 gives_same {Y = Y} f g a (suc n) same =
     ap (λ (o : Option Y). cons_option o (filter_map f (range_with_len (a + 1) n))) (same a (omega arith))

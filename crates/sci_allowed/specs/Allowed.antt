@@ -3,7 +3,8 @@ use Rattle.std.specs.Prelude.{◌≡◌, ◌<◌, ◌≤◌, ◌*◌, ◌↔◌,
 use Rattle.std.specs.List.{All, Any, list_any, range_with_len, Sorted.{IsStrictlySortedBy}}
 use Rattle.sci_words.specs.declared.{event.Event.{Event}, limits.TheConstants.{MAX_EVENTS, MAX_OPERATIONS}}
 use Rattle.sci_text.specs.{declared.fault.TextFaultKind.{TextFaultKind}, Schedule.{IsSchedule, ScheduleValue}, Script.{IsScript, ScriptValue, operations_of}}
-use Rattle.sci_drive.specs.{ScriptLogs.{size_for}}
+use Rattle.sci_core.specs.Size.{Size}
+use Rattle.sci_drive.specs.ScriptLogs.{size_for}
 use Rattle.sci_orders.specs.Orders.{HasRun, IsAmong, IsOrderOf}
 use Rattle.sci_orders.specs.Positions.{AreReachedIn, AreTooMany, Operations, Position, lists_of, operation_count, position_of}
 use Rattle.sci_orders.specs.{Witness.{seen}, declared.{fault.OrdersFault.{OrdersFault}, standing.Standing.{Standing}}}
@@ -80,12 +81,11 @@ pub record IsLitmus (litmus : Litmus) : Type 0 where
   pub places : litmus.places.items ≡ written_places litmus.script.lines litmus.script.operations
   pub within : All (IsPlaceWithin litmus.script.lines) litmus.places.items
 
--- these positions are where the runs of a script end
-pub record HasStandings (litmus : Litmus) (window : ℕ) (positions : List Position) : Type 0 where
-  pub reached : AreReachedIn litmus.script.lines (shares_of litmus.script) window (operation_count (shares_of litmus.script) * 2) positions
-  pub each : All (λ p. (schedule : List Event) × HasRun (size_for litmus.script) (shares_of litmus.script) window p schedule) positions
-  pub all : (schedule : List Event) → IsOrderOf (shares_of litmus.script) window (seen (size_for litmus.script) schedule)
-      → IsAmong (size_for litmus.script) (shares_of litmus.script) schedule positions
+-- these positions are where the runs of a script of the machine end
+pub record HaveRuns (size : Size) (operations : Operations) (window : ℕ) (positions : List Position) : Type 0 where
+  pub reached : AreReachedIn size.lines operations window (operation_count operations * 2) positions
+  pub each : All (λ p. (schedule : List Event) × HasRun size operations window p schedule) positions
+  pub all : (schedule : List Event) → IsOrderOf operations window (seen size schedule) → IsAmong size operations schedule positions
 
 -- these outcomes are seen where runs end
 abbrev pub AreSeenAt : ScriptValue → List Standing → List Outcome → Type 0

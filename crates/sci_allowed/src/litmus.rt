@@ -2,9 +2,10 @@
 
 ghost use Rattle.std.specs.Prelude.{◌≡◌, length, map, All, IfErr, IfOk};
 ghost use Rattle.sci_text.specs.Script.{IsScript};
+ghost use Rattle.sci_drive.specs.ScriptLogs.{size_for};
 ghost use Rattle.sci_orders.specs.declared.fault.OrdersFault.TheVariants.{TooMany};
 ghost use Rattle.sci_orders.specs.Positions.{AreTooMany, position_of};
-ghost use Rattle.sci_allowed.specs.Allowed.{AreAllowed, AreSeenAt, HasStandings, IsLitmus, seen_at, shares_of};
+ghost use Rattle.sci_allowed.specs.Allowed.{AreAllowed, AreSeenAt, HaveRuns, IsLitmus, seen_at, shares_of};
 ghost use Rattle.sci_allowed.specs.Outcome.{shown_of};
 
 use crate::outcome::{Outcome, outcome_of};
@@ -58,8 +59,8 @@ impl Litmus {
         window: usize,
     ) -> Result<Vec<Standing>, OrdersFault>
         requires { IsLitmus self.now }
-        ensures standings { IfOk result (λ standings. HasStandings self.now window
-            (map position_of standings.items)) }
+        ensures runs { IfOk result (λ standings. HaveRuns (size_for self.now.script)
+            (shares_of self.now.script) window (map position_of standings.items)) }
         ensures many { IfErr result (λ fault. fault ≡ TooMany →
             AreTooMany self.now.script.lines (shares_of self.now.script) window) }
     {

@@ -4,7 +4,8 @@ use Rattle.std.proofs.lemmas.List.{append-nil, drop_all, Elements.{All-weaker}}
 use Rattle.std.specs.{List.{All}, Prelude.{count_by}}
 use Rattle.sci_words.specs.declared.{event.Event.{Event}, operation.Op.{Op}, stamped.Stamped.{Stamped}}
 use Rattle.sci_history.specs.declared.entry.Entry.{Entry}
-use Rattle.sci_core.{proofs.WellFormed.WellFormedSteps.{is_size}, specs.{Core.{opening, run}, Done.{done}, Settling.{AreMade}, Sharing.{last_of}, Size.{Size, IsMachineSize, IsSize}}}
+use Rattle.sci_core.{proofs.WellFormed.WellFormedSteps.{is_size}, specs.{Core.{opening, run}, Done.{done}, Settling.{AreMade}, Sharing.{last_of}}}
+use Rattle.sci_core.specs.Size.{Size, IsMachineSize, IsSize}
 use Rattle.sci_orders.proofs.{Following.{IsOrderFor, follows, opening_order, order_for, order_leads}, Progress.{AreAnswered, all_answered}, Sound.{explained}}
 use Rattle.sci_orders.proofs.{Stands.{Stands, none_first, opening_stands, within}, Turns.{order_made, order_seen}}
 use Rattle.sci_orders.specs.{Orders.{HasRun, IsAmong, IsOrderOf, IsOutcomeOf, IsScriptOf, issues_at}, Plain.{Plain, opening_plain, plain_done, plain_run}}

@@ -1,13 +1,14 @@
 -- Ways to a position, from its end on.
-use Rattle.std.proofs.Common.{◌≡◌, ◌↔◌, ℕ, suc, ◌<◌, Bool, true, false, List, [], ◌∷◌, ◌++◌, length, Option, None, Some, reverse, refl, sym, ap, subst, ◌∙◌}
-use Rattle.std.proofs.Common.{append_assoc}
-use Rattle.std.proofs.lemmas.List.{reverse-append}
-use Rattle.std.specs.List.{Contains}
+use Rattle.std.proofs.Common.{◌≡◌, ◌↔◌, ℕ, suc, Bool, true, false, List, [], ◌∷◌, ◌++◌, length, Option, None, Some, reverse, refl, sym, ap, subst, ◌∙◌}
+use Rattle.std.proofs.Common.{◌+◌, ◌<◌, map, get_or, append_assoc, arith, inl, inr}
+use Rattle.std.proofs.Math.Seq.{get_or-append_seam}
+use Rattle.std.proofs.lemmas.{Bool.{cases_lt}, List.{get_or_append_left, length-map, length_push, map-append, reverse-append}}
+use Rattle.std.specs.{List.{Contains}, Prelude.{Vec}}
 use Rattle.sci_words.specs.declared.event.Event.{Event}
 use Rattle.sci_core.{proofs.Basics.Options.{same_some}, specs.Size.{Size}}
 use Rattle.sci_orders.proofs.{Changes.{list_below}, Sameness.{equal_standing, same_standing}}
 use Rattle.sci_orders.specs.Positions.{AreReachedIn, IsReachedIn, Operations, Position, own_of, position_of, step_at}
-use Rattle.sci_orders.specs.{Ways.{IsStep, IsStepBy, LeadsTo}, Witness.{schedule_of, turn_of}, declared.standing.Standing.{Standing}}
+use Rattle.sci_orders.specs.{Ways.{AreLevels, IsStep, IsStepBy, LeadsTo, levels_of}, Witness.{schedule_of, turn_of}, declared.standing.Standing.{Standing}}
 use Rattle.sci_orders.specs.contracts.standing.StandingPartialEq.TheImpl as TheEquality
 
 -- a step leads to a standing exactly if what it gives is found equal to it
@@ -46,3 +47,40 @@ schedule-append size [] ys = refl
 schedule-append size (x ∷ xs) ys =
     ap (λ (es : List Event). turn_of size x ++ es) (schedule-append size xs ys)
     ∙ sym (append_assoc (turn_of size x) (schedule_of size xs) (schedule_of size ys))
+
+-- ---- levels
+
+-- the levels from none on, with one more
+pub level_more : (lines : ℕ) (operations : Operations) (window count : ℕ) (levels : List (List Position)) (level : List Position) → count ≡ length levels
+    → AreLevels lines operations window levels → AreReachedIn lines operations window count level → AreLevels lines operations window (levels ++ level ∷ [])
+level_more lines operations window count levels level is all reached k below = elim (cases_lt k (length levels)) [
+  | inl lt ↦ subst (AreReachedIn lines operations window k) (sym (get_or_append_left levels (level ∷ []) [] k lt)) (all k lt)
+  | inr past ↦
+      let long = length_push levels level in
+      let last : k ≡ length levels = omega arith in
+      let here : get_or (levels ++ level ∷ []) k [] ≡ level =
+      ap (λ (i : ℕ). get_or (levels ++ level ∷ []) i []) last ∙ get_or-append_seam levels level [] [] in
+      subst (AreReachedIn lines operations window k) (sym here)
+      (subst (λ (i : ℕ). AreReachedIn lines operations window i level) (is ∙ sym last) reached)
+]
+
+-- and with two more
+pub levels_more : {Z : Type 0} (lines : ℕ) (operations : Operations) (window count : ℕ) (old new : List (Vec Standing Z)) (first second : Vec Standing Z)
+    → count ≡ length old → new ≡ old ++ first ∷ second ∷ [] → AreLevels lines operations window (levels_of old)
+    → AreReachedIn lines operations window count (map position_of first.items) → AreReachedIn lines operations window (count + 1) (map position_of second.items)
+    → AreLevels lines operations window (levels_of new)
+levels_more {Z = Z} lines operations window count old new first second is added all one two =
+    let positions = λ (level : Vec Standing Z). map position_of level.items in
+    let long = length-map old positions in
+    let more = level_more lines operations window count (levels_of old) (map position_of first.items) (omega arith) all one in
+    let longer = length_push (levels_of old) (map position_of first.items) in
+    let most = level_more lines operations window (count + 1) (levels_of old ++ map position_of first.items ∷ []) (map position_of second.items) (omega arith)
+    more two in
+    let joined : levels_of new ≡ (levels_of old ++ map position_of first.items ∷ []) ++ map position_of second.items ∷ [] =
+    ap levels_of added ∙ (map-append positions old (first ∷ second ∷ [])
+    ∙ sym (append_assoc (levels_of old) (map position_of first.items ∷ []) (map position_of second.items ∷ []))) in
+    subst (AreLevels lines operations window) (sym joined) most
+
+-- none is a level before the first
+pub no_levels : (lines : ℕ) (operations : Operations) (window : ℕ) → AreLevels lines operations window []
+no_levels lines operations window k below = absurd (omega arith)

@@ -1,7 +1,8 @@
 -- The ways from one position to another: each event brings one operation one step further.
 use Rattle.std.specs.Prelude.{◌≡◌, ◌<◌, ℕ, ◌*◌, ◌==◌, if◌then◌else◌, List, [], ◌∷◌, length, map, slice_index_or, Some, Vec}
 use Rattle.sci_words.specs.declared.event.Event.{Event}
-use Rattle.sci_orders.specs.Positions.{AreReachedIn, Operations, Position, answers_of, opening_position, operation_at, operation_count, own_of, position_of, step_at}
+use Rattle.sci_orders.specs.Positions.{AreReachedIn, Operations, Position, answers_of, opening_position, operation_at, operation_count, own_of}
+use Rattle.sci_orders.specs.Positions.{position_of, step_at}
 use Rattle.sci_orders.specs.declared.standing.Standing.{Standing}
 use Rattle.sci_words.specs.declared.event.Event.TheVariants as event
 

@@ -1,7 +1,7 @@
 -- None of the operations so far leads there.
 use Rattle.std.proofs.Common.{◌≡◌, ◌<◌, ℕ, Some}
 use Rattle.sci_orders.specs.Positions.{lists_of, position_of, step_at}
-use Rattle.sci_orders.proofs.way.Orders.event_of_node.Given as goal
+use Rattle.sci_orders.proofs.orders.Orders.event_of_node.Given as goal
 
 abbrev pub invariant-loop-place : goal.invariant-loop-place
 invariant-loop-place l =

@@ -1,7 +1,7 @@
 -- A level for each number of steps so far, and the next one.
 use Rattle.std.proofs.Common.{◌≡◌, ◌*◌, ◌+◌, length, map, take}
 use Rattle.sci_orders.specs.{Positions.{AreReachedIn, lists_of, operation_count, position_of}, Ways.{AreLevels, levels_of}}
-use Rattle.sci_orders.proofs.way.Orders.levels.Given as goal
+use Rattle.sci_orders.proofs.orders.Orders.levels.Given as goal
 
 abbrev pub invariant-loop-own : goal.invariant-loop-own
 invariant-loop-own l = record {

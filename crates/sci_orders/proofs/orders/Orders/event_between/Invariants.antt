@@ -1,7 +1,7 @@
 -- No operation of the nodes so far leads there.
 use Rattle.std.proofs.Common.{◌≡◌, ◌<◌, ℕ, Some, length}
 use Rattle.sci_orders.specs.Positions.{lists_of, own_of, position_of, step_at}
-use Rattle.sci_orders.proofs.way.Orders.event_between.Given as goal
+use Rattle.sci_orders.proofs.orders.Orders.event_between.Given as goal
 
 abbrev pub invariant-loop-node : goal.invariant-loop-node
 invariant-loop-node l =

@@ -1,7 +1,7 @@
 -- The events so far lead from a standing of a level to the last one, if the last event comes first.
 use Rattle.std.proofs.Common.{◌≡◌, ◌-◌, length, reverse}
 use Rattle.sci_orders.specs.{Positions.{IsReachedIn, lists_of, position_of}, Ways.{LeadsTo}}
-use Rattle.sci_orders.proofs.way.Orders.order_through.Given as goal
+use Rattle.sci_orders.proofs.orders.Orders.order_through.Given as goal
 
 abbrev pub invariant-loop-taken : goal.invariant-loop-taken
 invariant-loop-taken l = record {
