@@ -12,7 +12,7 @@ use Rattle.sci_orders.specs.{Positions.{Position, position_of}, declared.standin
 use Rattle.sci_allowed.specs.Allowed.{AreAllowed, AreRows, AreSeenAt, HaveRuns, IsAllowed, IsLitmus, is_among, rows_of, seen_at, shares_of}
 use Rattle.sci_allowed.specs.Outcome.{IsPlaceWithin, Shown, outcome_cmp, shown_of, written_places}
 use Rattle.sci_allowed.specs.declared.{litmus.Litmus.{Litmus}, outcome.Outcome.{Outcome}, rows.Rows.{Rows}}
-use Rattle.sci_allowed.proofs.{Sameness.{equal_outcome, same_outcome}, Showing.{shown_same}}
+use Rattle.sci_allowed.proofs.{Sameness.{equal_outcome, same_outcome}, SeenAlike.{shown_same}}
 use Rattle.sci_allowed.specs.contracts.outcome.{OutcomeEq.TheImpl.Laws.{laws-law}, OutcomeOrd.TheImpl.Laws.{matches_eq-law, total-law}}
 use Rattle.sci_allowed.specs.contracts.outcome.OutcomePartialEq.TheImpl as TheEquality
 use Rattle.sci_allowed.specs.contracts.outcome.OutcomeOrd.TheImpl as TheOrder

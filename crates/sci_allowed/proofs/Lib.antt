@@ -1,5 +1,5 @@
 pub mod WrittenWords
 pub mod Sameness
-pub mod Showing
+pub mod SeenAlike
 pub mod Shares
 pub mod Allowing

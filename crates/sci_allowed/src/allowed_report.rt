@@ -10,6 +10,7 @@ ghost use Rattle.sci_allowed.specs.declared.fault.AllowedFault.TheVariants.{NoRo
 
 use crate::fault::AllowedFault;
 use crate::litmus::Litmus;
+use crate::outcome::Outcome;
 use crate::outcome_text::{push_outcome, sense_words};
 use crate::rows::Rows;
 use sci_command::{Answer, Answered, Note, Outcome as Ending, Refusal, push_labelled, read_script};

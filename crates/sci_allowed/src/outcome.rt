@@ -43,7 +43,7 @@ pub struct Outcome {
 }
 
 /// What the operation with this serial replied. None if it is a store, or isn't performed.
-fn replied(node: u8, serial: u32, answers: &[Answer]) -> Option<Replied>
+fn reply_of(node: u8, serial: u32, answers: &[Answer]) -> Option<Replied>
     ensures { result ≡ replied_at node serial (slice_index_or answers.now serial Stored) }
 {
     match answers.get(serial as usize) {
@@ -67,7 +67,7 @@ fn push_replies(
         (λ i. replied_at node i (slice_index_or answers.now i Stored)) (range_with_len 0 count)) }
 {
     for serial in 0..count {
-        if let Some(reply) = replied(node, serial, answers) {
+        if let Some(reply) = reply_of(node, serial, answers) {
             replies.push(reply)?;
         }
     }
@@ -96,7 +96,7 @@ fn replies_of(
 }
 
 /// What the word at a place holds, and 0 if there is no such word.
-fn held(place: Place, words: &[Word]) -> Held
+fn held_word(place: Place, words: &[Word]) -> Held
     ensures { result ≡ held_of words.now place }
 {
     let at = usize::from(place.line) * WORDS_PER_LINE + usize::from(place.word);
@@ -117,7 +117,7 @@ fn words_of(
 {
     let mut words = Vec::with_capacity(alloc, places.len())?;
     for place in places {
-        words.push(held(*place, &standing.words))?;
+        words.push(held_word(*place, &standing.words))?;
     }
     Ok(words)
 }
