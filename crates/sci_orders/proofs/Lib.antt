@@ -21,3 +21,4 @@ pub mod LevelSteps
 pub mod Passing
 pub mod Copies
 pub mod Ways
+pub mod Refusing

@@ -1,14 +1,17 @@
 -- Ways to a position, from its end on.
 use Rattle.std.proofs.Common.{◌≡◌, ◌↔◌, ℕ, suc, Bool, true, false, List, [], ◌∷◌, ◌++◌, length, Option, None, Some, reverse, refl, sym, ap, subst, ◌∙◌}
-use Rattle.std.proofs.Common.{◌+◌, ◌<◌, map, get_or, append_assoc, arith, inl, inr}
+use Rattle.std.proofs.Common.{◌+◌, ◌<◌, map, take, get_or, append_assoc, arith, inl, inr}
 use Rattle.std.proofs.Math.Seq.{get_or-append_seam}
-use Rattle.std.proofs.lemmas.{Bool.{cases_lt}, List.{get_or_append_left, length-map, length_push, map-append, reverse-append}}
-use Rattle.std.specs.{List.{Contains}, Prelude.{Vec}}
+use Rattle.std.proofs.lemmas.Bool.{cases_lt}
+use Rattle.std.proofs.lemmas.List.{append-nil, get_or_append_left, get_or_default, get_or-map, length-map, length_push, map-append, reverse-append, take_more}
+use Rattle.std.proofs.lemmas.List.Elements.{All-get_or}
+use Rattle.std.specs.{List.{All, Contains}, Prelude.{Vec}}
 use Rattle.sci_words.specs.declared.event.Event.{Event}
 use Rattle.sci_core.{proofs.Basics.Options.{same_some}, specs.Size.{Size}}
-use Rattle.sci_orders.proofs.{Changes.{list_below}, Sameness.{equal_standing, same_standing}}
+use Rattle.sci_orders.proofs.{Changes.{list_below}, Keeping.{contains_none}, Sameness.{equal_standing, same_standing}}
 use Rattle.sci_orders.specs.Positions.{AreReachedIn, IsReachedIn, Operations, Position, own_of, position_of, step_at}
-use Rattle.sci_orders.specs.{Ways.{AreLevels, IsStep, IsStepBy, LeadsTo, levels_of}, Witness.{schedule_of, turn_of}, declared.standing.Standing.{Standing}}
+use Rattle.sci_orders.specs.{Ways.{AreLevels, IsStep, IsStepBy, LeadsTo, levels_of}, Witness.{round_of, schedule_of, turn_of}, declared.standing.Standing.{Standing}}
+use Rattle.sci_words.specs.declared.event.{AskKind.TheVariants as kind, Event.TheVariants as event}
 use Rattle.sci_orders.specs.contracts.standing.StandingPartialEq.TheImpl as TheEquality
 
 -- a step leads to a standing exactly if what it gives is found equal to it
@@ -84,3 +87,57 @@ levels_more {Z = Z} lines operations window count old new first second is added 
 -- none is a level before the first
 pub no_levels : (lines : ℕ) (operations : Operations) (window : ℕ) → AreLevels lines operations window []
 no_levels lines operations window k below = absurd (omega arith)
+
+-- ---- what stands at a place
+
+pub item_at : {X : Type 0} (xs : List X) (i j : ℕ) (item d : X) → i < length xs → j ≡ i → item ≡ get_or xs i item → get_or xs j d ≡ item
+item_at xs i j item d below same is = ap (λ (k : ℕ). get_or xs k d) same ∙ (get_or_default xs i d item below ∙ sym is)
+
+-- what holds of all positions of a level holds of a standing of it
+pub holds_at : (P : Position → Type 0) (level : List Standing) (i : ℕ) (item : Standing) → i < length level → item ≡ get_or level i item
+    → All P (map position_of level) → P (position_of item)
+holds_at P level i item below is all =
+    let long = length-map level position_of in
+    subst P (get_or-map position_of level i item (position_of item) below ∙ ap position_of (sym is))
+    (All-get_or P (map position_of level) i (position_of item) (omega arith) all)
+
+-- what holds of no standing holds of no position
+pub none_holds : (P : Position → Type 0) (level : List Standing) → ((k : ℕ) (d : Standing) → k < length level → P (position_of (get_or level k d)) → ⊥)
+    → (p : Position) → Contains (map position_of level) p → P p → ⊥
+none_holds P [] none p has holds = contains_none p has
+none_holds P (s ∷ ss) none p (k, below, at) holds =
+    let long = length-map (s ∷ ss) position_of in
+    let lt : k < length (s ∷ ss) = omega arith in
+    none k s lt (subst P (sym (sym (get_or-map position_of (s ∷ ss) k s p lt) ∙ at)) holds)
+
+-- a level is what its number of steps leads to
+pub level_at : {Z : Type 0} (lines : ℕ) (operations : Operations) (window : ℕ) (levels : List (Vec Standing Z)) (i : ℕ) (item : Vec Standing Z)
+    (standings : List Standing) → i < length levels → item ≡ get_or levels i item → standings ≡ item.items
+    → AreLevels lines operations window (levels_of levels) → AreReachedIn lines operations window i (map position_of standings)
+level_at {Z = Z} lines operations window levels i item standings low is same all =
+    let f = λ (level : Vec Standing Z). map position_of level.items in
+    let long = length-map levels f in
+    subst (AreReachedIn lines operations window i) (get_or-map f levels i item [] low ∙ (ap f (sym is) ∙ ap (map position_of) (sym same)))
+    (all i (omega arith))
+
+-- ---- one turn
+
+pub turn_made : (size : Size) (n line : ℕ) (e : Event) (old a b new first second : List Event) → e ≡ event.Perform n line → a ≡ old ++ first
+    → b ≡ a ++ e ∷ [] → new ≡ b ++ second → first ≡ round_of size n line kind.Mread → second ≡ round_of size n line kind.Wback
+    → new ≡ old ++ turn_of size e
+turn_made size n line e old a b new first second is one two three here there =
+    let turn : old ++ (round_of size n line kind.Mread ++ (e ∷ round_of size n line kind.Wback)) ≡ old ++ turn_of size e =
+    ap (λ (f : Event). old ++ (round_of size n line kind.Mread ++ (f ∷ round_of size n line kind.Wback))) is ∙ sym (ap (λ (f : Event). old ++ turn_of size f) is) in
+    three
+    ∙ (ap (λ (es : List Event). es ++ second) (two ∙ ap (λ (es : List Event). es ++ e ∷ []) one)
+    ∙ (append_assoc (old ++ first) (e ∷ []) second
+    ∙ (append_assoc old first (e ∷ second)
+    ∙ (ap (λ (es : List Event). old ++ (es ++ (e ∷ second))) here
+    ∙ (ap (λ (es : List Event). old ++ (round_of size n line kind.Mread ++ (e ∷ es))) there ∙ turn)))))
+
+pub schedule_take : (size : Size) (order : List Event) (k : ℕ) (d : Event) → k < length order
+    → schedule_of size (take (k + 1) order) ≡ schedule_of size (take k order) ++ turn_of size (get_or order k d)
+schedule_take size order k d low =
+    ap (schedule_of size) (take_more order k d low)
+    ∙ (schedule-append size (take k order) (get_or order k d ∷ [])
+    ∙ ap (λ (es : List Event). schedule_of size (take k order) ++ es) (append-nil (turn_of size (get_or order k d))))

@@ -34,7 +34,8 @@ fn push_turn(events: &mut Vec<Event>, extent: Extent, event: Event) -> Result<()
     };
     events.extend_from_slice(&round(extent, node, line, AskKind::Mread))?;
     events.push(event)?;
-    events.extend_from_slice(&round(extent, node, line, AskKind::Wback))
+    events.extend_from_slice(&round(extent, node, line, AskKind::Wback))?;
+    Ok(())
 }
 
 /// A schedule of a machine of this size for an order: each Issue as it is, and nine events for each Perform. Refused if
