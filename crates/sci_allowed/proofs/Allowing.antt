@@ -42,7 +42,8 @@ any_contains : (outcomes : List Outcome) (shown : Shown) → Any (λ o. shown_of
 any_contains outcomes shown (k, o, below, here, is) = subst (Contains (map shown_of outcomes)) is (contains_map shown_of outcomes o (k, below, here))
 
 module _ (litmus : Litmus) (window : ℕ) (standings : List Standing) (outcomes : List Outcome) (good : IsLitmus litmus)
-    (has : HaveRuns (size_for litmus.script) (shares_of litmus.script) window (map position_of standings)) (seen : AreSeenAt litmus.script standings outcomes) where
+    (has : HaveRuns (size_for litmus.script) (shares_of litmus.script) window (map position_of standings))
+    (seen : AreSeenAt litmus.script standings outcomes) where
   -- what is seen of an outcome is seen of a run
   pub each_seen : (shown : Shown) → Contains (map shown_of outcomes) shown → IsAllowed litmus.script window shown
   each_seen shown there =
@@ -98,7 +99,8 @@ among_is script outcomes o all = (
 -- ---- all outcomes
 
 pub are_allowed : (litmus : Litmus) (window : ℕ) (standings : List Standing) (outcomes sorted final : List Outcome) → IsLitmus litmus
-    → HaveRuns (size_for litmus.script) (shares_of litmus.script) window (map position_of standings) → AreSeenAt litmus.script standings outcomes → IsPermutation outcomes sorted
+    → HaveRuns (size_for litmus.script) (shares_of litmus.script) window (map position_of standings) → AreSeenAt litmus.script standings outcomes
+    → IsPermutation outcomes sorted
     → IsSorted (TheOrder.ghosts).cmp sorted → final ≡ dedup (TheEquality.ghosts).eq sorted → AreAllowed litmus.script window final
 are_allowed litmus window standings outcomes sorted final good has seen moved order is = record {
   each = All-weaker (Contains final) (λ o. IsAllowed litmus.script window (shown_of o)) (λ o there.

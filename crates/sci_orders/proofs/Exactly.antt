@@ -86,7 +86,9 @@ reached_runs size operations window p sizes known reached =
 way_order : (size : Size) (operations : Operations) (window : ℕ) (p : Position) (order : List Event) → IsScriptOf size operations
     → IsWayTo size.lines operations window p order → IsOrderFor size operations window (operation_count operations * 2) p order
 way_order size operations window p order known way =
-    subst (λ (k : ℕ). IsOrderFor size operations window k p order) way.long
+    let whole = way.long in
+    let count : 0 + length order ≡ operation_count operations * 2 = omega arith in
+    subst (λ (k : ℕ). IsOrderFor size operations window k p order) count
     (order_leads size operations window 0 (opening_position size.lines operations) p [] order known (opening_order size operations window known) way.leads)
 
 pub way_has_run : (size : Size) (operations : Operations) (window : ℕ) (p : Position) (order : List Event) → IsMachineSize size → IsScriptOf size operations

@@ -10,8 +10,10 @@ use Rattle.sci_words.specs.declared.event.Event.{Event}
 use Rattle.sci_core.{proofs.Basics.Options.{same_some}, specs.Size.{Size}}
 use Rattle.sci_orders.proofs.{Changes.{list_below}, Keeping.{contains_none}, Sameness.{equal_standing, same_standing}}
 use Rattle.sci_orders.specs.Positions.{AreReachedIn, IsReachedIn, Operations, Position, own_of, position_of, step_at}
-use Rattle.sci_orders.specs.{Ways.{AreLevels, IsStep, IsStepBy, LeadsTo, levels_of}, Witness.{round_of, schedule_of, turn_of}, declared.standing.Standing.{Standing}}
-use Rattle.sci_words.specs.declared.event.{AskKind.TheVariants as kind, Event.TheVariants as event}
+use Rattle.sci_orders.specs.{Ways.{AreLevels, IsStep, IsStepBy, LeadsTo, levels_of}, Witness.{round_of, schedule_of, turn_of}}
+use Rattle.sci_orders.specs.declared.standing.Standing.{Standing}
+use Rattle.sci_words.specs.declared.event.AskKind.TheVariants as kind
+use Rattle.sci_words.specs.declared.event.Event.TheVariants as event
 use Rattle.sci_orders.specs.contracts.standing.StandingPartialEq.TheImpl as TheEquality
 
 -- a step leads to a standing exactly if what it gives is found equal to it
@@ -127,7 +129,8 @@ pub turn_made : (size : Size) (n line : ℕ) (e : Event) (old a b new first seco
     → new ≡ old ++ turn_of size e
 turn_made size n line e old a b new first second is one two three here there =
     let turn : old ++ (round_of size n line kind.Mread ++ (e ∷ round_of size n line kind.Wback)) ≡ old ++ turn_of size e =
-    ap (λ (f : Event). old ++ (round_of size n line kind.Mread ++ (f ∷ round_of size n line kind.Wback))) is ∙ sym (ap (λ (f : Event). old ++ turn_of size f) is) in
+    ap (λ (f : Event). old ++ (round_of size n line kind.Mread ++ (f ∷ round_of size n line kind.Wback))) is
+    ∙ sym (ap (λ (f : Event). old ++ turn_of size f) is) in
     three
     ∙ (ap (λ (es : List Event). es ++ second) (two ∙ ap (λ (es : List Event). es ++ e ∷ []) one)
     ∙ (append_assoc (old ++ first) (e ∷ []) second

@@ -6,7 +6,8 @@ use Rattle.sci_orders.proofs.orders.Orders.event_of_node.Goals as goal
 
 pub returns-then-branch-clause-some : goal.returns-then-branch-clause-some
 returns-then-branch-clause-some c =
-    let own = ap (λ (ops : List Op). length ops) (own_is c.args.self.now.operations.now c.args.node c.index-self-from.result c.requires.node c.index-self-from.is) in
+    let own = ap (λ (ops : List Op). length ops)
+    (own_is c.args.self.now.operations.now c.args.node c.index-self-from.result c.requires.node c.index-self-from.is) in
     let low = c.loop-place-test.true in
     let end = c.len-place-end.ensures in
     record {

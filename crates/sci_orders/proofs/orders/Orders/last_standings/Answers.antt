@@ -3,7 +3,8 @@ use Rattle.std.proofs.Common.{◌≡◌, ◌+◌, ◌*◌, ◌<◌, ℕ, List, [
 use Rattle.std.proofs.lemmas.List.{length-map, Sums.{sum_by_more}}
 use Rattle.std.specs.List.{All}
 use Rattle.sci_words.specs.declared.operation.Op.{Op}
-use Rattle.sci_orders.proofs.{Copies.{own_is}, Reaching.{all_fit, reached_more}, Refusing.{raised, too_many}, orders.Orders.last_standings.Goals.{After-deref-in-loop-operation}}
+use Rattle.sci_orders.proofs.{Copies.{own_is}, Reaching.{all_fit, reached_more}, Refusing.{raised, too_many}}
+use Rattle.sci_orders.proofs.orders.Orders.last_standings.Goals.{After-deref-in-loop-operation}
 use Rattle.sci_orders.specs.Positions.{AreReachedIn, AreTooMany, Fits, lists_of, operation_count, position_of}
 use Rattle.sci_orders.specs.declared.standing.Standing.{Standing}
 use Rattle.sci_orders.proofs.orders.Orders.last_standings.Goals as goal
