@@ -1,5 +1,5 @@
 -- The operation is one of the node.
-use Rattle.std.proofs.Common.{List, length, ap, arith}
+use Rattle.std.proofs.Common.{ℕ, List, length, get_or, ap, ◌∙◌, arith}
 use Rattle.sci_words.specs.declared.operation.Op.{Op}
 use Rattle.sci_orders.proofs.Copies.{own_is}
 use Rattle.sci_orders.proofs.orders.Orders.event_of_node.Goals as goal
@@ -7,7 +7,8 @@ use Rattle.sci_orders.proofs.orders.Orders.event_of_node.Goals as goal
 pub returns-then-branch-clause-some : goal.returns-then-branch-clause-some
 returns-then-branch-clause-some c =
     let own = ap (λ (ops : List Op). length ops)
-    (own_is c.args.self.now.operations.now c.args.node c.index-self-from.result c.requires.node c.index-self-from.is) in
+    (own_is c.args.self.now.operations.now c.args.node c.index-self-from.result c.requires.node
+    (c.index-self-from.is ∙ ap (λ (n : ℕ). get_or c.args.self.now.operations.now n c.index-self-from.result) c.from.ensures)) in
     let low = c.loop-place-test.true in
     let end = c.len-place-end.ensures in
     record {
