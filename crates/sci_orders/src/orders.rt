@@ -69,7 +69,11 @@ impl<'a> Orders<'a> {
 
     /// The standings to which one step leads from these, each once. Refused if memory is, or if there are more than
     /// 100,000.
-    pub(crate) fn next_level(&self, alloc: Global, level: &[Standing]) -> Result<Vec<Standing>, OrdersFault>
+    pub(crate) fn next_level(
+        &self,
+        alloc: Global,
+        level: &[Standing],
+    ) -> Result<Vec<Standing>, OrdersFault>
         requires { All (Fits (lists_of self.now.operations.now)) (map position_of level.now) }
         ensures steps { IfOk result (λ next. AreStepsFrom (lists_of self.now.operations.now)
             self.now.window (map position_of level.now) (map position_of next.items)) }
