@@ -4,12 +4,13 @@ use Rattle.std.proofs.lemmas.List.{append-nil, drop_all, Elements.{All-weaker}}
 use Rattle.std.specs.{List.{All}, Prelude.{count_by}}
 use Rattle.sci_words.specs.declared.{event.Event.{Event}, operation.Op.{Op}, stamped.Stamped.{Stamped}}
 use Rattle.sci_history.specs.declared.entry.Entry.{Entry}
-use Rattle.sci_core.{proofs.WellFormed.WellFormedSteps.{is_size}, specs.{Core.{run}, Done.{done}, Sharing.{last_of}, Size.{Size, IsMachineSize, IsSize}}}
-use Rattle.sci_orders.proofs.{Following.{follows, order_for}, Progress.{AreAnswered, all_answered}, Sound.{explained}}
-use Rattle.sci_orders.proofs.{Stands.{Stands, none_first, opening_stands, within}, Turns.{order_seen}}
+use Rattle.sci_core.{proofs.WellFormed.WellFormedSteps.{is_size}, specs.{Core.{opening, run}, Done.{done}, Settling.{AreMade}, Sharing.{last_of}}}
+use Rattle.sci_core.specs.Size.{Size, IsMachineSize, IsSize}
+use Rattle.sci_orders.proofs.{Following.{IsOrderFor, follows, opening_order, order_for, order_leads}, Progress.{AreAnswered, all_answered}, Sound.{explained}}
+use Rattle.sci_orders.proofs.{Stands.{Stands, none_first, opening_stands, within}, Turns.{order_made, order_seen}}
 use Rattle.sci_orders.specs.{Orders.{HasRun, IsAmong, IsOrderOf, IsOutcomeOf, IsScriptOf, issues_at}, Plain.{Plain, opening_plain, plain_done, plain_run}}
 use Rattle.sci_orders.specs.Positions.{AreReachedIn, IsReachedIn, Operations, Position, answers_of, is_waiting, opening_position, operation_count, own_of}
-use Rattle.sci_orders.specs.{Witness.{schedule_of, seen}, declared.standing.Answer.{Answer}}
+use Rattle.sci_orders.specs.{Ways.{IsWayTo}, Witness.{any_event, schedule_of, seen}, declared.standing.Answer.{Answer}}
 
 outcome_of : (size : Size) (operations : Operations) (plain : Plain) (entries : List Entry) (p : Position) → Stands size operations plain entries p
     → AreAnswered operations p → IsOutcomeOf size operations entries plain.contents p
@@ -49,11 +50,10 @@ runs_reached size operations window schedule sizes known runs =
 
 -- ---- and each such position is the end of a run
 
-pub reached_runs : (size : Size) (operations : Operations) (window : ℕ) (p : Position) → IsMachineSize size → IsScriptOf size operations
-    → IsReachedIn size.lines operations window (operation_count operations * 2) p → (schedule : List Event) × HasRun size operations window p schedule
-reached_runs size operations window p sizes known reached =
-    let way = order_for size operations window (operation_count operations * 2) p known reached in
-    let order = way.order in
+pub way_runs : (size : Size) (operations : Operations) (window : ℕ) (p : Position) (order : List Event) → IsMachineSize size → IsScriptOf size operations
+    → IsReachedIn size.lines operations window (operation_count operations * 2) p
+    → IsOrderFor size operations window (operation_count operations * 2) p order → HasRun size operations window p (schedule_of size order)
+way_runs size operations window p order sizes known reached way =
     let schedule = schedule_of size order in
     let first = opening_plain size in
     let seen_is = order_seen size order sizes way.allowed in
@@ -62,20 +62,44 @@ reached_runs size operations window p sizes known reached =
     let outcome = outcome_of size operations (plain_run first order) (plain_done first order) p way.stands all in
     let entries : done size schedule ≡ plain_done first order = sound.done ∙ ap (plain_done first) seen_is in
     let contents : last_of (run size schedule) ≡ (plain_run first order).contents =
-    sound.last ∙ ap (λ (o : List Event). (plain_run first o).contents) seen_is in (
-      schedule,
-      record {
-        runs = subst (IsOrderOf operations window) (sym seen_is) (record {
-          issued = λ n. sym (append-nil (issues_at n order))
-              ∙ (ap (λ (ops : List Op). issues_at n order ++ ops) (sym (drop_all (length (answers_of p n)) (own_of operations n) (
-              let same = all.issued n in omega arith))) ∙ way.issued n);
-          few = way.few;
-          whole = way.long;
-        });
-        outcome = subst (λ (es : List Entry). IsOutcomeOf size operations es (last_of (run size schedule)) p) (sym entries)
-            (subst (λ (c : List Stamped). IsOutcomeOf size operations (plain_done first order) c p) (sym contents) outcome);
-      },
-    )
+    sound.last ∙ ap (λ (o : List Event). (plain_run first o).contents) seen_is in
+    record {
+      runs = subst (IsOrderOf operations window) (sym seen_is) (record {
+        issued = λ n. sym (append-nil (issues_at n order))
+            ∙ (ap (λ (ops : List Op). issues_at n order ++ ops) (sym (drop_all (length (answers_of p n)) (own_of operations n) (
+            let same = all.issued n in omega arith))) ∙ way.issued n);
+        few = way.few;
+        whole = way.long;
+      });
+      outcome = subst (λ (es : List Entry). IsOutcomeOf size operations es (last_of (run size schedule)) p) (sym entries)
+          (subst (λ (c : List Stamped). IsOutcomeOf size operations (plain_done first order) c p) (sym contents) outcome);
+    }
+
+pub reached_runs : (size : Size) (operations : Operations) (window : ℕ) (p : Position) → IsMachineSize size → IsScriptOf size operations
+    → IsReachedIn size.lines operations window (operation_count operations * 2) p → (schedule : List Event) × HasRun size operations window p schedule
+reached_runs size operations window p sizes known reached =
+    let way = order_for size operations window (operation_count operations * 2) p known reached in
+    (schedule_of size way.0, way_runs size operations window p way.0 sizes known reached way.1)
+
+-- ---- a way is that of a run
+
+way_order : (size : Size) (operations : Operations) (window : ℕ) (p : Position) (order : List Event) → IsScriptOf size operations
+    → IsWayTo size.lines operations window p order → IsOrderFor size operations window (operation_count operations * 2) p order
+way_order size operations window p order known way =
+    let whole = way.long in
+    let count : 0 + length order ≡ operation_count operations * 2 = omega arith in
+    subst (λ (k : ℕ). IsOrderFor size operations window k p order) count
+    (order_leads size operations window 0 (opening_position size.lines operations) p [] order known (opening_order size operations window known) way.leads)
+
+pub way_has_run : (size : Size) (operations : Operations) (window : ℕ) (p : Position) (order : List Event) → IsMachineSize size → IsScriptOf size operations
+    → IsReachedIn size.lines operations window (operation_count operations * 2) p → IsWayTo size.lines operations window p order
+    → HasRun size operations window p (schedule_of size order)
+way_has_run size operations window p order sizes known reached way =
+    way_runs size operations window p order sizes known reached (way_order size operations window p order known way)
+
+pub way_made : (size : Size) (operations : Operations) (window : ℕ) (p : Position) (order : List Event) → IsMachineSize size → IsScriptOf size operations
+    → IsWayTo size.lines operations window p order → AreMade any_event (opening size) (schedule_of size order)
+way_made size operations window p order sizes known way = order_made size order sizes (way_order size operations window p order known way).allowed
 
 -- ---- all of them
 

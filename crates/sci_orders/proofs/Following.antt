@@ -2,7 +2,7 @@
 use Rattle.std.proofs.Common.{◌≡◌, ℕ, zero, suc, ◌+◌, ◌<◌, ◌==◌, ◌&&◌, nat_lt, not, Bool, true, false, if◌then◌else◌, List, [], ◌∷◌, ◌++◌, length, drop}
 use Rattle.std.proofs.Common.{get_or, Option, Some, None, refl, sym, ap, subst, ◌∙◌, append_assoc, arith, inl, inr}
 use Rattle.std.proofs.Math.Seq.{drop-cons}
-use Rattle.std.proofs.lemmas.Bool.{and_parts, cases_lt, eq-eqb, eqb-true, lt-ltb, ltb-true}
+use Rattle.std.proofs.lemmas.Bool.{and_parts, cases_lt, eq-eqb, eqb-true, lt-ltb, ltb-true, ne_eqb}
 use Rattle.std.proofs.lemmas.List.{append-nil, append_cancel_left, length_push, length-drop, Sums.{fold-append}}
 use Rattle.std.proofs.lemmas.Option.{get_or_from_slice_get, slice_get-get_or, slice_get_past}
 use Rattle.std.specs.Prelude.{IsSome, count_by, is_none, option_to_list, slice_get, unwrap_or}
@@ -12,7 +12,7 @@ use Rattle.sci_core.{proofs.Basics.Options.{found, same_some}, specs.{Size.{Size
 use Rattle.sci_orders.proofs.{Changes.{rest_of, waiting_below, waiting_is}, Issuing.{Goes, IsFree, issue_goes, waiting_after}}
 use Rattle.sci_orders.proofs.{ScriptOrders.{after-append, after_same, allowed_more, done_more, few-append, issues-append}, Performing.{perform_goes}}
 use Rattle.sci_orders.proofs.{Places.{any_found, none_any}, Stands.{Stands, none_first, opening_stands, pending_of}, Turns.{both_tests, no_test, one_test}}
-use Rattle.sci_orders.specs.Orders.{AreFew, IsScriptOf, issues_at}
+use Rattle.sci_orders.specs.{Orders.{AreFew, IsScriptOf, issues_at}, Ways.{LeadsTo, event_at}}
 use Rattle.sci_orders.specs.Plain.{AreAllowed, Plain, can_issue, opening_plain, plain_done, plain_made, plain_run, plain_step, plain_stepping, port_at}
 use Rattle.sci_orders.specs.Plain.{waits_at, with_issued, with_performed}
 use Rattle.sci_orders.specs.Positions.{IsReachedIn, Operations, Position, answer_at, answers_of, blocks, is_blocked, is_waiting, may_issue_next, no_operation}
@@ -52,15 +52,27 @@ none_blocks operations p n i free = none_any (blocks (own_of operations n) (answ
 
 -- ---- a step of a position is an event of the memory
 
-pub record Steps (size : Size) (operations : Operations) (window : ℕ) (plain : Plain) (done : List Entry) (p q : Position) : Type 0 where
-  pub event : Event
-  pub goes : Goes size operations plain done p q event
-  pub few : AreFew window (waiting_at p) (event ∷ [])
+pub record Steps (size : Size) (operations : Operations) (window : ℕ) (plain : Plain) (done : List Entry) (p q : Position) (e : Event) : Type 0 where
+  pub goes : Goes size operations plain done p q e
+  pub few : AreFew window (waiting_at p) (e ∷ [])
+
+-- of an operation that isn't issued the event is its Issue, and else its Perform
+issue_at : (operations : Operations) (p : Position) (n i : ℕ) → (length (answers_of p n) == i) ≡ true
+    → event.Issue n (operation_at operations n (length (answers_of p n))) ≡ event_at operations p n i
+issue_at operations p n i is =
+    ap (λ (k : ℕ). event.Issue n (operation_at operations n k)) (eqb-true (length (answers_of p n)) i is)
+    ∙ sym (ap (λ (b : Bool). if b then event.Issue n (operation_at operations n i) else event.Perform n (operation_at operations n i).line) is)
+
+perform_at : (operations : Operations) (p : Position) (n i : ℕ) → i < length (answers_of p n)
+    → event.Perform n (operation_at operations n i).line ≡ event_at operations p n i
+perform_at operations p n i below =
+    sym (ap (λ (b : Bool). if b then event.Issue n (operation_at operations n i) else event.Perform n (operation_at operations n i).line)
+    (ne_eqb (length (answers_of p n)) i (λ is. absurd (omega arith))))
 
 module _ (size : Size) (operations : Operations) (window : ℕ) (plain : Plain) (done : List Entry) (p q : Position) (n i : ℕ)
     (stands : Stands size operations plain done p) (known : IsScriptOf size operations) (below : i < length (own_of operations n)) where
   issue_steps : (may : Bool) → may_issue_next (own_of operations n) (answers_of p n) window i ≡ may → (if may then Some (with_issued_at p n) else None) ≡ Some q
-      → Steps size operations window plain done p q
+      → Steps size operations window plain done p q (event_at operations p n i)
   issue_steps false may is = cc
   issue_steps true may is =
       let free_ = not (is_blocked (own_of operations n) (answers_of p n) i) in
@@ -68,33 +80,35 @@ module _ (size : Size) (operations : Operations) (window : ℕ) (plain : Plain) 
       let more = and_parts free_ (nat_lt (waiting_at p n) window) parts.1 in
       let next : length (answers_of p n) ≡ i = eqb-true (length (answers_of p n)) i parts.0 in
       let free = free_of operations p n i (not_true (is_blocked (own_of operations n) (answers_of p n) i) more.0) in
-      subst (Steps size operations window plain done p) (same_some (with_issued_at p n) q is) (record {
-        event = event.Issue n (operation_at operations n (length (answers_of p n)));
+      subst (Steps size operations window plain done p q) (issue_at operations p n i parts.0)
+      (subst (λ (r : Position). Steps size operations window plain done p r (event.Issue n (operation_at operations n (length (answers_of p n)))))
+      (same_some (with_issued_at p n) q is) (record {
         goes = issue_goes size operations plain done p n stands known (subst (λ (k : ℕ). k < length (own_of operations n)) (sym next) below)
             (subst (IsFree operations p n) (sym next) free);
         few = (ltb-true (waiting_at p n) window more.1, tt);
-      })
+      }))
 
   as_steps : (o : Option Answer) → slice_get (answers_of p n) i ≡ o → step_as operations window p n i o ≡ Some q
-      → Steps size operations window plain done p q
+      → Steps size operations window plain done p q (event_at operations p n i)
   as_steps None is step = issue_steps (may_issue_next (own_of operations n) (answers_of p n) window i) refl step
   as_steps (Some answer.Waiting) is step =
-      subst (Steps size operations window plain done p) (same_some (with_performed_at (operation_at operations n i) p n i) q step) (record {
-        event = event.Perform n (operation_at operations n i).line;
-        goes = perform_goes size operations plain done p n i stands known (get_or_from_slice_get (answers_of p n) i answer.Waiting answer.Stored is);
+      let waits = get_or_from_slice_get (answers_of p n) i answer.Waiting answer.Stored is in
+      subst (Steps size operations window plain done p q) (perform_at operations p n i (waiting_below p n i waits))
+      (subst (λ (r : Position). Steps size operations window plain done p r (event.Perform n (operation_at operations n i).line))
+      (same_some (with_performed_at (operation_at operations n i) p n i) q step) (record {
+        goes = perform_goes size operations plain done p n i stands known waits;
         few = tt;
-      })
+      }))
   as_steps (Some answer.Stored) is step = cc
   as_steps (Some (answer.Got w)) is step = cc
 
-  pub position_steps : step_at operations window p n i ≡ Some q → Steps size operations window plain done p q
+  pub position_steps : step_at operations window p n i ≡ Some q → Steps size operations window plain done p q (event_at operations p n i)
   unfolding step_at
   position_steps step = as_steps (slice_get (answers_of p n) i) refl step
 
 -- ---- each position that is reached is that of an order
 
-pub record OrderFor (size : Size) (operations : Operations) (window count : ℕ) (p : Position) : Type 0 where
-  pub order : List Event
+pub record IsOrderFor (size : Size) (operations : Operations) (window count : ℕ) (p : Position) (order : List Event) : Type 0 where
   pub issued : (n : ℕ) → issues_at n order ++ rest_of operations p n ≡ own_of operations n
   pub few : AreFew window (λ n. 0) order
   pub waits : (n : ℕ) → waiting_after order (λ m. 0) n ≡ waiting_at p n
@@ -112,41 +126,65 @@ few_same window (event.Refuse from n) f g same few = tt
 few_same window (event.Reply n) f g same few = tt
 few_same window (event.Accept from n) f g same few = tt
 
+pub opening_order : (size : Size) (operations : Operations) (window : ℕ) → IsScriptOf size operations
+    → IsOrderFor size operations window 0 (opening_position size.lines operations) []
+opening_order size operations window known = record {
+  issued = λ n. ap (λ (as_ : List Answer). drop (length as_) (own_of operations n)) (none_first size.lines operations n);
+  few = tt;
+  waits = λ n. sym (ap (λ (as_ : List Answer). count_by is_waiting as_) (none_first size.lines operations n));
+  long = refl;
+  allowed = tt;
+  stands = opening_stands size operations known;
+}
+
+pub order_more : (size : Size) (operations : Operations) (window count : ℕ) (q p : Position) (order : List Event) (n i : ℕ) → IsScriptOf size operations
+    → IsOrderFor size operations window count q order → i < length (own_of operations n) → step_at operations window q n i ≡ Some p
+    → IsOrderFor size operations window (suc count) p (order ++ event_at operations q n i ∷ [])
+order_more size operations window count q p order n i known before below step =
+    let first = opening_plain size in
+    let plain = plain_run first order in
+    let s = position_steps size operations window plain (plain_done first order) q p n i before.stands known below step in
+    let e = event_at operations q n i in
+    let to : plain_run first (order ++ e ∷ []) ≡ s.goes.new =
+    fold-append plain_step first order (e ∷ []) ∙ ap (λ (o : Option Plain). unwrap_or o plain) s.goes.steps in
+    let waiting = waiting_after order (λ m. 0) in
+    record {
+      issued = λ m. ap (λ (ops : List Op). ops ++ rest_of operations p m) (issues-append m order e)
+          ∙ (append_assoc (issues_at m order) (issues_at m (e ∷ [])) (rest_of operations p m)
+          ∙ (ap (λ (ops : List Op). issues_at m order ++ ops) (sym (s.goes.rest m)) ∙ before.issued m));
+      few = few-append window (λ m. 0) order e before.few (few_same window e waiting (waiting_at q) before.waits s.few);
+      waits = λ m. ap (λ (f : ℕ → ℕ). f m) (after-append (λ m. 0) order e)
+          ∙ (after_same e waiting (waiting_at q) before.waits m ∙ sym (s.goes.waits m));
+      long = length_push order e ∙ (let before_ = before.long in let sum : length order + 1 ≡ suc count = omega arith in sum);
+      allowed = allowed_more first order e before.allowed (subst IsSome (sym s.goes.steps) refl);
+      stands = subst (λ (x : Plain). Stands size operations x (plain_done first (order ++ e ∷ [])) p) (sym to)
+          (subst (λ (es : List Entry). Stands size operations s.goes.new es p) (sym (done_more first order e)) s.goes.stands);
+    }
+
 pub order_for : (size : Size) (operations : Operations) (window count : ℕ) (p : Position) → IsScriptOf size operations
-    → IsReachedIn size.lines operations window count p → OrderFor size operations window count p
+    → IsReachedIn size.lines operations window count p → (order : List Event) × IsOrderFor size operations window count p order
 order_for size operations window zero p known is =
-    let first = opening_position size.lines operations in
-    subst (OrderFor size operations window zero) (sym is) (record {
-      order = [];
-      issued = λ n. ap (λ (as_ : List Answer). drop (length as_) (own_of operations n)) (none_first size.lines operations n);
-      few = tt;
-      waits = λ n. sym (ap (λ (as_ : List Answer). count_by is_waiting as_) (none_first size.lines operations n));
-      long = refl;
-      allowed = tt;
-      stands = opening_stands size operations known;
-    })
+    subst (λ (q : Position). (order : List Event) × IsOrderFor size operations window zero q order) (sym is)
+    ([], opening_order size operations window known)
 order_for size operations window (suc count) p known (q, n, i, reached, below, step) =
     let before = order_for size operations window count q known reached in
-    let first = opening_plain size in
-    let plain = plain_run first before.order in
-    let s = position_steps size operations window plain (plain_done first before.order) q p n i before.stands known below step in
-    let e = s.event in
-    let to : plain_run first (before.order ++ e ∷ []) ≡ s.goes.new =
-    fold-append plain_step first before.order (e ∷ []) ∙ ap (λ (o : Option Plain). unwrap_or o plain) s.goes.steps in
-    let waiting = waiting_after before.order (λ m. 0) in
-    record {
-      order = before.order ++ e ∷ [];
-      issued = λ m. ap (λ (ops : List Op). ops ++ rest_of operations p m) (issues-append m before.order e)
-          ∙ (append_assoc (issues_at m before.order) (issues_at m (e ∷ [])) (rest_of operations p m)
-          ∙ (ap (λ (ops : List Op). issues_at m before.order ++ ops) (sym (s.goes.rest m)) ∙ before.issued m));
-      few = few-append window (λ m. 0) before.order e before.few (few_same window e waiting (waiting_at q) before.waits s.few);
-      waits = λ m. ap (λ (f : ℕ → ℕ). f m) (after-append (λ m. 0) before.order e)
-          ∙ (after_same e waiting (waiting_at q) before.waits m ∙ sym (s.goes.waits m));
-      long = length_push before.order e ∙ (let before_ = before.long in let sum : length before.order + 1 ≡ suc count = omega arith in sum);
-      allowed = allowed_more first before.order e before.allowed (subst IsSome (sym s.goes.steps) refl);
-      stands = subst (λ (x : Plain). Stands size operations x (plain_done first (before.order ++ e ∷ [])) p) (sym to)
-          (subst (λ (es : List Entry). Stands size operations s.goes.new es p) (sym (done_more first before.order e)) s.goes.stands);
-    }
+    (before.0 ++ event_at operations q n i ∷ [], order_more size operations window count q p before.0 n i known before.1 below step)
+
+-- an order goes on with the events of a way
+pub order_leads : (size : Size) (operations : Operations) (window count : ℕ) (q p : Position) (before order : List Event) → IsScriptOf size operations
+    → IsOrderFor size operations window count q before → LeadsTo operations window q order p
+    → IsOrderFor size operations window (count + length order) p (before ++ order)
+order_leads size operations window count q p before [] known is leads =
+    subst (λ (r : Position). IsOrderFor size operations window (count + 0) r (before ++ [])) leads
+    (subst (λ (es : List Event). IsOrderFor size operations window (count + 0) q es) (sym (append-nil before))
+    (subst (λ (k : ℕ). IsOrderFor size operations window k q before) (let same : count ≡ count + 0 = omega arith in same) is))
+order_leads size operations window count q p before (e ∷ order) known is (r, step, leads) =
+    let more = order_more size operations window count q r before step.taken.node step.taken.place known is step.taken.below step.taken.step in
+    let here = subst (λ (f : Event). IsOrderFor size operations window (suc count) r (before ++ f ∷ [])) (sym step.is) more in
+    let all = order_leads size operations window (suc count) r p (before ++ e ∷ []) order known here leads in
+    subst (λ (k : ℕ). IsOrderFor size operations window k p (before ++ e ∷ order)) (
+    let same : suc count + length order ≡ count + length (e ∷ order) = omega arith in same)
+    (subst (λ (es : List Event). IsOrderFor size operations window (suc count + length order) p es) (append_assoc before (e ∷ []) order) all)
 
 -- ---- an event of an order is a step of a position
 

@@ -20,3 +20,5 @@ pub mod Sameness
 pub mod LevelSteps
 pub mod Passing
 pub mod Copies
+pub mod Ways
+pub mod Refusing

@@ -1,4 +1,5 @@
 pub mod Plain
 pub mod Witness
 pub mod Positions
+pub mod Ways
 pub mod Orders

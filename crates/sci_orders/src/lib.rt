@@ -4,7 +4,9 @@
 mod fault;
 mod laws;
 mod orders;
+mod schedule;
 mod standing;
+mod way;
 
 pub use fault::OrdersFault;
 pub use laws::{

@@ -5,7 +5,7 @@ ghost use Rattle.std.specs.List.{All};
 ghost use Rattle.sci_words.specs.declared.event.Event.{Event};
 ghost use Rattle.sci_core.specs.Size.{IsMachineSize, size_of};
 ghost use Rattle.sci_orders.specs.declared.fault.OrdersFault.TheVariants.{TooMany};
-ghost use Rattle.sci_orders.specs.Positions.{AreReachedIn, AreStepsFrom, AreTooMany, AreTooManyFrom, AreWithin, Fits, lists_of, opening_position, operation_count, position_of, steps_from, steps_of};
+ghost use Rattle.sci_orders.specs.Positions.{AreOnce, AreReachedIn, AreStepsFrom, AreTooMany, AreTooManyFrom, AreWithin, Fits, lists_of, opening_position, operation_count, position_of, steps_from, steps_of};
 ghost use Rattle.sci_orders.specs.Orders.{HasRun, IsAmong, IsOrderOf, IsScriptOf};
 ghost use Rattle.sci_orders.specs.Witness.{seen};
 
@@ -69,10 +69,15 @@ impl<'a> Orders<'a> {
 
     /// The standings to which one step leads from these, each once. Refused if memory is, or if there are more than
     /// 100,000.
-    fn next_level(&self, alloc: Global, level: &[Standing]) -> Result<Vec<Standing>, OrdersFault>
+    pub(crate) fn next_level(
+        &self,
+        alloc: Global,
+        level: &[Standing],
+    ) -> Result<Vec<Standing>, OrdersFault>
         requires { All (Fits (lists_of self.now.operations.now)) (map position_of level.now) }
         ensures steps { IfOk result (λ next. AreStepsFrom (lists_of self.now.operations.now)
             self.now.window (map position_of level.now) (map position_of next.items)) }
+        ensures once { IfOk result (λ next. AreOnce (map position_of next.items)) }
         ensures many { IfErr result (λ fault. fault ≡ TooMany → AreTooManyFrom
             (lists_of self.now.operations.now) self.now.window (map position_of level.now)) }
     {
@@ -89,7 +94,7 @@ impl<'a> Orders<'a> {
     }
 
     /// The standing from which the steps go. Refused if memory is.
-    fn first_level(&self, alloc: Global, lines: u8) -> Result<Vec<Standing>, AllocError>
+    pub(crate) fn first_level(&self, alloc: Global, lines: u8) -> Result<Vec<Standing>, AllocError>
         ensures { IfOk result (λ level. map position_of level.items
             ≡ opening_position lines (lists_of self.now.operations.now) ∷ []) }
     {
@@ -98,13 +103,14 @@ impl<'a> Orders<'a> {
         Ok(level)
     }
 
-    /// The standings to which two steps of each operation lead: in each of them every operation is performed. Requires
+    /// The standings to which two steps of each operation lead, each once: in each of them every operation is performed. Requires
     /// that each operation is on one of this number of lines. Refused if memory is, or if some number of steps leads to
     /// more than 100,000 standings.
     pub fn last_standings(&self, alloc: Global, lines: u8) -> Result<Vec<Standing>, OrdersFault>
         requires { AreWithin lines (lists_of self.now.operations.now) }
         ensures reached { IfOk result (λ level. AreReachedIn lines (lists_of self.now.operations.now)
             self.now.window (operation_count (lists_of self.now.operations.now) * 2) (map position_of level.items)) }
+        ensures once { IfOk result (λ level. AreOnce (map position_of level.items)) }
         ensures many { IfErr result (λ fault. fault ≡ TooMany →
             AreTooMany lines (lists_of self.now.operations.now) self.now.window) }
     {
@@ -119,7 +125,7 @@ impl<'a> Orders<'a> {
     }
 
     /// All outcomes of the script on a machine of this size: where its runs end, if each node issues its operations in
-    /// their order. They are those of `last_standings`. Each is the end of a run, and each such run ends in one of them.
+    /// their order. They are those of `last_standings`, each once. Each is the end of a run, and each such run ends in one of them.
     /// Requires that the operations are the machine's. Refused as `last_standings` is.
     pub fn outcomes(
         &self,
@@ -132,6 +138,7 @@ impl<'a> Orders<'a> {
         ensures reached { IfOk result (λ outcomes. AreReachedIn extent.lines
             (lists_of self.now.operations.now) self.now.window
             (operation_count (lists_of self.now.operations.now) * 2) (map position_of outcomes.items)) }
+        ensures once { IfOk result (λ outcomes. AreOnce (map position_of outcomes.items)) }
         ensures each { IfOk result (λ outcomes. All (λ p. (schedule : List Event) × HasRun
             (size_of extent limit) (lists_of self.now.operations.now) self.now.window p schedule)
             (map position_of outcomes.items)) }

@@ -1,11 +1,11 @@
 -- One level more, twice.
 use Rattle.std.proofs.Common.{◌≡◌, ◌+◌, ◌*◌, ◌<◌, ℕ, List, [], length, map, take, get_or, refl, sym, ap, subst, ◌∙◌, arith}
 use Rattle.std.proofs.lemmas.List.{length-map, Sums.{sum_by_more}}
-use Rattle.std.specs.{List.{All}, Prelude.{IfErr, Result, Ok, Err, Vec}, Result.{IsErrAnd}, declared.alloc.Global.{Global}}
-use Rattle.sci_orders.specs.declared.fault.OrdersFault.{OrdersFault, TheVariants.{TooMany}}
+use Rattle.std.specs.List.{All}
 use Rattle.sci_words.specs.declared.operation.Op.{Op}
-use Rattle.sci_orders.proofs.{Copies.{own_is}, Reaching.{all_fit, reached_more}, orders.Orders.last_standings.Goals.{After-deref-in-loop-operation}}
-use Rattle.sci_orders.specs.Positions.{AreReachedIn, AreTooMany, AreTooManyFrom, Fits, Operations, Position, lists_of, operation_count, position_of}
+use Rattle.sci_orders.proofs.{Copies.{own_is}, Reaching.{all_fit, reached_more}, Refusing.{raised, too_many}}
+use Rattle.sci_orders.proofs.orders.Orders.last_standings.Goals.{After-deref-in-loop-operation}
+use Rattle.sci_orders.specs.Positions.{AreReachedIn, AreTooMany, Fits, lists_of, operation_count, position_of}
 use Rattle.sci_orders.specs.declared.standing.Standing.{Standing}
 use Rattle.sci_orders.proofs.orders.Orders.last_standings.Goals as goal
 
@@ -14,7 +14,7 @@ next_level-requires c =
     let operations = lists_of c.args.self.now.operations.now in
     let count = (operation_count (take c.loop-own.own-index operations) + c.loop-operation._operation-index) * 2 in
     let all = all_fit c.args.lines operations c.args.self.now.window count (map position_of c.loop-operation.level.items) c.requires
-    c.loop-operation.invariant in
+    c.loop-operation.invariant.reached in
     subst (λ (ss : List Standing). All (Fits operations) (map position_of ss)) (sym c.deref.ensures.value) all
 
 half : (c : After-deref-in-loop-operation)
@@ -27,7 +27,7 @@ half c =
     reached_more c.args.lines operations c.args.self.now.window count (count + 1) (map position_of c.deref.result.now)
     (map position_of c.in_ok-half.half.items) refl
     (subst (λ (ss : List Standing). AreReachedIn c.args.lines operations c.args.self.now.window count (map position_of ss)) (sym c.deref.ensures.value)
-    c.loop-operation.invariant) c.in_ok-half.ensures.steps
+    c.loop-operation.invariant.reached) c.in_ok-half.ensures.steps
 
 pub next_level-requires-in-loop-operation : goal.next_level-requires-in-loop-operation
 next_level-requires-in-loop-operation c =
@@ -43,10 +43,13 @@ loop-operation-preserved c =
     let before = operation_count (take c.loop-own.own-index operations) in
     let index = c.loop-operation._operation-index in
     let so = half (goal.at.loop-operation-preserved c).After-deref-in-loop-operation in
-    reached_more c.args.lines operations c.args.self.now.window ((before + index) * 2 + 1) ((before + (index + 1)) * 2)
-    (map position_of c.deref-in-loop-operation.result.now) (map position_of c.in_ok-level-2.level.items) (omega arith)
-    (subst (λ (ss : List Standing). AreReachedIn c.args.lines operations c.args.self.now.window ((before + index) * 2 + 1) (map position_of ss))
-    (sym c.deref-in-loop-operation.ensures.value) so) c.in_ok-level-2.ensures.steps
+    record {
+      reached = reached_more c.args.lines operations c.args.self.now.window ((before + index) * 2 + 1) ((before + (index + 1)) * 2)
+          (map position_of c.deref-in-loop-operation.result.now) (map position_of c.in_ok-level-2.level.items) (omega arith)
+          (subst (λ (ss : List Standing). AreReachedIn c.args.lines operations c.args.self.now.window ((before + index) * 2 + 1) (map position_of ss))
+          (sym c.deref-in-loop-operation.ensures.value) so) c.in_ok-level-2.ensures.steps;
+      once = c.in_ok-level-2.ensures.once;
+    }
 
 pub loop-own-preserved : goal.loop-own-preserved
 loop-own-preserved c =
@@ -60,24 +63,11 @@ loop-own-preserved c =
     let same : length c.deref-operation-items.result.now ≡ length c.own-item.result.items =
     ap (λ (ops : List Op). length ops) c.deref-operation-items.ensures.value in
     let whole : (operation_count (take k operations) + index) * 2 ≡ operation_count (take (k + 1) operations) * 2 = omega arith in
-    subst (λ (n : ℕ). AreReachedIn c.args.lines operations c.args.self.now.window n (map position_of c.loop-operation.level.items)) whole
-    c.loop-operation.invariant
-
--- one level more has too many
-too_many : (lines : ℕ) (operations : Operations) (window count : ℕ) (level : List Position) → AreReachedIn lines operations window count level
-    → AreTooManyFrom operations window level → AreTooMany lines operations window
-too_many lines operations window count level is more = record {
-  count = count + 1;
-  positions = more.positions;
-  reached = reached_more lines operations window count (count + 1) level more.positions refl is more.steps;
-  once = more.once;
-  many = more.many;
-}
-
-raised : (X : Type 0) (r : Result (Vec Standing Global) OrdersFault) (fault : OrdersFault) → IsErrAnd r (λ e. e ≡ fault) → (fault ≡ TooMany → X)
-    → IfErr r (λ e. e ≡ TooMany → X)
-raised X (Ok level) fault is so = tt
-raised X (Err e) fault is so = λ many. so (sym is ∙ many)
+    record {
+      reached = subst (λ (n : ℕ). AreReachedIn c.args.lines operations c.args.self.now.window n (map position_of c.loop-operation.level.items)) whole
+          c.loop-operation.invariant.reached;
+      once = c.loop-operation.invariant.once;
+    }
 
 pub returns-in_err-half-clause-many : goal.returns-in_err-half-clause-many
 returns-in_err-half-clause-many c =
@@ -86,7 +76,7 @@ returns-in_err-half-clause-many c =
     raised (AreTooMany c.args.lines operations c.args.self.now.window) _ c.in_err-half.field-0.0 c.from_residual-in_err-half.ensures.1
     (λ is. too_many c.args.lines operations c.args.self.now.window count (map position_of c.deref.result.now)
     (subst (λ (ss : List Standing). AreReachedIn c.args.lines operations c.args.self.now.window count (map position_of ss)) (sym c.deref.ensures.value)
-    c.loop-operation.invariant) (c.in_err-half.ensures.many is))
+    c.loop-operation.invariant.reached) (c.in_err-half.ensures.many is))
 
 pub returns-in_err-level-2-clause-many : goal.returns-in_err-level-2-clause-many
 returns-in_err-level-2-clause-many c =

@@ -58,3 +58,13 @@ returns-clause-steps c =
     ∙ ap (λ (ss : List Standing). flat_map steps (map position_of ss)) (ap (λ (k : ℕ). take k c.args.level.now) whole ∙ take-length c.args.level.now) in
     (stepped (lists_of c.args.self.now.operations.now) c.args.self.now.window c.args.level.now c.loop-standing.next.items c.sort.new.self.items
     c.dedup.new.self.items c.in_ok-sort.ensures.sorted (dedup_is _ _ _ c.dedup.ensures.filtered) joined c.sort.ensures.permutation).0
+
+pub returns-clause-once : goal.returns-clause-once
+returns-clause-once c =
+    let steps = steps_from (lists_of c.args.self.now.operations.now) c.args.self.now.window in
+    let whole : c.loop-standing.standing-index ≡ length c.args.level.now = omega arith in
+    let joined : map position_of c.loop-standing.next.items ≡ flat_map steps (map position_of c.args.level.now) =
+    c.loop-standing.invariant
+    ∙ ap (λ (ss : List Standing). flat_map steps (map position_of ss)) (ap (λ (k : ℕ). take k c.args.level.now) whole ∙ take-length c.args.level.now) in
+    (stepped (lists_of c.args.self.now.operations.now) c.args.self.now.window c.args.level.now c.loop-standing.next.items c.sort.new.self.items
+    c.dedup.new.self.items c.in_ok-sort.ensures.sorted (dedup_is _ _ _ c.dedup.ensures.filtered) joined c.sort.ensures.permutation).1
