@@ -22,6 +22,7 @@ run:
 	@$(NEED_RT)
 	@scripts/gate/check.py scimem
 	@cd crates/scimem && rt run -- $$(cat args) < stdin 2> ../../out/check/run.log || { cat ../../out/check/run.log >&2; exit 1; }
+	@install -D crates/scimem/out/scimem out/bin/scimem
 
 # The gate: every proof from nothing, the edits that must fail, and the tests; then the programs that it built, on the
 # stored cases, the examples and charts; then programs and tests with memory, reads and writes refused. The last line is
@@ -38,10 +39,12 @@ plants:
 # Builds both programs, unless make test or an earlier make build has built them of the same sources.
 build: crates/scimem/out/scimem crates/sciview/out/sciview
 
-# Each program is built over what earlier checks kept, and runs its example, which ends with the status in its file status.
+# Each program is built over what earlier checks kept, and runs its example, which ends with the status in its file status. A copy
+# is put into out/bin, where it stays while make test sets aside what stands in crates/.
 $(PROGRAMS): $(SOURCES)
 	@$(NEED_RT)
 	@cd crates/$(@F) && { rt run -- $$(cat args) < stdin > /dev/null; [ $$? -eq $$(cat status 2> /dev/null || echo 0) ]; } && touch out/$(@F)
+	@install -D crates/$(@F)/out/$(@F) out/bin/$(@F)
 
 # The C library: libsci.a, libsci.so and sci.pc in out/library.
 library: out/library/libsci.so
@@ -79,9 +82,9 @@ charts: build
 # PATH the programs are built first; without it, as under sudo, those that are built are taken.
 install:
 	@if command -v rt > /dev/null; then $(MAKE) --no-print-directory build; fi
-	@for name in scimem sciview; do [ -x crates/$$name/out/$$name ] || { echo "$$name isn't built yet: run make build first"; exit 1; }; done
+	@for name in scimem sciview; do [ -x out/bin/$$name ] || { echo "$$name isn't built yet: run make build first"; exit 1; }; done
 	@install -d "$(DESTDIR)$(PREFIX)/bin" "$(DESTDIR)$(PREFIX)/share/man/man1" "$(DESTDIR)$(PREFIX)/share/man/man5"
-	@install -m 755 crates/scimem/out/scimem crates/sciview/out/sciview "$(DESTDIR)$(PREFIX)/bin"
+	@install -m 755 out/bin/scimem out/bin/sciview "$(DESTDIR)$(PREFIX)/bin"
 	@install -m 644 docs/scimem.1 docs/sciview.1 "$(DESTDIR)$(PREFIX)/share/man/man1"
 	@scripts/make/manual_page.py > "$(DESTDIR)$(PREFIX)/share/man/man5/scimem.5"
 	@echo "installed scimem and sciview in $(DESTDIR)$(PREFIX)/bin, and scimem(1), sciview(1) and scimem(5) in $(DESTDIR)$(PREFIX)/share/man"

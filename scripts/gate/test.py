@@ -7,6 +7,7 @@ refused. At the end stands how long each stage took; the last line is 'N passed,
 import os
 import re
 import resource
+import shutil
 import subprocess
 import sys
 import time
@@ -49,10 +50,12 @@ def run(name, words):
 
 
 def mark_built():
-    """Gives the programs the time of now, so that make knows that they are built of the sources as they are. Those that an
-    earlier run built have its time."""
+    """Gives the programs the time of now, so that make knows that they are built of the sources as they are: those that an
+    earlier run built have its time. Copies of them are put into out/bin, as make does."""
+    os.makedirs(f"{TOP}/out/bin", exist_ok=True)
     for name in ("scimem", "sciview", "sci_circle"):
         os.utime(f"{TOP}/crates/{name}/out/{name}")
+        shutil.copy2(f"{TOP}/crates/{name}/out/{name}", f"{TOP}/out/bin/{name}")
 
 
 def main():

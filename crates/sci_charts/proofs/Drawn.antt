@@ -9,7 +9,7 @@ use Rattle.sci_cache.specs.Cache.{Letter}
 use Rattle.sci_statistics.specs.About.{letter_sent}
 use Rattle.sci_charts.specs.declared.charting.{ChartRequest.{ChartRequest}, TextLines.{TextLines}}
 use Rattle.sci_charts.specs.Rows.{AreRows, IsRow, Place, if_enabled, is_past, is_shown, is_within, places}
-use Rattle.sci_charts.specs.Drawing.{Adds, AddsBy, EndsWith, chart_end}
+use Rattle.sci_charts.specs.Drawing.{Adds, AddsBy, IsFramed, chart_begin, chart_end}
 
 -- ---- an event
 
@@ -129,7 +129,11 @@ behind_more front request all text new core number events k d row lt appended ad
   drawn = draws_more request all was.rows core number events k d row lt adds was.drawn;
 }
 
--- the chart ends with its rows
-pub ends_with : (front rows text chart : List ℕ) → text ≡ front ++ rows → chart ≡ text ++ chart_end → EndsWith rows chart
-ends_with front rows text chart written ended =
-    record { front = front; written = ended ∙ (ap (λ (l : List ℕ). l ++ chart_end) written ∙ append_assoc front rows chart_end) }
+-- the chart begins as it began, and ends with its rows
+pub framed : (begun : List ℕ) → (front : List ℕ) × (begun ≡ chart_begin ++ front) → (rows text chart : List ℕ) → text ≡ begun ++ rows
+    → chart ≡ text ++ chart_end → IsFramed rows chart
+framed begun front rows text chart written ended =
+    let whole : chart ≡ begun ++ (rows ++ chart_end) = ended ∙ (ap (λ (l : List ℕ). l ++ chart_end) written ∙ append_assoc begun rows chart_end) in record {
+      front = front.0;
+      written = whole ∙ (ap (λ (l : List ℕ). l ++ (rows ++ chart_end)) front.1 ∙ append_assoc chart_begin front.0 (rows ++ chart_end));
+    }

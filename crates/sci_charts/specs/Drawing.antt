@@ -40,7 +40,11 @@ Adds request place text = AddsBy (is_shown request place) place text
 abbrev pub chart_end : List ℕ
 chart_end = codes "</g>" ++ (10 ∷ [] ++ (codes "</svg>" ++ 10 ∷ []))
 
--- the chart ends with its rows
-pub record EndsWith (rows text : List ℕ) : Type 0 where
+-- what every chart begins with
+abbrev pub chart_begin : List ℕ
+chart_begin = codes "<svg "
+
+-- the chart is an element of SVG that ends with its rows
+pub record IsFramed (rows text : List ℕ) : Type 0 where
   pub front : List ℕ
-  pub written : text ≡ front ++ (rows ++ chart_end)
+  pub written : text ≡ chart_begin ++ (front ++ (rows ++ chart_end))

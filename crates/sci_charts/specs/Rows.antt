@@ -1,7 +1,8 @@
 -- The rows of a chart.
-use Rattle.std.specs.Prelude.{◌≡◌, ℕ, ◌+◌, nat_le, nat_lt, Bool, true, false, ◌&&◌, ◌⊎◌, List, [], ◌∷◌, ◌++◌, filter, codes, Option, Some, None, is_some}
-use Rattle.sci_words.specs.declared.event.Event.{Event}
-use Rattle.sci_packets.specs.declared.packet.Packet.{Packet}
+use Rattle.std.specs.Prelude.{◌≡◌, ◌≢◌, ℕ, ◌+◌, nat_le, nat_lt, Bool, true, false, ◌&&◌, ◌⊎◌, List, [], ◌∷◌, ◌++◌, filter, codes, Option, Some, None, is_some}
+use Rattle.sci_words.specs.declared.event.Event.{Event, TheVariants.{Issue, Perform}}
+use Rattle.sci_packets.specs.{declared.packet.Packet.{Packet}, Table.{IsRequest}}
+use Rattle.sci_packets.specs.declared.body.Body.TheVariants.{Busy as BusyAnswer}
 use Rattle.sci_cache.specs.Cache.{Letter, letter_of}
 use Rattle.sci_core.specs.Core.{Core, step, stepping}
 use Rattle.sci_statistics.specs.{About.{line_about, letter_sent}, Beginning.{before}}
@@ -74,6 +75,13 @@ kind_class Refused = codes "x"
 kind_class Answer = codes "a"
 kind_class Busy = codes "b"
 
+-- an arrow of this kind shows such a packet: a request, which is answered busy or not, an answer, or the answer busy
+abbrev pub ShowsPacket : ArrowKind → Letter → Type 0
+ShowsPacket Request letter = IsRequest letter.body
+ShowsPacket Refused letter = IsRequest letter.body
+ShowsPacket Answer letter = (IsRequest letter.body → ⊥) × (letter.body ≢ BusyAnswer)
+ShowsPacket Busy letter = letter.body ≡ BusyAnswer
+
 -- the arrow of a packet that is sent, with its whole line as the title
 pub record IsArrow (letter : Letter) (text : List ℕ) : Type 0 where
   pub packet : Packet
@@ -81,6 +89,7 @@ pub record IsArrow (letter : Letter) (text : List ℕ) : Type 0 where
   pub title : List ℕ
   pub is_title : packet_line packet ≡ title ++ 10 ∷ []
   pub kind : ArrowKind
+  pub is_kind : ShowsPacket kind letter
   pub way : Way
   pub written : text ≡ arrow_element (kind_class kind) way title
 
@@ -94,7 +103,7 @@ abbrev pub if_enabled : Bool → Option Letter → Option Letter
 if_enabled true letter = letter
 if_enabled false letter = None
 
--- what stands at the column of the event's node: a cross, a circle, or nothing, where an arrow begins or ends
+-- a mark of an event
 pub record IsCross (text : List ℕ) : Type 0 where
   pub upper : Point
   pub lower : Point
@@ -105,8 +114,13 @@ pub record IsCircle (class text : List ℕ) : Type 0 where
   pub radius : ℕ
   pub written : text ≡ circle_element class centre radius
 
-abbrev pub IsMarked : List ℕ → Type 0
-IsMarked text = IsCross text ⊎ (IsCircle (codes "i") text ⊎ (IsCircle (codes "p") text ⊎ (text ≡ [])))
+-- what stands at the column of its node: a cross if it isn't enabled, a circle if an operation is issued or performed, and
+-- else nothing, since an arrow begins or ends there
+abbrev pub IsMarked : Bool → Event → List ℕ → Type 0
+IsMarked false e text = IsCross text
+IsMarked true (Issue node op) text = IsCircle (codes "i") text
+IsMarked true (Perform node line) text = IsCircle (codes "p") text
+IsMarked true e text = text ≡ []
 
 -- what is said beside it, if anything is
 pub record IsSaid (text : List ℕ) : Type 0 where
@@ -128,7 +142,7 @@ pub record IsRow (enabled : Bool) (sent : Option Letter) (k : ℕ) (e : Event) (
   pub is_begun : IsBegun block
   pub is_sent : IsSent sent arrow
   pub is_event : IsEvent enabled k e event
-  pub is_marked : IsMarked mark
+  pub is_marked : IsMarked enabled e mark
   pub is_labelled : IsLabelled label
   pub written : text ≡ block ++ (arrow ++ (event ++ (mark ++ (label ++ 10 ∷ []))))
 

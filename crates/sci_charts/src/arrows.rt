@@ -1,7 +1,8 @@
 //! The packets of a chart: when each was sent, and when it was taken.
 
 ghost use Rattle.std.specs.Prelude.{◌≡◌};
-ghost use Rattle.sci_charts.specs.Rows.{kind_class};
+ghost use Rattle.sci_cache.specs.Cache.{letter_of};
+ghost use Rattle.sci_charts.specs.Rows.{ShowsPacket, kind_class};
 
 use crate::deed::Mark;
 use sci_packets::{Body, Packet};
@@ -27,12 +28,14 @@ pub enum ArrowKind {
 
 impl ArrowKind {
     /// The kind of a packet.
-    pub fn of(packet: &Packet, passage: &Passage) -> ArrowKind {
+    pub fn of(packet: &Packet, passage: &Passage) -> ArrowKind
+        ensures { ShowsPacket result (letter_of packet.now) }
+    {
         match packet.body {
             Body::Busy => ArrowKind::Busy,
+            _ if !packet.is_request() => ArrowKind::Answer,
             _ if passage.is_refused => ArrowKind::Refused,
-            _ if packet.is_request() => ArrowKind::Request,
-            _ => ArrowKind::Answer,
+            _ => ArrowKind::Request,
         }
     }
 

@@ -2,15 +2,15 @@
 
 ghost use Rattle.std.specs.Prelude.{◌≡◌, ℕ, List, ◌++◌, IfOk, OnOk, not};
 ghost use Rattle.sci_core.specs.Core.{step};
-ghost use Rattle.sci_charts.specs.{Drawing.{Adds, Drawn, chart_end, is_dead, letter_in}, Rows.{IsRow}};
+ghost use Rattle.sci_charts.specs.{Drawing.{Adds, Drawn, chart_begin, chart_end, is_dead, letter_in}, Rows.{IsRow}};
 
 use crate::arrows::{Arrows, Passage};
 use crate::charting::ChartRequest;
 use crate::deed::{Mark, mark_after};
-use crate::elements::Words;
-use crate::frame::Frame;
+use crate::elements::{Words, push_svg};
+use crate::frame::{Frame, title_of};
 use crate::labels::{Deed, Label};
-use crate::layout::row_at;
+use crate::layout::{MARGIN, row_at};
 use crate::plan::Plan;
 use crate::rows::{Row, Rows};
 use crate::sights::{Change, Sight, Spot};
@@ -48,16 +48,24 @@ impl Drawing {
         schedule: &Schedule,
         request: ChartRequest,
     ) -> Result<Drawing, AllocError>
-        ensures { IfOk result (λ drawing. drawing.request ≡ request) }
+        ensures request { IfOk result (λ drawing. drawing.request ≡ request) }
+        ensures begins { IfOk result (λ drawing.
+            (front : List ℕ) × (drawing.text ≡ chart_begin ++ front)) }
     {
         let plan = Plan::of(alloc, schedule, request)?;
         let survey = Survey::of(&plan, schedule)?;
-        let mut out = Vec::with_capacity(alloc, survey.room())?;
+        let title = title_of(&plan, &survey)?;
         let frame = Frame {
             plan,
             survey: &survey,
+            title: &title,
         };
-        frame.push(&mut out)?;
+        let mut inside = Vec::new(alloc);
+        frame.push(&mut inside)?;
+        let mut out = Vec::with_capacity(alloc, survey.room())?;
+        push_svg(&mut out, MARGIN, frame.size())?;
+        out.extend_from_slice(&inside)?;
+        drop(inside);
         let bottom = row_at(survey.rows);
         Ok(Drawing {
             alloc,

@@ -1,6 +1,7 @@
 //! Elements of SVG, appended to a text. Words have none of the characters to which XML gives a meaning there: `>` is not one.
 
-ghost use Rattle.std.specs.Prelude.{◌≡◌, ◌++◌, OnOk};
+ghost use Rattle.std.specs.Prelude.{◌≡◌, ◌++◌, ℕ, List, OnOk};
+ghost use Rattle.sci_charts.specs.Drawing.{chart_begin};
 ghost use Rattle.sci_charts.specs.Elements.{arrow_element, attribute, block_element, circle_element, class_attribute, cross_element, event_element};
 ghost use Rattle.sci_charts.specs.Elements.{label_element, opening, point_text, title_element, way_text};
 
@@ -279,8 +280,11 @@ pub fn push_ground(out: &mut Vec<u8>, margin: u64, size: Point) -> Result<(), Al
 }
 
 /// Appends the opening tag of a chart of this size, of which so much is to the left of 0.
-pub fn push_svg(out: &mut Vec<u8>, margin: u64, size: Point) -> Result<(), AllocError> {
-    push_text(out, "<svg xmlns=\"http://www.w3.org/2000/svg\"")?;
+pub fn push_svg(out: &mut Vec<u8>, margin: u64, size: Point) -> Result<(), AllocError>
+    ensures { OnOk result ((more : List ℕ) × (out.new.items ≡ out.old.items ++ (chart_begin ++ more))) }
+{
+    push_text(out, "<svg ")?;
+    push_text(out, "xmlns=\"http://www.w3.org/2000/svg\"")?;
     push_attribute(out, "width", size.x)?;
     push_attribute(out, "height", size.y)?;
     push_text(out, " viewBox=\"-")?;

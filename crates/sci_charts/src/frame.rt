@@ -1,8 +1,8 @@
 //! What a chart has beside its rows: title and legend, columns, the names of the nodes, and packets from above the first row.
 
 use crate::arrows::{ArrowKind, Passage};
-use crate::elements::{Point, push_arrow, push_ground, push_stem, push_svg, push_use, push_words};
-use crate::layout::{MARGIN, names_at, row_at};
+use crate::elements::{Point, push_arrow, push_ground, push_stem, push_use, push_words};
+use crate::layout::{MARGIN, names_at, row_at, width_of};
 use crate::legend::{RIGHT, push_legend, push_style};
 use crate::plan::{Heights, Plan, way_of};
 use crate::rows::push_packet_words;
@@ -20,6 +20,26 @@ const NAME: i16 = 21;
 pub struct Frame<'a> {
     pub plan: Plan,
     pub survey: &'a Survey,
+    /// The words above all.
+    pub title: &'a [u8],
+}
+
+/// The title of a chart. Refused if memory is.
+pub fn title_of(plan: &Plan, survey: &Survey) -> Result<Vec<u8>, AllocError> {
+    let mut text = Vec::new(plan.alloc);
+    push_text(&mut text, "Message sequence chart")?;
+    if let Some(line) = plan.request.line {
+        push_labelled(&mut text, b" of line", u64::from(line))?;
+    }
+    if let Some(lines) = plan.request.events {
+        push_labelled(&mut text, b", events of lines", lines.first)?;
+        push_labelled(&mut text, b" to", lines.last)?;
+    }
+    push_labelled(&mut text, b": nodes", u64::from(plan.extent.nodes))?;
+    push_labelled(&mut text, b", lines", u64::from(plan.extent.lines))?;
+    push_labelled(&mut text, b", slots", u64::from(plan.extent.slots))?;
+    push_labelled(&mut text, b", events", u64::from(survey.rows))?;
+    Ok(text)
 }
 
 impl Frame<'_> {
@@ -29,31 +49,16 @@ impl Frame<'_> {
     }
 
     /// How wide and how high the chart is.
-    fn size(&self) -> Point {
+    pub fn size(&self) -> Point {
         let columns = self.plan.layout.column(u16::from(self.plan.extent.nodes));
         Point {
-            x: columns.max(self.survey.right).max(RIGHT),
+            x: columns
+                .max(self.survey.right)
+                .max(RIGHT)
+                .max(width_of(self.title)),
             y: self.bottom(),
         }
         .moved(2 * MARGIN as i16, 2 * MARGIN as i16)
-    }
-
-    /// Appends the title.
-    fn push_title(&self, out: &mut Vec<u8>) -> Result<(), AllocError> {
-        let mut text = Vec::new(self.plan.alloc);
-        push_text(&mut text, "Message sequence chart")?;
-        if let Some(line) = self.plan.request.line {
-            push_labelled(&mut text, b" of line", u64::from(line))?;
-        }
-        if let Some(lines) = self.plan.request.events {
-            push_labelled(&mut text, b", events of lines", lines.first)?;
-            push_labelled(&mut text, b" to", lines.last)?;
-        }
-        push_labelled(&mut text, b": nodes", u64::from(self.plan.extent.nodes))?;
-        push_labelled(&mut text, b", lines", u64::from(self.plan.extent.lines))?;
-        push_labelled(&mut text, b", slots", u64::from(self.plan.extent.slots))?;
-        push_labelled(&mut text, b", events", u64::from(self.survey.rows))?;
-        push_words(out, "title", Point { x: 0, y: 24 }, &text)
     }
 
     /// Appends the names of the nodes at their columns, which blocks of rows show.
@@ -108,14 +113,14 @@ impl Frame<'_> {
         push_use(out, self.bottom().saturating_add(16))
     }
 
-    /// Appends all of it. A group is left open, which the first block of rows ends, or the end of the chart.
+    /// Appends all of it but the tag that begins the chart. A group is left open, which the first block of rows ends, or the
+    /// end of the chart.
     pub fn push(&self, out: &mut Vec<u8>) -> Result<(), AllocError> {
         let size = self.size();
-        push_svg(out, MARGIN, size)?;
         push_style(out)?;
         self.push_names(out)?;
         push_ground(out, MARGIN, size)?;
-        self.push_title(out)?;
+        push_words(out, "title", Point { x: 0, y: 24 }, self.title)?;
         push_legend(out)?;
         push_text(out, "<path class=\"guide\" d=\"")?;
         out.extend_from_slice(&self.survey.guides)?;

@@ -73,14 +73,17 @@ fn class_of(mark: &Mark) -> &'static str
 }
 
 /// Appends what stands at the column of an event's node.
-fn push_mark(out: &mut Vec<u8>, mark: &Mark, at: Point) -> Result<(), AllocError>
-    ensures { OnOk result ((text : List ℕ) × (out.new.items ≡ out.old.items ++ text) × IsMarked text) }
+fn push_mark(out: &mut Vec<u8>, row: &Row, at: Point) -> Result<(), AllocError>
+    ensures { OnOk result ((text : List ℕ) × (out.new.items ≡ out.old.items ++ text)
+        × IsMarked (not (is_dead row.now.mark)) row.now.event text) }
 {
-    match mark {
-        Mark::Dead => push_cross(out, at.moved(-REACH, -REACH), at.moved(REACH, REACH)),
-        Mark::Issued => push_circle(out, "i", at, 4),
-        Mark::Performed => push_circle(out, "p", at, 4),
-        Mark::Sent(_) | Mark::Taken(_) | Mark::Refused(_) => Ok(()),
+    if row.mark.is_dead() {
+        return push_cross(out, at.moved(-REACH, -REACH), at.moved(REACH, REACH));
+    }
+    match row.event {
+        Event::Issue { .. } => push_circle(out, "i", at, 4),
+        Event::Perform { .. } => push_circle(out, "p", at, 4),
+        _ => Ok(()),
     }
 }
 
@@ -174,7 +177,7 @@ impl Rows {
         self.begin()?;
         self.push_sent(row, at.y)?;
         self.push_numbered(row, at.y.saturating_add(4))?;
-        push_mark(&mut self.out, &row.mark, at)?;
+        push_mark(&mut self.out, row, at)?;
         push_said(&mut self.out, row, at)?;
         push_text(&mut self.out, "\n")?;
         self.count = self.count.saturating_add(1);

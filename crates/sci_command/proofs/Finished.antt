@@ -6,7 +6,6 @@ use Rattle.sci_text.specs.Tap.{has_failed, is_called_again, tapped}
 use Rattle.sci_command.specs.declared.{answer.Answer.{Answer}, outcome.Outcome.{Outcome, TheVariants.{Refused}}, refusal.Refusal.{Refusal}}
 use Rattle.sci_command.specs.Answer.{HasAnswered, IsAnswerAlone, IsAnswerBeside, IsAnswered, IsRefusedFor, IsShownOf, IsWrittenOf, refusal_of}
 use Rattle.sci_command.specs.{Refusal.{IsRefusalBy, line_refusal}, Writing.{HasCarriedOut, HasWritten, WritesFront}}
-use Rattle.sci_command.proofs.Refusals.{AllowsMemory, refused_by}
 
 -- a text that was written, or a front of it, is an answer if the text is
 pub written_text : (is_answer : List ℕ → Outcome → Type 0) (text : List ℕ) (outcome : Outcome) → is_answer text outcome
@@ -70,15 +69,12 @@ module _ (is_answer : Option (List ℕ) → Bool → List ℕ → Outcome → Ty
       (written.0, written.1, refused_for is_answer (λ kind line. is_told kind known unread line) known unread refusal refused told)
 
   -- of a command that writes its answer, or the line that refuses its input
-  pub answers_beside : AllowsMemory (λ kind line. is_told kind known unread line) → (result : Result Answer Refusal)
-      → IsAnswered is_answer is_told known unread result → Answers (λ r. IsAnswerBeside is_answer r known unread) IsWrittenOf result
-  answers_beside memory (Ok answer) answered text outcome written = rw (written.0, written.1) answered
-  answers_beside memory (Err refusal) told text outcome written =
-      let is_told_here = λ (kind : TextFaultKind) (line : ℕ). is_told kind known unread line in (
-        rw written.1 (refused text (refused_by is_told_here memory refusal.fault text told written.0)),
-        written.1,
-        refused_for is_answer is_told_here known unread refusal refused told,
-      )
+  pub answers_beside : (result : Result Answer Refusal) → IsAnswered is_answer is_told known unread result
+      → Answers (λ r. IsAnswerBeside is_answer r known unread) IsWrittenOf result
+  answers_beside (Ok answer) answered text outcome written = rw (written.0, written.1) answered
+  answers_beside (Err refusal) told text outcome written =
+      let why = refused_for is_answer (λ kind line. is_told kind known unread line) known unread refusal refused told in
+      (rw (written.0, written.1) why, written.1, why)
 
 -- a command has carried out what it was asked, and writes nothing if its input is refused
 pub carried_out : {R W : Type 0} {remaining : R → Option (List ℕ)} {contents : W → Option (List ℕ)} {reader read : Tap R} {writer written : Tap W}
@@ -98,18 +94,17 @@ carried_out {remaining = remaining} {reader = reader} {read} is_answer is_told r
 pub carried_out_beside : {R W : Type 0} {remaining : R → Option (List ℕ)} {contents : W → Option (List ℕ)} {reader read : Tap R} {writer written : Tap W}
     {outcome : Outcome} (is_answer : Option (List ℕ) → Bool → List ℕ → Outcome → Type 0) (is_told : TextFaultKind → Option (List ℕ) → Bool → ℕ → Type 0)
     (result : Result Answer Refusal) (refusal : Option Refusal)
-    → ((input : Option (List ℕ)) (failed : Bool) → AllowsMemory (λ kind line. is_told kind input failed line))
     → ((text : List ℕ) → IsRefusalBy (λ kind line. is_told kind (remaining (tapped reader)) (has_failed read) line) text
     → is_answer (remaining (tapped reader)) (has_failed read) text Refused)
     → HasAnswered remaining reader read is_answer is_told result → refusal ≡ refusal_of result
     → HasWritten (contents (tapped writer)) (contents (tapped written)) (has_failed written) outcome (IsWrittenOf result)
     → is_called_again written ≡ is_called_again writer
     → HasCarriedOut remaining contents reader read writer written outcome (IsAnswerBeside is_answer refusal)
-carried_out_beside {remaining = remaining} {reader = reader} {read} is_answer is_told result refusal memory refused answered is whole wrote_no_more =
+carried_out_beside {remaining = remaining} {reader = reader} {read} is_answer is_told result refusal refused answered is whole wrote_no_more =
     let known = remaining (tapped reader) in
     let unread = has_failed read in
     carried_out_as (IsAnswerBeside is_answer) IsWrittenOf result refusal
-    (answers_beside is_answer is_told known unread refused (memory known unread) result answered.0) is answered.1 whole wrote_no_more
+    (answers_beside is_answer is_told known unread refused result answered.0) is answered.1 whole wrote_no_more
 
 -- an answer that is right, or a fault that is told, of a command that reads nothing
 pub answered_by : (is_answer : List ℕ → Outcome → Type 0) (is_told : TextFaultKind → ℕ → Type 0) (known : Option (List ℕ)) (unread : Bool)

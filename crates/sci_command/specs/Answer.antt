@@ -4,12 +4,12 @@ use Rattle.sci_text.specs.declared.{fault.TextFaultKind.{TextFaultKind}, tap.Tap
 use Rattle.sci_text.specs.Tap.{has_failed, is_called_again, tapped}
 use Rattle.sci_command.specs.declared.{answer.Answer.{Answer}, outcome.Outcome.{Outcome}, refusal.Refusal.{Refusal}}
 use Rattle.sci_command.specs.{declared.outcome.Outcome.TheVariants.{Done, Unlawful, Refused}, Input.{IsReadAs}}
-use Rattle.sci_command.specs.Refusal.{IsRefusalBy, Refuses, line_refusal}
+use Rattle.sci_command.specs.Refusal.{IsRefusalBy, line_refusal}
 
 -- the text of the answer is written, and the command ends as it says; or the line that refuses the input
 abbrev pub IsWrittenOf : Result Answer Refusal → List ℕ → Outcome → Type 0
 IsWrittenOf (Ok answer) text outcome = (text ≡ answer.text.items) × (outcome ≡ answer.outcome)
-IsWrittenOf (Err refusal) text outcome = Refuses refusal.fault text × (outcome ≡ Refused)
+IsWrittenOf (Err refusal) text outcome = (text ≡ line_refusal refusal.fault.line refusal.fault.kind) × (outcome ≡ Refused)
 
 -- the same of a command that writes nothing if its input is refused
 abbrev pub IsShownOf : Result Answer Refusal → List ℕ → Outcome → Type 0

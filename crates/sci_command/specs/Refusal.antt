@@ -1,6 +1,6 @@
 -- How a text is refused.
-use Rattle.std.specs.Prelude.{◌≡◌, ℕ, ◌<◌, ◌⊎◌, List, [], ◌∷◌, ◌++◌, codes}
-use Rattle.sci_text.specs.declared.fault.{TextFault.{TextFault}, TextFaultKind.{TextFaultKind}}
+use Rattle.std.specs.Prelude.{◌≡◌, ℕ, List, [], ◌∷◌, ◌++◌, codes}
+use Rattle.sci_text.specs.declared.fault.TextFaultKind.{TextFaultKind}
 use Rattle.sci_text.specs.declared.fault.TextFaultKind.TheVariants.{Syntax, Range, TooMany, Read, Write, Memory}
 use Rattle.sci_text.specs.Number.{field}
 
@@ -16,10 +16,6 @@ kind_word Memory = codes "memory"
 -- `refused at line K: KIND`, and the line feed
 unfoldable pub line_refusal : ℕ → TextFaultKind → List ℕ
 line_refusal line kind = codes "refused at line" ++ (field line ++ (codes ": " ++ (kind_word kind ++ 10 ∷ [])))
-
--- the refusal of a fault, or that of the memory which the refusal of a line would take
-abbrev pub Refuses : TextFault → List ℕ → Type 0
-Refuses fault text = (text ≡ line_refusal fault.line fault.kind) ⊎ ((0 < fault.line) × (text ≡ line_refusal 0 Memory))
 
 -- the refusal of a fault that is reported
 pub record IsRefusalBy (told : TextFaultKind → ℕ → Type 0) (text : List ℕ) : Type 0 where

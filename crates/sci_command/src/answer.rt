@@ -5,10 +5,9 @@ ghost use Rattle.sci_command.specs.{Answer.{IsShownOf, IsWrittenOf, refusal_of},
 ghost use Rattle.sci_text.specs.Tap.{has_failed, is_called_again, tapped};
 
 use crate::outcome::Outcome;
-use crate::refusal::{Refusal, refuse};
+use crate::refusal::{Refusal, refusal_line};
 use crate::writing::write_answer;
 use sci_text::Tap;
-use std::alloc::Global;
 use std::io::Write;
 
 /// What a command writes, and how it ends then.
@@ -48,7 +47,7 @@ impl Answer {
 }
 
 /// Writes the answer of a command, or the line that refuses its input, and says how the command ended.
-pub fn finish<W: Write>(alloc: Global, writer: &mut Tap<W>, answered: Answered) -> Ended
+pub fn finish<W: Write>(writer: &mut Tap<W>, answered: Answered) -> Ended
     ensures written { HasWritten (W.contents (tapped writer.old)) (W.contents (tapped writer.new))
         (has_failed writer.new) result.outcome (IsWrittenOf answered) }
     ensures refusal { result.refusal ≡ refusal_of answered }
@@ -57,7 +56,11 @@ pub fn finish<W: Write>(alloc: Global, writer: &mut Tap<W>, answered: Answered) 
     match answered {
         Ok(answer) => answer.write(writer),
         Err(refusal) => Ended {
-            outcome: refuse(alloc, writer, refusal.fault),
+            outcome: write_answer(
+                writer,
+                refusal_line(refusal.fault).as_slice(),
+                Outcome::Refused,
+            ),
             refusal: Some(refusal),
         },
     }

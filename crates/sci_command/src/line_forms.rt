@@ -1,7 +1,7 @@
 //! What the lines of scripts, schedules and logs should say.
 
 use crate::line_words::{ANY, Expected, Limits, LineWords, Mismatch};
-use sci_words::{MAX_LINES, MAX_NODES, MAX_OPERATIONS, MAX_SLOTS, WORDS_PER_LINE};
+use sci_words::{MAX_LINES, MAX_NODES, MAX_SLOTS, WORDS_PER_LINE};
 
 /// How many nodes and lines a text is about.
 #[derive(Clone, Copy)]
@@ -25,8 +25,8 @@ pub enum Form {
     Log,
     /// The last contents of this line of memory.
     Last(u64),
-    /// An entry of a log.
-    Entry(Sizes),
+    /// An entry of a log whose nodes have this many serials.
+    Entry { sizes: Sizes, serials: u32 },
 }
 
 /// The numbers from 1 up to a limit.
@@ -53,10 +53,15 @@ fn read_log<'a>(words: &mut LineWords<'a>) -> Result<(), Mismatch<'a>> {
     words.number("a number of lines", from_one(MAX_LINES))
 }
 
-/// Reads `last`, this line of memory, and its contents.
+/// Reads `last`, this line of memory, and its contents. Behind the last line that a memory can have any line of one is
+/// expected.
 fn read_last<'a>(words: &mut LineWords<'a>, line: u64) -> Result<(), Mismatch<'a>> {
     words.word("last", "\"last\"")?;
-    words.exactly("line", line)?;
+    if line < u64::from(MAX_LINES) {
+        words.exactly("line", line)?;
+    } else {
+        words.number("a line", Limits::below(u64::from(MAX_LINES)))?;
+    }
     words.version()?;
     for _ in 0..WORDS_PER_LINE {
         words.number("a word", ANY)?;
@@ -160,10 +165,14 @@ fn read_event<'a>(words: &mut LineWords<'a>, sizes: Sizes) -> Result<(), Mismatc
     }
 }
 
-/// Reads an entry of a log.
-fn read_entry<'a>(words: &mut LineWords<'a>, sizes: Sizes) -> Result<(), Mismatch<'a>> {
+/// Reads an entry of a log whose nodes have this many serials.
+fn read_entry<'a>(
+    words: &mut LineWords<'a>,
+    sizes: Sizes,
+    serials: u32,
+) -> Result<(), Mismatch<'a>> {
     read_node(words, sizes)?;
-    words.number("a serial", Limits::below(u64::from(MAX_OPERATIONS)))?;
+    words.number("a serial", Limits::below(u64::from(serials)))?;
     let stores = words.next() == Some("store");
     read_operation(words, sizes)?;
     words.word("=", "\"=\"")?;
@@ -190,7 +199,7 @@ pub fn read_form<'a>(line: &'a str, form: Form, judges_limits: bool) -> Result<(
         Form::Event(sizes) => read_event(&mut words, sizes)?,
         Form::Log => read_log(&mut words)?,
         Form::Last(line) => read_last(&mut words, line)?,
-        Form::Entry(sizes) => read_entry(&mut words, sizes)?,
+        Form::Entry { sizes, serials } => read_entry(&mut words, sizes, serials)?,
     }
     words.end()
 }

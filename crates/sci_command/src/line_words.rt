@@ -117,10 +117,15 @@ impl<'a> LineWords<'a> {
         }
     }
 
-    /// That something else was expected in place of the next word.
+    /// That something else was expected in place of the next word. A space at the end of the line is the fault itself, and not
+    /// what follows it.
     pub fn mismatch(&self, expected: Expected) -> Mismatch<'a> {
+        let column = match self.rest {
+            Some("") if self.column > 1 => self.column - 1,
+            _ => self.column,
+        };
         Mismatch {
-            column: self.column,
+            column,
             expected,
             found: self.next(),
         }
@@ -174,15 +179,10 @@ impl<'a> LineWords<'a> {
         }
     }
 
-    /// Reads the end of the line. A space at the end is the fault itself, and not what follows it.
+    /// Reads the end of the line.
     pub fn end(&self) -> Result<(), Mismatch<'a>> {
         match self.rest {
             None => Ok(()),
-            Some("") => Err(Mismatch {
-                column: self.column.saturating_sub(1),
-                expected: Expected::End,
-                found: Some(""),
-            }),
             Some(_) => Err(self.mismatch(Expected::End)),
         }
     }

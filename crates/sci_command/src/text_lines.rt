@@ -2,7 +2,7 @@
 
 use crate::line_forms::{Form, Sizes};
 use sci_text::whole_number;
-use sci_words::{FORMAT_1_NODES, MAX_LINES, MAX_NODES};
+use sci_words::{FORMAT_1_NODES, FORMAT_1_SERIALS, MAX_LINES, MAX_NODES, MAX_OPERATIONS};
 
 /// The three kinds of text.
 #[derive(Clone, Copy, PartialEq, Eq)]
@@ -77,15 +77,18 @@ fn form_in_format_1(text: &[u8], before: usize) -> Form {
     if before == 0 || (before <= lines && says_last) {
         return Form::Last(before as u64);
     }
-    Form::Entry(Sizes {
-        nodes: u64::from(FORMAT_1_NODES),
-        lines: lines as u64,
-    })
+    Form::Entry {
+        sizes: Sizes {
+            nodes: u64::from(FORMAT_1_NODES),
+            lines: lines as u64,
+        },
+        serials: FORMAT_1_SERIALS,
+    }
 }
 
 /// What can stand on a line of a log, behind this many others.
 fn form_in_log(text: &[u8], before: usize) -> Form {
-    if !text.starts_with(b"log ") {
+    if !text.starts_with(b"log") {
         return form_in_format_1(text, before);
     }
     let sizes = Sizes {
@@ -95,7 +98,10 @@ fn form_in_log(text: &[u8], before: usize) -> Form {
     match before as u64 {
         0 => Form::Log,
         before if before <= sizes.lines => Form::Last(before - 1),
-        _ => Form::Entry(sizes),
+        _ => Form::Entry {
+            sizes,
+            serials: MAX_OPERATIONS,
+        },
     }
 }
 

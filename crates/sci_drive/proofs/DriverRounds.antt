@@ -1,32 +1,17 @@
 -- What a driver does in a round, step by step.
 use Rattle.std.proofs.Common.{◌≡◌, ◌+◌, ◌<◌, ℕ, Bool, true, false, List, [], ◌∷◌, ◌++◌, length, map, Some, if◌then◌else◌, add-one, refl, sym, ap, subst}
 use Rattle.std.proofs.Common.{inl, inr}
-use Rattle.std.proofs.lemmas.List.Elements.{Contains-append_left}
-use Rattle.std.specs.{Prelude.{◌↔◌, Result, Ok, IfOk}, List.{Contains}, declared.alloc.AllocError.{AllocError}}
+use Rattle.std.specs.{Prelude.{◌↔◌, Result, Ok, IfOk, IsErr}, List.{Contains}, declared.alloc.AllocError.{AllocError}}
 use Rattle.sci_words.specs.declared.operation.Op.{Op}
 use Rattle.sci_history.specs.declared.entry.Entry.{Entry}
 use Rattle.sci_core.specs.{Node.{NodeOf}, Work.{IsIssued, IsLogged}}
 use Rattle.sci_policy.specs.{Deeds.{Deed, Issues}, Worker.{HasSameWork, IsNodeTurn}}
-use Rattle.sci_drive.specs.{declared.driver.Round.{Round}, Calls.{AllDone, Call, IsHeard, MayIssue, Rest}}
+use Rattle.sci_drive.specs.{declared.driver.Round.{Round}, Calls.{AllDone, Answered, Call, HasHeard, MayIssue, Rest, end_told, reports}}
 use Rattle.sci_drive.specs.Driving.{DriverOf, IsAnswered}
 use Rattle.sci_drive.specs.Resting.{AllAreDone, AreBehind, IsAsked, NotAsked, NotYet, in_a_row, is_rest_due, rests_if, row_after}
-use Rattle.sci_drive.specs.Rounds.{AllSubmitted, ArePerformed, GoRounds, GoesRound, IsHeldBack, IsTried, LineIsTaken, NoRoom, NoneNow, NotAllowed, OneMore}
-use Rattle.sci_drive.specs.Rounds.{most_pending, Refused, Submits, next_op, performed, turn_of, with_submitted}
-use Rattle.sci_drive.proofs.GateCalls.{calls_on, no_calls, one_call, submit_call}
-
--- ---- submitted
-
-held_on : (driver : DriverOf) (node : NodeOf) (calls more : List Call) → IsHeldBack driver node calls → IsHeldBack driver node (calls ++ more)
-held_on driver node calls more (NoRoom full) = NoRoom full
-held_on driver node calls more (AllSubmitted none) = AllSubmitted none
-held_on driver node calls more (LineIsTaken op next taken) = LineIsTaken op next taken
-held_on driver node calls more (NotAllowed asked) = NotAllowed (Contains-append_left calls more (MayIssue driver.next false) asked)
-held_on driver node calls more (Refused op next refused) = Refused op next refused
-
-submits_on : (old new : DriverOf) (before after : NodeOf) (calls more : List Call) (deeds : List Deed) → Submits old new before after calls deeds
-    → Submits old new before after (calls ++ more) deeds
-submits_on old new before after calls more deeds (OneMore op room next is issued done) = OneMore op room next is issued done
-submits_on old new before after calls more deeds (NoneNow held is same done) = NoneNow (held_on old before calls more held) is same done
+use Rattle.sci_drive.specs.Rounds.{ArePerformed, GoRounds, GoesRound, IsHeldBack, IsTried, NoneNow, OneMore, Submits, most_pending, next_op, performed}
+use Rattle.sci_drive.specs.Rounds.{turn_of, with_submitted}
+use Rattle.sci_drive.proofs.GateCalls.{heard_on, no_calls, one_call, submit_call}
 
 -- ---- performed
 
@@ -50,64 +35,60 @@ tried_on line before node after entry was logged = record {
 
 module _ {G : Type 0} (hears : G → List Call → G → Type 0) (hears_nothing : (g : G) → hears g [] g) where
   -- nothing is submitted, and the gate isn't asked
-  pub holds_back : (g : G) (a : DriverOf) (x : NodeOf) → IsHeldBack a x [] → (heard : IsHeard hears g g a a x x) × Submits a a x x heard.calls []
-  holds_back g a x held = (record { calls = []; heard = hears_nothing g; are = no_calls a a x x refl refl refl }, NoneNow held refl refl refl)
+  pub holds_back : (g : G) (a : DriverOf) (x : NodeOf) → IsHeldBack a x [] → Submits a a x x [] [] × HasHeard hears g g a a x x []
+  holds_back g a x held = (NoneNow held refl refl refl, (hears_nothing g, no_calls a a x x refl refl refl))
 
   -- nothing is submitted, and the gate is asked
   pub asks : (g h : G) (may : Bool) (a : DriverOf) (x y : NodeOf) → hears g (MayIssue a.next may ∷ []) h → y ≡ x → IsHeldBack a x (MayIssue a.next may ∷ [])
-      → (heard : IsHeard hears g h a a x y) × Submits a a x y heard.calls []
-  asks g h may a x y is same held = (
-    record { calls = MayIssue a.next may ∷ []; heard = is; are = one_call a a x y (MayIssue a.next may) refl refl refl refl (ap (λ (n : NodeOf). n.log) same) },
-    NoneNow held refl same refl,
-  )
+      → Submits a a x y (MayIssue a.next may ∷ []) [] × HasHeard hears g h a a x y (MayIssue a.next may ∷ [])
+  asks g h may a x y is same held =
+      (NoneNow held refl same refl, (is, one_call a a x y (MayIssue a.next may) refl refl refl refl (ap (λ (n : NodeOf). n.log) same)))
 
   -- the next operation is submitted, as it was allowed
   pub submits_one : (g h : G) (a : DriverOf) (x y : NodeOf) (op : Op) → hears g (MayIssue a.next true ∷ []) h
       → length a.pending < most_pending a.issuing → next_op a ≡ Some op → IsIssued x y op
-      → (heard : IsHeard hears g h a (with_submitted a op) x y) × Submits a (with_submitted a op) x y heard.calls (Issues op ∷ [])
-  submits_one g h a x y op is room next issued = (
-    record { calls = MayIssue a.next true ∷ []; heard = is; are = submit_call a (with_submitted a op) x y refl refl issued.log },
-    OneMore op room next refl issued refl,
-  )
+      → Submits a (with_submitted a op) x y (MayIssue a.next true ∷ []) (Issues op ∷ [])
+      × HasHeard hears g h a (with_submitted a op) x y (MayIssue a.next true ∷ [])
+  submits_one g h a x y op is room next issued =
+      (OneMore op room next refl refl issued refl, (is, submit_call a (with_submitted a op) x y refl refl issued.log))
 
 -- ---- a round
 
-module _ {G E : Type 0} (hears : G → List Call → G → Type 0) (hears_nothing : (g : G) → hears g [] g) (hears_on : (g h k : G) (calls more : List Call)
+module _ {G E : Type 0} (hears : G → List Call → G → Type 0) (hears_on : (g h k : G) (calls more : List Call)
     → hears g calls h → hears h more k → hears g (calls ++ more) k) where
   -- it submits, performs, takes a turn, and tells the gate of the end, if it does
-  pub goes : (g h k l : G) (a b c d : DriverOf) (x y z w : NodeOf) (result : Result Round E) (first : List Deed) (entries : List Entry)
-      → (submitted : IsHeard hears g h a b x y) → Submits a b x y submitted.calls first
-      → IsHeard hears h k b c y z → ArePerformed y entries z
+  pub goes : (g h k l : G) (a b c d : DriverOf) (x y z w : NodeOf) (result : Result Round E) (asked : List Call) (first : List Deed) (entries : List Entry)
+      → Submits a b x y asked first → HasHeard hears g h a b x y asked
+      → ArePerformed y entries z → HasHeard hears h k b c y z (map Answered entries)
       → ((line : ℕ) → Contains d.pending line → IsTried line y z)
       → HasSameWork z w → IfOk result (λ round. IsNodeTurn z w round.progress)
-      → IsHeard hears k l c d z w → IfOk result (λ round. (d.was_done ≡ true) ↔ IsAnswered d)
+      → HasHeard hears k l c d z w (end_told a.was_done d.was_done) → IfOk result (λ round. (d.was_done ≡ true) ↔ IsAnswered d)
+      → (IsErr result → d.was_done ≡ a.was_done)
       → GoesRound hears ((first ++ map performed entries) ++ turn_of result) g l a d x w result
-  goes g h k l a b c d x y z w result first entries submitted submits performing performs tried work turn telling done = record {
-    heard = record {
-      calls = (submitted.calls ++ performing.calls) ++ telling.calls;
-      heard = hears_on g k l (submitted.calls ++ performing.calls) telling.calls
-          (hears_on g h k submitted.calls performing.calls submitted.heard performing.heard) telling.heard;
-      are = calls_on a c d x z w (submitted.calls ++ performing.calls) telling.calls
-          (calls_on a b c x y z submitted.calls performing.calls submitted.are performing.are) telling.are;
-    };
-    node = z;
-    works = first ++ map performed entries;
-    worked = record {
-      driver = b;
-      node = y;
-      first = first;
-      submits = submits_on a b x y (submitted.calls ++ performing.calls) telling.calls first
-          (submits_on a b x y submitted.calls performing.calls first submits);
-      entries = entries;
-      performs = performs;
-      deeds_are = refl;
-      tried = tried;
-    };
-    deeds_are = refl;
-    same = work;
-    turn = turn;
-    done = done;
-  }
+  goes g h k l a b c d x y z w result asked first entries submits submitting performs performing tried work turn ending done stopped =
+      let behind = heard_on hears hears_on h k l b c d y z w (map Answered entries) (end_told a.was_done d.was_done) performing ending in
+      let whole = heard_on hears hears_on g h l a b d x y w asked (reports entries a.was_done d.was_done) submitting behind in record {
+        heard = record { calls = asked ++ reports entries a.was_done d.was_done; heard = whole.0; are = whole.1 };
+        node = z;
+        works = first ++ map performed entries;
+        worked = record {
+          driver = b;
+          node = y;
+          asked = asked;
+          first = first;
+          submits = submits;
+          entries = entries;
+          performs = performs;
+          deeds_are = refl;
+          tried = tried;
+        };
+        calls_are = refl;
+        deeds_are = refl;
+        same = work;
+        turn = turn;
+        done = done;
+        stopped = stopped;
+      }
 
 -- ---- many rounds
 

@@ -8,7 +8,7 @@ use Rattle.sci_history.specs.declared.entry.Entry.{Entry}
 use Rattle.sci_core.specs.Node.{NodeOf}
 use Rattle.sci_words.specs.declared.operation.Op.{Op}
 use Rattle.sci_drive.specs.declared.driver.Issuing.{Issuing}
-use Rattle.sci_drive.specs.Calls.{Answered, AreAllowed, AreCalls, AreCallsOf, Call, Done, EndWithDone, IsHeard, MayIssue, entry_told, is_done}
+use Rattle.sci_drive.specs.Calls.{Answered, AreAllowed, AreCalls, AreCallsOf, Call, Done, EndWithDone, HasHeard, MayIssue, entry_told, is_done}
 use Rattle.sci_drive.specs.{Calls.{times_before, times_done, told}, Driving.{DriverOf, IsDriven, opening_driver}}
 
 -- ---- where a call stands in two lists
@@ -184,17 +184,11 @@ done_call a b x y next not_yet now log = record {
 
 -- ---- what a gate has heard
 
-module _ {G : Type 0} (hears : G → List Call → G → Type 0) (hears_nothing : (g : G) → hears g [] g) (hears_on : (g h k : G) (calls more : List Call)
+module _ {G : Type 0} (hears : G → List Call → G → Type 0) (hears_on : (g h k : G) (calls more : List Call)
     → hears g calls h → hears h more k → hears g (calls ++ more) k) where
-  pub heard_on : (g h k : G) (a b c : DriverOf) (x y z : NodeOf) → IsHeard hears g h a b x y → IsHeard hears h k b c y z → IsHeard hears g k a c x z
-  heard_on g h k a b c x y z first second = record {
-    calls = first.calls ++ second.calls;
-    heard = hears_on g h k first.calls second.calls first.heard second.heard;
-    are = calls_on a b c x y z first.calls second.calls first.are second.are;
-  }
-
-  pub heard_nothing : (g : G) (a b : DriverOf) (x y : NodeOf) → b.next ≡ a.next → b.was_done ≡ a.was_done → y.log ≡ x.log → IsHeard hears g g a b x y
-  heard_nothing g a b x y next done log = record { calls = []; heard = hears_nothing g; are = no_calls a b x y next done log }
+  pub heard_on : (g h k : G) (a b c : DriverOf) (x y z : NodeOf) (calls more : List Call) → HasHeard hears g h a b x y calls → HasHeard hears h k b c y z more
+      → HasHeard hears g k a c x z (calls ++ more)
+  heard_on g h k a b c x y z calls more first second = (hears_on g h k calls more first.0 second.0, calls_on a b c x y z calls more first.1 second.1)
 
 -- ---- a whole run
 

@@ -1,5 +1,6 @@
 pub mod GateCalls
 pub mod Drives
+pub mod HeardAs
 pub mod InOrder
 pub mod GateRests
 pub mod DriverRounds

@@ -1,5 +1,6 @@
 -- What is asked of a gate, and what is reported to it, while a worker is driven.
-use Rattle.std.specs.Prelude.{◌≡◌, ◌⊎◌, ◌<◌, ◌≤◌, ◌+◌, ℕ, All, Bool, true, false, List, [], ◌∷◌, ◌++◌, Option, Some, None, count_by, if◌then◌else◌}
+use Rattle.std.specs.Prelude.{◌≡◌, ◌⊎◌, ◌<◌, ◌≤◌, ◌+◌, ◌&&◌, ℕ, All, Bool, true, false, not, List, [], ◌∷◌, ◌++◌, Option, Some, None, count_by}
+use Rattle.std.specs.Prelude.{if◌then◌else◌, map}
 use Rattle.std.specs.List.{Contains, filter_map}
 use Rattle.sci_history.specs.declared.entry.Entry.{Entry}
 use Rattle.sci_core.specs.Node.{NodeOf}
@@ -51,6 +52,12 @@ Allows _ = Unit {0}
 abbrev pub AllowAll : List Call → Type 0
 AllowAll calls = All Allows calls
 
+-- what a gate that is always open answers: each operation may be submitted, and all are done
+abbrev pub IsOpen : Call → Type 0
+IsOpen (MayIssue index may) = may ≡ true
+IsOpen (AllDone all) = all ≡ true
+IsOpen _ = Unit {0}
+
 -- an entry is reported only after its operation was allowed, by one of these calls or before them
 abbrev pub AreAllowed : ℕ → List Call → Type 0
 AreAllowed before calls = (front back : List Call) (entry : Entry) → calls ≡ front ++ Answered entry ∷ back
@@ -73,6 +80,18 @@ pub record AreCalls (old new : DriverOf) (before after : NodeOf) (calls : List C
   pub once : times_done calls + times_before old ≡ times_before new
   pub last : EndWithDone calls
   pub quiet : old.was_done ≡ true → told calls ≡ []
+
+-- the call that reports the end of the script, if the driver reports it now: it hadn't before, and has then
+abbrev pub end_told : Bool → Bool → List Call
+end_told was_done is_done = if is_done && not was_done then Done ∷ [] else []
+
+-- the calls that report these entries, and then the end of the script, if it comes now
+abbrev pub reports : List Entry → Bool → Bool → List Call
+reports entries was_done is_done = map Answered entries ++ end_told was_done is_done
+
+-- the gate has had just these calls, and they are those of a driver
+abbrev pub HasHeard : {G : Type 0} → (G → List Call → G → Type 0) → G → G → DriverOf → DriverOf → NodeOf → NodeOf → List Call → Type 0
+HasHeard hears gate later old new before after calls = hears gate calls later × AreCalls old new before after calls
 
 -- The gate, whose calls lead it from one moment to another as `hears` says, has had such calls.
 pub record IsHeard {G : Type 0} (hears : G → List Call → G → Type 0) (gate later : G) (old new : DriverOf) (before after : NodeOf) : Type 0 where

@@ -1,13 +1,13 @@
 -- What a driver does in a round: it submits and performs, and its worker takes a turn.
 use Rattle.std.specs.Prelude.{◌≡◌, ◌<◌, ◌≤◌, ◌↔◌, ◌+◌, ℕ, zero, suc, Bool, true, false, List, [], ◌∷◌, ◌++◌, length, map, slice_get}
-use Rattle.std.specs.Prelude.{Option, Some, None, IsSome, Result, Ok, Err, IfOk}
+use Rattle.std.specs.Prelude.{Option, Some, None, IsSome, Result, Ok, Err, IfOk, IsErr}
 use Rattle.std.specs.{List.{Contains}, declared.alloc.AllocError.{AllocError}}
 use Rattle.sci_words.specs.declared.operation.Op.{Op}
 use Rattle.sci_history.specs.declared.entry.Entry.{Entry}
 use Rattle.sci_core.specs.{Node.{NodeOf, node_performing}, Work.{IsIssued, IsLogged}}
 use Rattle.sci_policy.specs.{Deeds.{Deed, Issues, Performs, Turns}, Turn.{submit_fault}, Worker.{HasSameWork, IsNodeTurn}}
 use Rattle.sci_drive.specs.declared.driver.{Issuing.{Issuing, TheVariants.{Ahead, InOrder}}, Round.{Round}}
-use Rattle.sci_drive.specs.{Calls.{Call, IsHeard, MayIssue}, Driving.{DriverOf, IsAnswered}, Resting.{AreBehind}}
+use Rattle.sci_drive.specs.{Calls.{Call, IsHeard, MayIssue, reports}, Driving.{DriverOf, IsAnswered}, Resting.{AreBehind}}
 
 -- ---- submitted
 
@@ -24,19 +24,21 @@ next_op driver = slice_get driver.script driver.next
 abbrev pub with_submitted : DriverOf → Op → DriverOf
 with_submitted driver op = record driver { next = driver.next + 1; pending = driver.pending ++ op.line ∷ [] }
 
--- why nothing can be submitted: as many are pending as may be, all were submitted, one is pending on the line of the next, the
--- gate was asked and doesn't allow it, or the worker refuses it
+-- Why nothing can be submitted, and the calls that are made then: as many are pending as may be, all were submitted, one is
+-- pending on the line of the next, the gate was asked and doesn't allow it, or it does and the worker refuses it.
 pub data IsHeldBack (driver : DriverOf) (node : NodeOf) (calls : List Call) : Type 0 where
-  NoRoom : most_pending driver.issuing ≤ length driver.pending → IsHeldBack driver node calls
-  AllSubmitted : next_op driver ≡ None → IsHeldBack driver node calls
-  LineIsTaken : (op : Op) → next_op driver ≡ Some op → Contains driver.pending op.line → IsHeldBack driver node calls
-  NotAllowed : Contains calls (MayIssue driver.next false) → IsHeldBack driver node calls
-  Refused : (op : Op) → next_op driver ≡ Some op → IsSome (submit_fault node op) → IsHeldBack driver node calls
+  NoRoom : most_pending driver.issuing ≤ length driver.pending → calls ≡ [] → IsHeldBack driver node calls
+  AllSubmitted : next_op driver ≡ None → calls ≡ [] → IsHeldBack driver node calls
+  LineIsTaken : (op : Op) → next_op driver ≡ Some op → Contains driver.pending op.line → calls ≡ [] → IsHeldBack driver node calls
+  NotAllowed : calls ≡ MayIssue driver.next false ∷ [] → IsHeldBack driver node calls
+  Refused : (op : Op) → next_op driver ≡ Some op → IsSome (submit_fault node op) → calls ≡ MayIssue driver.next true ∷ []
+      → IsHeldBack driver node calls
 
--- the next operation is submitted while fewer are pending than may be, or nothing can be; and these deeds of the worker have done it
+-- The next operation is submitted while fewer are pending than may be, and was allowed, or nothing can be. The gate is asked just
+-- these calls for it, and these deeds of the worker have done it.
 pub data Submits (old new : DriverOf) (before after : NodeOf) (calls : List Call) (deeds : List Deed) : Type 0 where
   OneMore : (op : Op) → length old.pending < most_pending old.issuing → next_op old ≡ Some op → new ≡ with_submitted old op
-      → IsIssued before after op → deeds ≡ Issues op ∷ [] → Submits old new before after calls deeds
+      → calls ≡ MayIssue old.next true ∷ [] → IsIssued before after op → deeds ≡ Issues op ∷ [] → Submits old new before after calls deeds
   NoneNow : IsHeldBack old before calls → new ≡ old → after ≡ before → deeds ≡ [] → Submits old new before after calls deeds
 
 -- ---- performed
@@ -63,11 +65,12 @@ pub record IsTried (line : ℕ) (before after : NodeOf) : Type 0 where
 
 -- What comes before the turn: the next operation is submitted if it can be, and then each that is pending is tried, and
 -- performed if it can be. These deeds have done it.
-pub record HasWorked (old new : DriverOf) (before after : NodeOf) (calls : List Call) (deeds : List Deed) : Type 0 where
+pub record HasWorked (old new : DriverOf) (before after : NodeOf) (deeds : List Deed) : Type 0 where
   pub driver : DriverOf
   pub node : NodeOf
+  pub asked : List Call
   pub first : List Deed
-  pub submits : Submits old driver before node calls first
+  pub submits : Submits old driver before node asked first
   pub entries : List Entry
   pub performs : ArePerformed node entries after
   pub deeds_are : deeds ≡ first ++ map performed entries
@@ -78,18 +81,21 @@ abbrev pub turn_of : {E : Type 0} → Result Round E → List Deed
 turn_of (Ok round) = Turns round.progress ∷ []
 turn_of (Err refused) = []
 
--- A round by these deeds: what comes before the turn, and a turn from there. The gate has had its calls, and has heard that the
--- whole script is answered exactly if it is.
+-- A round by these deeds: what comes before the turn, and a turn from there. The gate is asked about the next operation at most
+-- once, and then each entry is reported to it, and the end exactly if it comes; it has no other call. If the turn isn't refused,
+-- the end has been reported exactly if the whole script is answered; if it is, it isn't reported now.
 pub record GoesRound {G E : Type 0} (hears : G → List Call → G → Type 0) (deeds : List Deed) (gate later : G) (old new : DriverOf) (before after : NodeOf)
     (result : Result Round E) : Type 0 where
   pub heard : IsHeard hears gate later old new before after
   pub node : NodeOf
   pub works : List Deed
-  pub worked : HasWorked old new before node heard.calls works
+  pub worked : HasWorked old new before node works
+  pub calls_are : heard.calls ≡ worked.asked ++ reports worked.entries old.was_done new.was_done
   pub deeds_are : deeds ≡ works ++ turn_of result
   pub same : HasSameWork node after
   pub turn : IfOk result (λ round. IsNodeTurn node after round.progress)
   pub done : IfOk result (λ round. (new.was_done ≡ true) ↔ IsAnswered new)
+  pub stopped : IsErr result → new.was_done ≡ old.was_done
 
 -- the worker has done these deeds of a round, and if its turn was refused, that has stopped it behind them
 abbrev pub HasDone : {W E : Type 0} → (W → List Deed → W → Type 0) → (W → W → Type 0) → List Deed → W → W → Result Round E → Type 0

@@ -65,7 +65,7 @@ impl<'a> Driver<'a> {
     ghost use Rattle.sci_history.specs.declared.entry.Entry.{Entry};
     ghost use Rattle.sci_policy.specs.{Deeds.{Deed}, Rest.{MayIdle}, Turn.{is_idle}};
     ghost use Rattle.sci_words.specs.declared.limits.TheConstants.{MAX_OPERATIONS};
-    ghost use Rattle.sci_drive.specs.{Calls.{IsHeard}, Driving.{IsAnswered, IsDriven, IsInOrder, opening_driver}};
+    ghost use Rattle.sci_drive.specs.{Calls.{Answered, Call, HasHeard}, Driving.{IsAnswered, IsDriven, IsInOrder, opening_driver}};
     ghost use Rattle.sci_drive.specs.Rounds.{ArePerformed, GoesRound, HasDone, IsTried, Submits, most_pending, performed};
 
     /// A driver that has submitted nothing yet. Requires that the script has at most 65,536 operations.
@@ -149,10 +149,12 @@ impl<'a> Driver<'a> {
         ensures order { IsInOrder self.old (W.node worker.old) →
             IsInOrder self.new (W.node worker.new) }
         ensures log { (W.node worker.new).log ≡ (W.node worker.old).log }
-        ensures submits { (heard : IsHeard G.hears gate.old gate.new
-            self.old self.new (W.node worker.old) (W.node worker.new)) × (deeds : List Deed)
-            × Submits self.old self.new (W.node worker.old) (W.node worker.new) heard.calls deeds
+        ensures submits { (calls : List Call) × (deeds : List Deed)
+            × Submits self.old self.new (W.node worker.old) (W.node worker.new) calls deeds
+            × HasHeard G.hears gate.old gate.new
+            self.old self.new (W.node worker.old) (W.node worker.new) calls
             × W.does worker.old deeds worker.new }
+        ensures told { self.new.was_done ≡ self.old.was_done }
         ensures script { self.new.script ≡ self.old.script }
         ensures issuing { self.new.issuing ≡ self.old.issuing }
         ensures stays { W.stays worker.old worker.new }
@@ -184,11 +186,12 @@ impl<'a> Driver<'a> {
         ensures answered { result ≡ true →
             length (W.node worker.old).log < length (W.node worker.new).log }
         ensures none { result ≡ false → (W.node worker.new).log ≡ (W.node worker.old).log }
-        ensures calls { IsHeard G.hears gate.old gate.new
-            self.old self.new (W.node worker.old) (W.node worker.new) }
         ensures performed { (entries : List Entry)
             × ArePerformed (W.node worker.old) entries (W.node worker.new)
+            × HasHeard G.hears gate.old gate.new
+            self.old self.new (W.node worker.old) (W.node worker.new) (map Answered entries)
             × W.does worker.old (map performed entries) worker.new }
+        ensures told { self.new.was_done ≡ self.old.was_done }
         ensures tried { (line : ℕ) → Contains self.new.pending line →
             IsTried line (W.node worker.old) (W.node worker.new) }
         ensures script { self.new.script ≡ self.old.script }

@@ -10,9 +10,10 @@ pub struct OpenGate;
 
 impl Gate for OpenGate {
     ghost use Rattle.std.proofs.lemmas.List.Elements.{All-append, All-nil};
-    ghost use Rattle.sci_drive.specs.Calls.{Allows, AllowAll};
+    ghost use Rattle.sci_drive.specs.Calls.{IsOpen};
+    ghost use Rattle.std.specs.Prelude.{All};
 
-    ghost hears = { λ old calls new. AllowAll calls };
+    ghost hears = { λ old calls new. All IsOpen calls };
 
     fn may_issue(&mut self, _index: u32) -> bool {
         true
@@ -28,7 +29,7 @@ impl Gate for OpenGate {
 
     fn rest(&mut self) {}
 
-    ghost hears_nothing = { λ x. All-nil Allows };
+    ghost hears_nothing = { λ x. All-nil IsOpen };
 
-    ghost hears_on = { λ x y z calls more first second. All-append Allows calls more first second };
+    ghost hears_on = { λ x y z calls more first second. All-append IsOpen calls more first second };
 }

@@ -21,6 +21,8 @@ use std::alloc::AllocError;
 /// After this many turns in a row without an entry or a rest there is a rest, though packets may have moved.
 const RESTLESS_TURNS: u32 = 16;
 
+const _: () = prove!(RESTLESS_TURNS == 16);
+
 /// How a script was driven.
 #[derive(Clone, Copy, Debug, PartialEq, Eq)]
 pub struct Ran {

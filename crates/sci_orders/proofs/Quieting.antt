@@ -87,7 +87,7 @@ line_next core line reached drained inside = elim (search_below (λ n. is_tellin
   ]
 ]
 
-lines_next : (core : Core) (count : ℕ) → count ≤ core.size.lines → IsReached core → IsDrained core
+pub lines_next : (core : Core) (count : ℕ) → count ≤ core.size.lines → IsReached core → IsDrained core
     → NextAsk core ⊎ ((line n : ℕ) → line < count → state_at core line n ≡ Out)
 lines_next core zero few reached drained = inr (λ line n below. absurd (omega arith))
 lines_next core (suc count) few reached drained = elim (lines_next core count (omega arith) reached drained) [

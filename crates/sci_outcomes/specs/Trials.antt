@@ -1,13 +1,15 @@
 -- The outcomes of a script that is run many times.
-use Rattle.std.specs.Prelude.{◌≡◌, ℕ, ◌<◌, ◌+◌, ◌%◌, ◌^◌, ◌⊎◌, true, false, All, List, Some, length, slice_index_or}
-use Rattle.sci_words.specs.declared.{limits.TheConstants.{MAX_TURNS}, stamped.Stamped.{Stamped}}
+use Rattle.std.specs.Prelude.{◌≡◌, ℕ, ◌<◌, ◌+◌, ◌%◌, ◌^◌, ◌⊎◌, Bool, true, false, All, List, Some, length, slice_index_or}
+use Rattle.sci_words.specs.declared.{event.Event.{Event}, limits.TheConstants.{MAX_TURNS}, stamped.Stamped.{Stamped}}
 use Rattle.sci_history.specs.{declared.entry.Entry.{Entry}, Lawful.{Lawful}}
 use Rattle.sci_history.specs.Sequential.{AreInProgramOrder, IsSequentiallyConsistent}
-use Rattle.sci_text.specs.{Script.{ScriptValue}, Schedule.{ScheduleValue}}
+use Rattle.sci_text.specs.{Script.{ScriptValue, operations_of}, Schedule.{ScheduleValue}}
+use Rattle.sci_core.specs.Core.{Core}
+use Rattle.sci_lanes.specs.Gathering.{IsLedTo}
 use Rattle.sci_drive.specs.declared.driver.Issuing.{Issuing, TheVariants.{InOrder}}
 use Rattle.sci_runs.specs.{Played.{IsPlayed, IsTooLong}, Runs.{IsRunOf, last_behind, logs_behind}}
 use Rattle.sci_drive.specs.ScriptLogs.{HaveWholeLogsOf, size_for}
-use Rattle.sci_threads.specs.Shares.{AreLedTo}
+use Rattle.sci_threads.specs.{Shares.{AreLedTo}, Slices.{AreDrivenOpenly}}
 use Rattle.sci_outcomes.specs.declared.{histogram.Row.{Row}, outcome.Sighting.{Sighting}, place.Place.{Place}}
 use Rattle.sci_outcomes.specs.declared.trials.{Trials.{Trials}, Turns.{Turns, TheVariants.{Drawn, Threads}}}
 use Rattle.sci_outcomes.specs.{Outcomes.{IsPlaceWithin, IsSeen, written_places}, Rows.{AreRowsOf}}
@@ -27,12 +29,18 @@ pub record IsDrawnSighting (script : ScriptValue) (issuing : Issuing) (seed : �
   pub consistent : IsSequentiallyConsistent (logs_behind script schedule) (last_behind script schedule)
   pub seen : IsSeen (written_places script.lines script.operations) (logs_behind script schedule) (last_behind script schedule) sighting
 
--- what is seen of a run by threads in which each operation was performed; its logs are lawful, and in order if operations are
--- issued so
+-- the nodes of a machine of the script are driven so through the script, and all come to their end or not
+abbrev pub IsDrivenFor : ScriptValue → Issuing → Core → List Event → Bool → Type 0
+IsDrivenFor script issuing core schedule all =
+    AreDrivenOpenly MAX_TURNS issuing (λ node. operations_of node script.operations) core schedule all
+
+-- What is seen of a run by threads in which each operation was performed: each node is driven for at most 1,000,000,000 turns,
+-- and comes to its end. Its logs are lawful, and in order if operations are issued so.
 pub record IsThreadSighting (script : ScriptValue) (issuing : Issuing) (sighting : Sighting) : Type 0 where
   pub logs : List (List Entry)
   pub last : List Stamped
   pub led : AreLedTo (size_for script) logs last
+  pub driven : IsDrivenFor script issuing led.core led.led.schedule true
   pub whole : HaveWholeLogsOf script logs
   pub ordered : issuing ≡ InOrder → AreInProgramOrder logs
   pub lawful : Lawful logs last
@@ -50,11 +58,17 @@ pub record IsUnfinished (script : ScriptValue) (issuing : Issuing) (seed : ℕ) 
   pub run : IsRunOf script issuing false schedule
   pub played : IsPlayed script issuing (Some seed) MAX_TURNS false schedule
 
--- A run is given up: in an order that is drawn it makes as many events as a schedule can have, or takes all its turns. Nothing
--- is known of a run by threads.
+-- a run by threads takes 1,000,000,000 turns of some node, which hasn't come to its end then
+pub record IsCutShort (script : ScriptValue) (issuing : Issuing) : Type 0 where
+  pub core : Core
+  pub led : IsLedTo (size_for script) core
+  pub driven : IsDrivenFor script issuing core led.schedule false
+
+-- A run is given up: in an order that is drawn it makes as many events as a schedule can have, or takes all its turns; by
+-- threads a node takes all its turns.
 abbrev pub IsGivenUp : ScriptValue → Turns → Issuing → Type 0
 IsGivenUp script (Drawn seed) issuing = IsTooLong script issuing (Some seed) MAX_TURNS ⊎ IsUnfinished script issuing seed
-IsGivenUp script Threads issuing = Unit {0}
+IsGivenUp script Threads issuing = IsCutShort script issuing
 
 -- one of the runs is
 abbrev pub OneIsGivenUp : ScriptValue → Trials → Type 0

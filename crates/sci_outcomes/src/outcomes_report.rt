@@ -20,11 +20,17 @@ use std::thread::Threads;
 /// How many runs there are at most.
 pub const MAX_RUNS: u64 = 1_000_000;
 
+const _: () = prove!(MAX_RUNS == 1_000_000);
+
 /// How many runs there are, if the words don't say.
 pub const RUNS: u64 = 1_000;
 
+const _: () = prove!(RUNS == 1_000);
+
 /// The seed of the first run, if the words don't say.
 pub const SEED: u64 = 1;
+
+const _: () = prove!(SEED == 1);
 
 /// What is asked of the outcomes of a script.
 #[derive(Clone, Copy)]

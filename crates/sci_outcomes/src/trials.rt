@@ -2,7 +2,7 @@
 
 ghost use Rattle.std.specs.Prelude.{◌≡◌, IfErr, IfOk};
 ghost use Rattle.sci_runs.specs.declared.fault.RunFault.TheVariants.{TooMany};
-ghost use Rattle.sci_outcomes.specs.declared.trials.Turns.TheVariants.{Drawn};
+ghost use Rattle.sci_outcomes.specs.declared.trials.Turns.TheVariants.{Drawn, Threads};
 ghost use Rattle.sci_outcomes.specs.Trials.{AreOutcomes, AreWrittenBy, IsDrawnSighting, IsGivenUp, IsSightingOf, IsThreadSighting, OneIsGivenUp};
 
 use crate::histogram::{Histogram, Row};
@@ -91,7 +91,9 @@ fn threaded_run<R: Threads + Sync>(
     litmus: Litmus<'_>,
 ) -> Result<Sighting, RunFault>
     requires { AreWrittenBy litmus.script.now litmus.places.now }
-    ensures { IfOk result (IsThreadSighting litmus.entry.script.now litmus.entry.issuing) }
+    ensures seen { IfOk result (IsThreadSighting litmus.entry.script.now litmus.entry.issuing) }
+    ensures given_up { IfErr result (λ fault. fault ≡ TooMany →
+        IsGivenUp litmus.entry.script.now Threads litmus.entry.issuing) }
 {
     let done = AtomicU64::new(0);
     let gates = YieldingGate::for_nodes(alloc, litmus.script.extent().nodes, &done)?;

@@ -226,7 +226,7 @@ fn last_fault(
     let script = (TextKind::Script, script);
     let schedule = (TextKind::Schedule, schedule);
     let log = (TextKind::Log, log);
-    let machine = later(script, schedule, begins(text, script.1, b"p"));
+    let machine = later(script, schedule, begins(text, script.1, b"p "));
     later(log, machine, begins(text, log.1, b"l"))
 }
 

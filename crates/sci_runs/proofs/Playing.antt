@@ -1,15 +1,14 @@
--- What a node does, one deed after another, and rounds, one after another.
+-- What a node does, one deed after another.
 use Rattle.std.proofs.Common.{◌≡◌, ◌⊎◌, ℕ, List, [], ◌∷◌, ◌++◌, Option, Some, None, Result, Ok, Err, IfOk, length, ◌≤◌, inl, inr, refl, sym, subst, ◌∙◌}
 use Rattle.std.specs.{Prelude.{IfSome, IsErr}, declared.alloc.AllocError.{AllocError}}
 use Rattle.sci_words.specs.declared.{limits.TheConstants.{MAX_EVENTS}, operation.Op.{Op}}
 use Rattle.sci_history.specs.declared.entry.Entry.{Entry}
 use Rattle.sci_text.specs.Schedule.{ScheduleValue}
-use Rattle.sci_core.specs.{Core.{stepping}, Node.{NodeOf}}
+use Rattle.sci_core.specs.Core.{stepping}
 use Rattle.sci_policy.specs.{declared.progress.Progress.{Progress}, Deeds.{Deed, Issues, Performs, Turns}, Policy.{PolicyOf}}
 use Rattle.sci_policy.proofs.Deeds.{one_deed}
-use Rattle.sci_drive.specs.{Calls.{AllowAll, Call}, declared.driver.Round.{Round}, Driving.{DriverOf}}
-use Rattle.sci_drive.specs.Rounds.{GoesRound, HasDone}
-use Rattle.sci_runs.specs.{declared.fault.RunFault.{RunFault, TheVariants.{TooMany}}, Played.{GoesOpenly}}
+use Rattle.sci_drive.specs.{declared.driver.Round.{Round}, Rounds.{HasDone}}
+use Rattle.sci_runs.specs.declared.fault.RunFault.{RunFault, TheVariants.{TooMany}}
 use Rattle.sci_runs.specs.{Deeds.{Does, Fills, FillsTurning, IsDeed, IsTurnDone, standing}, Goings.{Goes, GoesAt, Place, Stops, StopsAt, goes_itself, place}}
 use Rattle.sci_runs.specs.Recorded.{KeepsLoss, RecorderOf, course_of}
 use Rattle.sci_words.specs.declared.event.Event.TheVariants as event
@@ -123,20 +122,3 @@ fills_round (Err refused) n deeds old new goes none many full = elim (by_then go
     by_then (Some fault) is =
         let kept = goes.2.keeps fault is in
         inl (goes.1.fills none (is ∙ (sym kept.0 ∙ many)) (subst (λ (s : ScheduleValue). MAX_EVENTS ≤ length s.events) kept.1 full))
-
--- ---- rounds
-
--- a gate that has allowed all that it was asked about
-pub goes_open : {G : Type 0} {hears : G → List Call → G → Type 0} {gate later : G} {old new : DriverOf} {before after : NodeOf}
-    {result : Result Round AllocError} {deeds : List Deed} → GoesRound hears deeds gate later old new before after result
-    → ((calls : List Call) → hears gate calls later → AllowAll calls) → GoesOpenly deeds old new before after result
-goes_open goes allows = record {
-  heard = record { calls = goes.heard.calls; heard = allows goes.heard.calls goes.heard.heard; are = goes.heard.are };
-  node = goes.node;
-  works = goes.works;
-  worked = goes.worked;
-  deeds_are = goes.deeds_are;
-  same = goes.same;
-  turn = goes.turn;
-  done = goes.done;
-}

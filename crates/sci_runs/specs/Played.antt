@@ -5,7 +5,7 @@ use Rattle.sci_words.specs.declared.{event.Event.{Event}, limits.TheConstants.{M
 use Rattle.sci_text.specs.{Script.{ScriptValue}, Schedule.{ScheduleValue}}
 use Rattle.sci_core.specs.{Core.{Core, node_at, opening, run}, Node.{NodeOf}}
 use Rattle.sci_policy.specs.{Deeds.{Deed}, Policy.{PolicyOf, opening_policy}}
-use Rattle.sci_drive.specs.{declared.driver.{Issuing.{Issuing}, Round.{Round}}, Calls.{AllowAll}}
+use Rattle.sci_drive.specs.{declared.driver.{Issuing.{Issuing}, Round.{Round}}, Calls.{IsOpen}}
 use Rattle.sci_drive.specs.{Driving.{DriverOf, IsAnswered, opening_driver}, Rounds.{GoesRound}}
 use Rattle.sci_text.specs.Script.{operations_of}
 use Rattle.sci_drive.specs.ScriptLogs.{size_for}
@@ -36,7 +36,7 @@ StaysBut n old new = (m : ℕ) (d : _) → m ≢ n → slice_index_or new m d �
 
 -- a round of a driver whose gate allows all that it is asked about
 abbrev pub GoesOpenly : List Deed → DriverOf → DriverOf → NodeOf → NodeOf → Result Round AllocError → Type 0
-GoesOpenly deeds old new before after result = GoesRound (λ (first : Unit {0}) calls last. AllowAll calls) deeds tt tt old new before after result
+GoesOpenly deeds old new before after result = GoesRound (λ (first : Unit {0}) calls last. All IsOpen calls) deeds tt tt old new before after result
 
 -- A round of node n by these deeds: it submits the next operation if it can, performs what it can, and takes one turn. It is
 -- never told to wait.
@@ -49,14 +49,14 @@ pub record IsRound (n : ℕ) (old new : Moment) : Type 0 where
   pub policies : StaysBut n old.policies new.policies
 
 -- some operation of the script has no entry yet
-abbrev pub IsOpen : Moment → Type 0
-IsOpen moment = All IsAnswered moment.drivers → ⊥
+abbrev pub AwaitsEntries : Moment → Type 0
+AwaitsEntries moment = All IsAnswered moment.drivers → ⊥
 
 -- this many rounds, of the nodes that come in this order, each from a moment at which some operation has no entry yet
 abbrev pub Played : ℕ → ℕ → Order → Moment → Order → Moment → Type 0
 Played nodes zero order old later new = (order ≡ later) × (old ≡ new)
 Played nodes (suc rounds) order old later new =
-    (mid : Moment) × (next : Order) × Played nodes rounds order old next mid × IsOpen mid × (later ≡ next_order nodes next)
+    (mid : Moment) × (next : Order) × Played nodes rounds order old next mid × AwaitsEntries mid × (later ≡ next_order nodes next)
     × IsRound (next_node nodes next) mid new
 
 -- A round of node n begins at this moment, in which the schedule gets as many events as it can have: by some of its deeds, from the
@@ -76,7 +76,7 @@ pub record HasNoRoom (nodes turns : ℕ) (order : Order) (first : Moment) : Type
   pub next : Order
   pub moment : Moment
   pub played : Played nodes rounds order first next moment
-  pub goes_on : IsOpen moment
+  pub goes_on : AwaitsEntries moment
   pub fills : FillsAt (next_node nodes next) moment
 
 -- A run begins: the machine is new, with room for as many operations as each node has in the script at least; nothing is

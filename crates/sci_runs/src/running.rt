@@ -38,9 +38,9 @@ pub struct Run {
     pub turns: u64,
 }
 
-/// Runs a script by the policy on a new machine, whose nodes take one turn after another. It ends as soon as each operation
-/// of the script is performed, or when the turns are used up. The same script and plan give the same run. Refused if memory
-/// is, or if there are more than 500,000 events.
+/// Runs a script by the policy on a new machine, whose nodes take one turn after another. It ends with the round in which the
+/// last operation of the script is performed, whose turn is still taken, or when the turns are used up. The same script and
+/// plan give the same run. Refused if memory is, or if there are more than 500,000 events.
 pub fn run_script(alloc: Global, script: &Script, plan: Plan) -> Result<Run, RunFault>
     ensures run { IfOk result (λ run. IsRunOf script.now plan.issuing run.done run.schedule) }
     ensures played { IfOk result (λ run.

@@ -1,3 +1,4 @@
 pub mod RunStations
 pub mod Going
 pub mod DrivenNodes
+pub mod Openly

@@ -5,7 +5,7 @@ use Rattle.sci_words.specs.declared.{event.Event.{Event}, operation.Op.{Op}}
 use Rattle.sci_core.specs.{Core.{Core, node_at}, Node.{NodeOf}}
 use Rattle.sci_lanes.specs.Shown.{IsSeen, opening_part}
 use Rattle.sci_policy.specs.Deeds.{Deed}
-use Rattle.sci_drive.specs.{declared.driver.Issuing.{Issuing}, Calls.{AreCallsOf, Call, EndWithAllDone, times_done}}
+use Rattle.sci_drive.specs.{declared.driver.Issuing.{Issuing}, Calls.{AllowAll, AreCallsOf, Call, EndWithAllDone, times_done}}
 use Rattle.sci_drive.specs.{Driving.{DriverOf, IsAnswered, opening_driver}, Rounds.{GoRounds}}
 use Rattle.sci_station.specs.{Deeds.{Does}, Station.{StationOf, node_in, opening_station}}
 
@@ -62,3 +62,11 @@ pub record AreDrivenThrough {G : Type 0} (hears : G → List Call → G → Type
       → IsDrivenThrough hears turns issuing (operations node) (slice_index_or gates node d)
       (opening_station (record { table = table; part = opening_part core.size node })) (station node) (finished node)
   pub all_are : (all ≡ true) ↔ ((node : ℕ) → node < core.size.nodes → finished node ≡ true)
+
+-- a gate allows each operation that it is asked about
+abbrev pub hears_openly : Unit {0} → List Call → Unit {0} → Type 0
+hears_openly first calls last = AllowAll calls
+
+-- the same of nodes whose gates allow each operation
+abbrev pub AreDrivenOpenly : ℕ → Issuing → (ℕ → List Op) → Core → List Event → Bool → Type 0
+AreDrivenOpenly turns issuing operations core schedule all = AreDrivenThrough hears_openly turns issuing operations [] core schedule all

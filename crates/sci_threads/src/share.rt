@@ -11,8 +11,12 @@ use std::alloc::AllocError;
 /// How many turns a node takes before it looks whether all have begun.
 const SLICE: u32 = 10_000;
 
+const _: () = prove!(SLICE == 10_000);
+
 /// After this many looks a node gives up waiting for the others to begin.
 const PATIENCE: u32 = 25;
+
+const _: () = prove!(PATIENCE == 25);
 
 /// A node's share of a run: its station with the driver that drives it, its gate, how many turns it may still take, and
 /// whether it has finished.

@@ -8,7 +8,7 @@ use Rattle.sci_core.specs.{declared.obstacle.Obstacle.{Obstacle}, Core.{Core, no
 use Rattle.sci_core.specs.Obstacles.{obstacle_to}
 use Rattle.sci_traces.specs.declared.json_event.When.TheVariants.{Before, After}
 use Rattle.sci_traces.specs.JsonMembers.{Adds, text_member, truth_member}
-use Rattle.sci_traces.specs.JsonEvent.{logged_member, moved_members, obstacle_member, obstacle_name, outcome_members, standing_members}
+use Rattle.sci_traces.specs.JsonEvent.{line_member, logged_member, moved_members, obstacle_member, obstacle_name, outcome_members, standing_members}
 use Rattle.sci_traces.specs.Logged.{entry_logged}
 use Rattle.sci_statistics.specs.About.{line_changed}
 
@@ -28,17 +28,19 @@ true_of true e = refl
 true_of false e = cc
 
 -- of an event that isn't enabled
-pub refusal_written : (core : Core) (e : Event) (a b c d : Written) (found : Option Obstacle) (o : Obstacle) (name : List ℕ) (truth : Bool) (n : ℕ)
+pub refusal_written : (core : Core) (e : Event) (a b c d x : Written) (found : Option Obstacle) (o : Obstacle) (name : List ℕ) (truth : Bool) (n : ℕ)
     (line : Option ℕ) → found ≡ Some o → found ≡ obstacle_to core e → is_none found ≡ is_some (stepping core e) → is_some found ≡ not truth
     → n ≡ node_of e → line ≡ line_changed core e → Adds a b (truth_member (codes "enabled") truth) → Adds b c (text_member (codes "obstacle") name)
-    → name ≡ obstacle_name o → Adds c d (standing_members Before core n line) → Adds a d (outcome_members core e (stepping core e))
+    → name ≡ obstacle_name o → Adds c d (line_member e line) → Adds d x (standing_members Before core n line)
+    → Adds a x (outcome_members core e (stepping core e))
 unfolding outcome_members obstacle_member
-refusal_written core e a b c d found o name truth n line is why enabled truth_is n_is line_is one two name_is three =
+refusal_written core e a b c d x found o name truth n line is why enabled truth_is n_is line_is one two name_is three four =
     let idle = idle_of (stepping core e) (sym enabled ∙ ap is_none is) in
     let stands : obstacle_to core e ≡ Some o = sym why ∙ is in
     let false_is = untrue truth (sym (ap is_some is) ∙ truth_is) in
-    let joined = adds a b d (truth_member (codes "enabled") truth) (text_member (codes "obstacle") name ++ standing_members Before core n line) one
-    (adds b c d (text_member (codes "obstacle") name) (standing_members Before core n line) two three) in
+    let stays = standing_members Before core n line in
+    let joined = adds a b x (truth_member (codes "enabled") truth) (text_member (codes "obstacle") name ++ (line_member e line ++ stays)) one
+    (adds b c x (text_member (codes "obstacle") name) (line_member e line ++ stays) two (adds c d x (line_member e line) stays three four)) in
     rw (idle, stands) (rw (false_is, n_is, line_is, name_is) at joined)
 
 -- of an event that leads to another state

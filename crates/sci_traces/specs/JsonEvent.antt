@@ -10,7 +10,7 @@ use Rattle.sci_core.specs.declared.obstacle.Obstacle.TheVariants.{NothingPending
 use Rattle.sci_core.specs.{declared.obstacle.Obstacle.TheVariants.{NoAnswerWaits}, Core.{Core, node_of, stepping}}
 use Rattle.sci_core.specs.Obstacles.{obstacle_to}
 use Rattle.sci_text.specs.Schedule.{event_word}
-use Rattle.sci_traces.specs.JsonMembers.{number_member, object_member, text_member, truth_member}
+use Rattle.sci_traces.specs.JsonMembers.{number_member, object_member, optional_member, text_member, truth_member}
 use Rattle.sci_traces.specs.JsonParts.{entry_members, home_members, operation_members, packet_members, state_members}
 use Rattle.sci_traces.specs.{declared.json_event.When.{When, TheVariants.{Before, After}}, Logged.{entry_logged}}
 use Rattle.sci_traces.specs.Standing.{cache_at, home_at, said}
@@ -92,13 +92,24 @@ obstacle_member (Some obstacle) = text_member (codes "obstacle") (obstacle_name 
 unfoldable pub moved_members : Core → Event → List Token
 moved_members core e = packet_member (codes "sent") (letter_sent core e) ++ packet_member (codes "taken") (letter_taken core e)
 
+-- the line, if there is one and no word of the event names it
+unfoldable pub line_member : Event → Option ℕ → List Token
+line_member (event.Issue n op) line = []
+line_member (event.Perform n on) line = []
+line_member (event.Ask n on kind) line = []
+line_member (event.Serve from n) line = optional_member (codes "line") line
+line_member (event.Refuse from n) line = optional_member (codes "line") line
+line_member (event.Reply n) line = optional_member (codes "line") line
+line_member (event.Accept from n) line = optional_member (codes "line") line
+
 -- the states of the line that an event may change, at its node
 abbrev pub changed_members : When → Core → Core → Event → List Token
 changed_members when before core e = standing_members when core (node_of e) (line_changed before e)
 
 -- what comes of an event that leads to this state, or isn't enabled
 unfoldable pub outcome_members : Core → Event → Option Core → List Token
-outcome_members core e None = truth_member (codes "enabled") false ++ (obstacle_member (obstacle_to core e) ++ changed_members Before core core e)
+outcome_members core e None = truth_member (codes "enabled") false
+    ++ (obstacle_member (obstacle_to core e) ++ (line_member e (line_changed core e) ++ changed_members Before core core e))
 outcome_members core e (Some next) =
     truth_member (codes "enabled") true
     ++ (moved_members core e ++ (changed_members Before core core e ++ (changed_members After core next e ++ logged_member (entry_logged next e))))

@@ -4,9 +4,9 @@ ghost use Rattle.std.specs.Prelude.{◌≡◌, ◌++◌, IfOk, OnOk, is_some, op
 ghost use Rattle.sci_cache.specs.Cache.{letter_of};
 ghost use Rattle.sci_core.specs.Core.{step, stepping};
 ghost use Rattle.sci_traces.specs.{JsonMembers.{Adds}, declared.json_event.When.{When}};
-ghost use Rattle.sci_traces.specs.JsonEvent.{cache_member, cache_name, home_member, home_name, json_line, logged_member, moved_members, naming_members};
+ghost use Rattle.sci_traces.specs.JsonEvent.{cache_member, cache_name, home_member, home_name, json_line, line_member, logged_member, moved_members};
 ghost use Rattle.sci_traces.specs.JsonEvent.{obstacle_name as name_of_obstacle, outcome_members, packet_member, part_members, standing_members};
-ghost use Rattle.sci_traces.specs.JsonEvent.{taking_members};
+ghost use Rattle.sci_traces.specs.JsonEvent.{naming_members, taking_members};
 
 use crate::event_words::entry_of;
 use crate::json_members::{write_number, write_text, write_truth};
@@ -158,6 +158,21 @@ fn write_standing(
     write_home_at(out, when, at, line)
 }
 
+/// Writes the number of a line, if there is one and no word of the event names it.
+#[tactic(auto, unfolding(crate::specs::JsonEvent::line_member, crate::specs::JsonMembers::optional_member))]
+fn write_line(out: &mut Writer, event: &Event, line: Option<u8>) -> Result<(), AllocError>
+    ensures { OnOk result (Adds out.old out.new (line_member event.now line)) }
+{
+    let Some(line) = line else {
+        return Ok(());
+    };
+    match event {
+        Event::Issue { .. } | Event::Perform { .. } | Event::Ask { .. } => Ok(()),
+        Event::Serve { .. } | Event::Refuse { .. } | Event::Reply { .. } | Event::Accept { .. } =>
+            write_number(out, "line", u64::from(line)),
+    }
+}
+
 /// Writes the entry of an operation that was performed, if there is one.
 #[tactic(auto, unfolding(crate::specs::JsonEvent::logged_member, crate::specs::JsonMembers::object_member))]
 fn write_logged(out: &mut Writer, entry: Option<Entry>) -> Result<(), AllocError>
@@ -217,6 +232,7 @@ fn write_outcome(out: &mut Writer, machine: &mut Machine, event: &Event) -> Resu
     write_truth(out, "enabled", obstacle.is_none())?;
     if let Some(obstacle) = obstacle {
         write_text(out, "obstacle", obstacle_name(obstacle))?;
+        write_line(out, event, line)?;
         write_standing(out, When::Before, At { machine, node }, line)?;
         return Ok(false);
     }

@@ -1,6 +1,7 @@
 //! Tests of values: operations, packets, memories and logs, orders of logs, texts, and what is drawn at random.
 #![tactic(auto)]
 
+mod limits;
 #[cfg(test)]
 mod memory_and_log_tests;
 #[cfg(test)]

@@ -1,3 +1,4 @@
 pub mod RandomWalks
 pub mod QuickLooks
 pub mod Walks
+pub mod Possible

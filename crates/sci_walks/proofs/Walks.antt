@@ -7,7 +7,7 @@ use Rattle.sci_chance.specs.Drawing.{after}
 use Rattle.sci_core.specs.{Core.{Core, step}, Reached.{IsReached}, Size.{Size}}
 use Rattle.sci_text.specs.Schedule.{IsEventWithin, ScheduleValue}
 use Rattle.sci_core.proofs.WellFormed.WellFormedSteps.{reached_well, run_well}
-use Rattle.sci_walks.specs.{declared.walking.TheConstants.{DRAWS}, Walking.{Draws, IsDrawn, IsFound, IsNext, Walks}}
+use Rattle.sci_walks.specs.{declared.walking.TheConstants.{DRAWS}, Walking.{Draws, IsDrawn, IsFirstFound, IsFound, IsNext, Walks}}
 
 -- ---- draws
 
@@ -37,11 +37,11 @@ draws_one draw core state mid first event few drawn found =
     let left : DRAWS - draw ≡ suc (DRAWS - (draw + 1)) = omega arith in
     subst (λ (k : ℕ). Draws k core state event mid) (sym left) (first, mid, drawn, inl (found, refl))
 
-pub draws_any : (draw : ℕ) (core : Core) (state : List ℕ) (event : Event) (later : List ℕ) → DRAWS ≤ draw
-    → IsDrawn core.size.nodes core.size.lines state event later → Draws (DRAWS - draw) core state event later
-draws_any draw core state event later many drawn =
+pub draws_first : (draw : ℕ) (core : Core) (state : List ℕ) (event : Event) → DRAWS ≤ draw → IsFirstFound core event
+    → Draws (DRAWS - draw) core state event state
+draws_first draw core state event many found =
     let left : DRAWS - draw ≡ 0 = omega arith in
-    subst (λ (k : ℕ). Draws k core state event later) (sym left) drawn
+    subst (λ (k : ℕ). Draws k core state event state) (sym left) (found, refl)
 
 -- ---- sizes
 

@@ -1,6 +1,7 @@
 -- Which events a walk draws, from the state of its generator.
-use Rattle.std.specs.Prelude.{◌≡◌, ◌<◌, ◌≤◌, ◌⊎◌, ◌+◌, ◌%◌, ◌==◌, ℕ, zero, suc, List, [], ◌∷◌, Option, Some, None, if◌then◌else◌, min, slice_get}
-use Rattle.sci_words.specs.declared.event.{Event.{Event}, TheConstants.AskKind.{ALL}}
+use Rattle.std.specs.Prelude.{nat_lt, slice_index_or}
+use Rattle.std.specs.Prelude.{◌≡◌, ◌<◌, ◌≤◌, ◌⊎◌, ◌+◌, ◌-◌, ◌*◌, ◌/◌, ◌%◌, ◌==◌, ℕ, zero, suc, List, [], ◌∷◌, Option, Some, None, if◌then◌else◌, min, slice_get}
+use Rattle.sci_words.specs.declared.event.{AskKind.TheVariants.{Mread}, Event.{Event}, TheConstants.AskKind.{ALL}}
 use Rattle.sci_chance.specs.Drawing.{IsActOf, after, drawn}
 use Rattle.sci_core.specs.Core.{Core, IsEnabled, node_of, step, stepping}
 use Rattle.sci_walks.specs.declared.walking.TheConstants.{DRAWS}
@@ -58,17 +59,34 @@ IsFound core first None = IsNotBefore core first core.size.nodes
 IsFound core first (Some event) =
     (steps : ℕ) × (steps < core.size.nodes) × (event ≡ steps_on core.size.nodes steps first) × IsEnabled core event × IsNotBefore core first steps
 
--- Events are drawn until one is found that is enabled, this many at most. Then any event comes.
+-- the events that take a packet from a node, and those that send an answer
+abbrev pub passing : ℕ → ℕ → Event
+passing from sort = if sort == 0 then event.Serve from 0 else if sort == 1 then event.Accept from 0 else event.Reply 0
+
+-- What is looked for, one place after another, where no draw finds an enabled event: the nine asks of each line, and then three
+-- events that pass a packet on, for each node that it may be from. All are of node 0.
+abbrev pub looked_for : ℕ → ℕ → Event
+looked_for lines place = if nat_lt place (9 * lines) then event.Ask 0 (place / 9) (slice_index_or ALL (place % 9) Mread)
+    else passing ((place - 9 * lines) / 3) ((place - 9 * lines) % 3)
+
+-- of these the first one that is enabled at some node
+pub record IsFirstFound (core : Core) (event : Event) : Type 0 where
+  pub place : ℕ
+  pub within : place < 9 * core.size.lines + 3 * core.size.nodes
+  pub found : IsFound core (looked_for core.size.lines place) (Some event)
+  pub none_before : (earlier : ℕ) → earlier < place → IsFound core (looked_for core.size.lines earlier) None
+
+-- Events are drawn until one is found that is enabled, this many at most. Then one is looked for.
 abbrev pub Draws : ℕ → Core → List ℕ → Event → List ℕ → Type 0
-Draws zero core state event later = IsDrawn core.size.nodes core.size.lines state event later
+Draws zero core state event later = IsFirstFound core event × (later ≡ state)
 Draws (suc draws) core state event later =
     (first : Event) × (mid : List ℕ) × IsDrawn core.size.nodes core.size.lines state first mid
     × ((IsFound core first (Some event) × (later ≡ mid)) ⊎ (IsFound core first None × Draws draws core mid event later))
 
 -- ---- a walk
 
--- The next event of a walk, and the state that is left: any event, in this many of a hundred, or else one that is found, if
--- ten thousand draws find one.
+-- The next event of a walk, and the state that is left: any event, in this many of a hundred, or else one that is enabled: one
+-- that ten thousand draws find, or the first that is looked for.
 abbrev pub IsNext : ℕ → Core → List ℕ → Event → List ℕ → Type 0
 IsNext share core state event later =
     ((drawn 100 state < share) × IsDrawn core.size.nodes core.size.lines (after state) event later)

@@ -1,7 +1,9 @@
 //! Random walks: schedules whose events are drawn by chance.
 #![tactic(auto)]
 
+mod laws;
 mod random;
 mod walking;
 
+pub use laws::walks_are_enabled;
 pub use random::{Walk, random_schedule};

@@ -1,11 +1,11 @@
 //! Walks: schedules whose events are drawn by chance, mostly among the enabled ones.
 
-ghost use Rattle.std.specs.Prelude.{◌≡◌, ◌<◌, ◌≤◌, ◌+◌, ◌%◌, ℕ, false, None, IfOk, IfErr, IfSome, length};
+ghost use Rattle.std.specs.Prelude.{◌≡◌, ◌<◌, ◌≤◌, ◌+◌, ◌*◌, ◌%◌, ℕ, false, None, IfOk, IfErr, IfSome, length};
 ghost use Rattle.sci_words.specs.declared.limits.TheConstants.{MAX_EVENTS, MAX_OPERATIONS};
 ghost use Rattle.sci_cache.specs.{Asking.{asking}, Held.{state_of}};
 ghost use Rattle.sci_core.specs.{Core.{step, stepping}, Size.{size_of}};
 ghost use Rattle.sci_text.specs.{declared.fault.TextFaultKind.TheVariants.{Memory}, Schedule.{IsEventWithin}};
-ghost use Rattle.sci_walks.specs.{RandomAnswer.{IsWalked}, Walking.{IsDrawn, IsFound, IsNext, moved_to}};
+ghost use Rattle.sci_walks.specs.{RandomAnswer.{IsWalked}, Walking.{IsDrawn, IsFirstFound, IsFound, IsNext, looked_for, moved_to}};
 
 use sci_cache::Held;
 use sci_chance::{Random, any_kind, any_line, any_operation};
@@ -17,6 +17,8 @@ use std::alloc::{AllocError, Global};
 
 /// How many events are drawn for an enabled one, at most.
 const DRAWS: u16 = 10_000;
+
+const _: () = prove!(DRAWS == 10_000);
 
 /// The node that stands this many steps behind another in the circle of all nodes.
 fn turn(first: u8, steps: u8, nodes: u8) -> u8
@@ -135,8 +137,49 @@ fn enabled_somewhere(machine: &mut Machine, first: Event) -> Result<Option<Event
     Ok(None)
 }
 
-/// The next event of a walk, which is applied. In `share` of a hundred it is any event. Else events are drawn until one is
-/// enabled at some node; if none of ten thousand is, any event comes. Refused if memory is.
+/// What is looked for at a place where no draw finds an enabled event: the asks of each line, and then what passes a packet on,
+/// for each node that it may be from. All are of node 0.
+fn looked_for(extent: Extent, place: u16) -> Event
+    requires { place < 9 * extent.lines + 3 * extent.nodes }
+    ensures event { result ≡ looked_for extent.lines place }
+    ensures within { IsEventWithin extent.nodes extent.lines result }
+{
+    let asks = 9 * u16::from(extent.lines);
+    if place < asks {
+        return Event::Ask {
+            node: 0,
+            line: (place / 9) as u8,
+            kind: AskKind::ALL[usize::from(place % 9)],
+        };
+    }
+    let from = ((place - asks) / 3) as u8;
+    match (place - asks) % 3 {
+        0 => Event::Serve { from, node: 0 },
+        1 => Event::Accept { from, node: 0 },
+        _ => Event::Reply { node: 0 },
+    }
+}
+
+/// The first event that is found enabled among those that are looked for, which is applied. There always is one. Refused if
+/// memory is.
+fn first_found(machine: &mut Machine) -> Result<Event, AllocError>
+    ensures found { IfOk result (IsFirstFound machine.old) }
+    ensures within { IfOk result (IsEventWithin machine.old.size.nodes machine.old.size.lines) }
+    ensures step { IfOk result (λ event. machine.new ≡ step machine.old event) }
+{
+    let extent = machine.extent();
+    let count = 9 * u16::from(extent.lines) + 3 * u16::from(extent.nodes);
+    for place in 0..count {
+        if let Some(event) = enabled_somewhere(machine, looked_for(extent, place))? {
+            return Ok(event);
+        }
+    }
+    unreachable!()
+}
+
+/// The next event of a walk, which is applied. In `share` of a hundred it is any event. Else it is enabled: events are drawn
+/// until one is enabled at some node, and if none of ten thousand is, the first one comes that is found enabled. Refused if
+/// memory is.
 fn next_event(random: &mut Random, machine: &mut Machine, share: u8) -> Result<Event, AllocError>
     ensures next { IfOk result
         (λ event. IsNext share machine.old random.old event random.new) }
@@ -145,17 +188,18 @@ fn next_event(random: &mut Random, machine: &mut Machine, share: u8) -> Result<E
     ensures size { IfOk result (λ _. machine.new.size ≡ machine.old.size) }
 {
     let extent = machine.extent();
-    if !random.in_hundred(share) {
-        for _draw in 0..DRAWS {
-            let first = any_event(random, extent);
-            if let Some(event) = enabled_somewhere(machine, first)? {
-                return Ok(event);
-            }
+    if random.in_hundred(share) {
+        let event = any_event(random, extent);
+        let _happened = applied(machine, &event)?;
+        return Ok(event);
+    }
+    for _draw in 0..DRAWS {
+        let first = any_event(random, extent);
+        if let Some(event) = enabled_somewhere(machine, first)? {
+            return Ok(event);
         }
     }
-    let event = any_event(random, extent);
-    let _happened = applied(machine, &event)?;
-    Ok(event)
+    first_found(machine)
 }
 
 /// A schedule of this many events of a machine of this size, drawn from a seed. About `share` in a hundred of them are any

@@ -11,7 +11,7 @@ use Rattle.scimem.specs.declared.choice.Command.TheVariants as commands
 abbrev pub IsToldOf : Command → Option Refusal → Option (List ℕ) → Bool → List ℕ → Outcome → Type 0
 IsToldOf commands.Oracle = IsAnswerBeside IsOracleAnswer
 IsToldOf commands.Replay = IsAnswerBeside IsReplayAnswer
-IsToldOf (commands.Threads turns) = IsAnswerBeside IsThreadsAnswer
+IsToldOf (commands.Threads turns) = IsAnswerBeside (IsThreadsAnswer turns)
 IsToldOf commands.Decode = IsDecodedBeside
 IsToldOf commands.Audit = IsAnswerBeside IsAuditAnswer
 IsToldOf commands.Upgrade = IsAnswerBeside IsUpgradeAnswer

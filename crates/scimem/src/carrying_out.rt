@@ -33,11 +33,11 @@ pub fn carried_out<T: Threads + Sync, R: Read, W: Write>(
         result.outcome (IsToldOf command result.refusal) }
 {
     match command {
-        Command::Oracle => finish(alloc, writer, oracle(alloc, reader)),
-        Command::Replay => finish(alloc, writer, replay(alloc, reader)),
-        Command::Threads { turns } => finish(alloc, writer, threads(rt, alloc, reader, turns)),
+        Command::Oracle => finish(writer, oracle(alloc, reader)),
+        Command::Replay => finish(writer, replay(alloc, reader)),
+        Command::Threads { turns } => finish(writer, threads(rt, alloc, reader, turns)),
         Command::Decode => decode_bytes(alloc, reader, writer),
-        Command::Audit => finish(alloc, writer, audit_text(alloc, reader)),
-        Command::Upgrade => finish(alloc, writer, upgrade(alloc, reader)),
+        Command::Audit => finish(writer, audit_text(alloc, reader)),
+        Command::Upgrade => finish(writer, upgrade(alloc, reader)),
     }
 }

@@ -40,8 +40,8 @@ pub fn oracles_are_lawful()
 
 /// What `threads` writes for any script an audit finds lawful.
 pub fn runs_are_lawful()
-    ensures { (input text said : List ℕ) (ends outcome : Outcome)
-        → IsThreadsOf input text ends → IsAuditOf text said outcome
+    ensures { (turns : ℕ) (input text said : List ℕ) (ends outcome : Outcome)
+        → IsThreadsOf turns input text ends → IsAuditOf text said outcome
         → (said ≡ verdict_text verdicts.Lawful) × (outcome ≡ Outcome.Done) }
 {
     one_log();

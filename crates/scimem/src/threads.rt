@@ -15,7 +15,7 @@ use std::sync::atomic::AtomicU64;
 use std::thread::Threads;
 
 /// Reads a script to its end, runs it with one thread a node, each for at most `turns` turns, and gives the logs and the
-/// last contents in format 2: Done if each node has done all its operations, else Unlawful. A script with a fault is
+/// last contents in format 2: Done if each node has come to its end, else Unlawful. A script with a fault is
 /// refused, as by `oracle`. After a failed read nothing more is read.
 ///
 /// The logs are lawful and sequentially consistent, whatever the threads did. A node whose thread can't be made is driven
@@ -27,7 +27,8 @@ pub fn threads<T: Threads + Sync, R: Read>(
     turns: u32,
 ) -> Answered
     requires { has_failed reader.old ≡ false }
-    ensures { HasAnswered R.remaining reader.old reader.new IsThreadsAnswer (IsTold IsScriptFault) result }
+    ensures { HasAnswered R.remaining reader.old reader.new (IsThreadsAnswer turns)
+        (IsTold IsScriptFault) result }
 {
     let script = read_script(alloc, reader)?;
     let extent = script.extent();

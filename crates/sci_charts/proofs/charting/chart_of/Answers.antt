@@ -5,14 +5,14 @@ use Rattle.sci_words.specs.declared.{event.Event.{Event, TheVariants.{Issue}}, o
 use Rattle.sci_statistics.specs.Beginning.{before}
 use Rattle.sci_charts.specs.{declared.charting.ChartRequest.{ChartRequest}, Rows.{Place, shown_places}}
 use Rattle.sci_charts.specs.{Drawing.{Adds, chart_end}, ChartAnswer.{IsChart}}
-use Rattle.sci_charts.proofs.Drawn.{behind_first, behind_more, draws_all, draws_up_to, ends_with}
+use Rattle.sci_charts.proofs.Drawn.{behind_first, behind_more, draws_all, draws_up_to, framed}
 use Rattle.sci_charts.proofs.charting.chart_of.Goals as goal
 
 pub loop-event-init : goal.loop-event-init
 loop-event-init c =
     let begun : c.in_ok-machine.machine ≡ before c.args.schedule.now =
     c.in_ok-machine.ensures.opening ∙ rw (c.extent.ensures.nodes, c.extent.ensures.lines, c.extent.ensures.slots) refl in record {
-      request = c.in_ok-drawing.ensures;
+      request = c.in_ok-drawing.ensures.request;
       drawn = rw (begun, c.events-event-items.ensures.value)
           (behind_first c.in_ok-drawing.drawing.text c.args.request (before c.args.schedule.now) 2 c.args.schedule.now.events);
       counted = refl;
@@ -44,7 +44,11 @@ returns-then-is_past c =
     c.loop-event.number _ (sym c.is_past.ensures ∙ c.if-is_past.true) was.drawn.drawn in
     IfOk-weaker c.finish.result (λ (text : Vec ℕ). text.items ≡ c.loop-event.drawing.text ++ chart_end)
     (λ (text : Vec ℕ). IsChart c.args.request c.args.schedule.now text.items)
-    (λ text ended. record { rows = was.drawn.rows; are_rows = rows; ends = ends_with _ _ _ _ was.drawn.written ended }) c.finish.ensures
+    (λ text ended. record {
+      rows = was.drawn.rows;
+      are_rows = rows;
+      framed = framed _ c.in_ok-drawing.ensures.begins _ _ _ was.drawn.written ended;
+    }) c.finish.ensures
 
 pub returns : goal.returns
 returns c =
@@ -57,4 +61,8 @@ returns c =
     past was.drawn.drawn in
     IfOk-weaker c.finish-2.result (λ (text : Vec ℕ). text.items ≡ c.loop-event.drawing.text ++ chart_end)
     (λ (text : Vec ℕ). IsChart c.args.request c.args.schedule.now text.items)
-    (λ text ended. record { rows = was.drawn.rows; are_rows = rows; ends = ends_with _ _ _ _ was.drawn.written ended }) c.finish-2.ensures
+    (λ text ended. record {
+      rows = was.drawn.rows;
+      are_rows = rows;
+      framed = framed _ c.in_ok-drawing.ensures.begins _ _ _ was.drawn.written ended;
+    }) c.finish-2.ensures

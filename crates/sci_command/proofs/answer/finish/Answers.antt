@@ -1,12 +1,10 @@
-use Rattle.std.proofs.Common.{refl}
+use Rattle.std.proofs.Common.{◌∙◌, refl}
+use Rattle.sci_command.proofs.Finished.{written_text}
 use Rattle.sci_command.specs.declared.outcome.Outcome.TheVariants.{Refused}
 use Rattle.sci_command.proofs.answer.finish.Goals as goal
 
 pub returns-in-Err-clause-written : goal.returns-in-Err-clause-written
 returns-in-Err-clause-written g c =
-    let refused = c.refuse.ensures in
-    rw c.in-Err.is record {
-      whole = λ unfailed. (let whole = refused.whole unfailed in (whole.0, whole.1, (whole.2, refused.refused)));
-      front = (refused.front.0, Refused, refused.front.1, (refused.front.2, refl));
-      refused = λ failed. refused.refused;
-    }
+    let written = c.write_answer.ensures in
+    rw c.in-Err.is (written_text _ c.as_slice.result.now Refused (c.as_slice.ensures ∙ c.refusal_line.ensures, refl) _ _ _ _ written.front written.whole
+    written.unfailed written.failed)

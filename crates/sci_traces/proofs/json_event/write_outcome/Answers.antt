@@ -3,11 +3,13 @@ use Rattle.sci_traces.proofs.json_event.write_outcome.Goals as goal
 
 pub returns-in-Some-clause-members : goal.returns-in-Some-clause-members
 returns-in-Some-clause-members c =
-    refusal_written c.args.machine.now c.args.event.now c.args.out.now c.write_truth.new.out c.write_text.new.out c.write_standing.new.out
+    refusal_written c.args.machine.now c.args.event.now c.args.out.now c.write_truth.new.out c.write_text.new.out c.write_line.new.out
+    c.write_standing.new.out
     c.obstacle_to-obstacle.result c.in-Some.obstacle _ _ _ _
     c.in-Some.is c.obstacle_to-obstacle.ensures.obstacle c.obstacle_to-obstacle.ensures.enabled c.is_none.ensures c.node_of-node.ensures
     c.line_changed-line.ensures
-    c.in_ok-write_truth.ensures c.in_ok-write_text.ensures c.obstacle_name.ensures c.in_ok-write_standing.ensures
+    c.in_ok-write_truth.ensures c.in_ok-write_text.ensures c.obstacle_name.ensures c.in_ok-write_line.ensures
+    c.in_ok-write_standing.ensures
 
 pub returns-clause-members : goal.returns-clause-members
 returns-clause-members c =

@@ -2,10 +2,10 @@ use Rattle.std.proofs.Common.{arith, true, false, ◌≡◌, ◌<◌, ℕ, List,
 use Rattle.std.proofs.lemmas.{Bool.{cases_lt}, List.{append-nil, get_or_default, map-append, Edits.{get_or-remove_below}}}
 use Rattle.std.specs.{List.{remove}, Prelude.{slice_index_or}}
 use Rattle.sci_core.specs.{Node.{NodeOf, node_performing}, Work.{IsLogged}}
-use Rattle.sci_drive.specs.{Calls.{Answered, IsHeard}, Driving.{DriverOf, IsDriven, IsInOrder}}
+use Rattle.sci_drive.specs.{Calls.{Answered, Call, HasHeard}, Driving.{DriverOf, IsDriven, IsInOrder}}
 use Rattle.sci_policy.specs.Deeds.{Deed, Performs}
 use Rattle.sci_drive.specs.Rounds.{ArePerformed, IsTried, performed}
-use Rattle.sci_drive.proofs.{GateCalls.{answer_call, heard_nothing, heard_on}, Drives.{grows, left_of, performs}}
+use Rattle.sci_drive.proofs.{GateCalls.{answer_call, heard_on, no_calls}, Drives.{grows, left_of, performs}}
 use Rattle.sci_drive.proofs.{InOrder.{performs_in_order}, DriverRounds.{one_more_performed, tried_on}}
 use Rattle.sci_drive.proofs.driver.Driver.perform.Goals as goal
 
@@ -41,11 +41,15 @@ loop-place-preserved-in-Some g c =
     let same : slice_index_or c.remove.new.self.items k 0 ≡ slice_index_or driver.pending k 0 =
     ap (λ (l : List ℕ). slice_index_or l k 0) c.remove.ensures.items ∙ get_or-remove_below driver.pending at.place 0 k lt within in
     subst (λ (l : ℕ). IsTried l start new) (sym same) (tried_on (slice_index_or driver.pending k 0) start old new c.in-Some.entry was own)) in
-    let heard : IsHeard g.G.Gate.hears at.gate c.answered.new.self driver later old new = record {
-      calls = Answered c.in-Some.entry ∷ [];
-      heard = c.answered.ensures;
-      are = answer_call driver later old new c.in-Some.entry refl refl undone awaited.submitted logged.log;
-    } in record {
+    let hears = g.G.Gate.hears in
+    let was_heard = at.invariant.performed.2 in
+    let calls = map Answered earlier in
+    let heard : HasHeard hears c.args.gate.now c.answered.new.self first later start new (map Answered (earlier ++ c.in-Some.entry ∷ [])) =
+    subst (λ (l : List Call). HasHeard hears c.args.gate.now c.answered.new.self first later start new l)
+    (sym (map-append Answered earlier (c.in-Some.entry ∷ [])))
+    (heard_on hears g.met.G.Gate.hears_on c.args.gate.now at.gate c.answered.new.self first driver later start old new calls
+    (Answered c.in-Some.entry ∷ []) was_heard
+    (c.answered.ensures, answer_call driver later old new c.in-Some.entry refl refl undone awaited.submitted logged.log)) in record {
       driven = subst (λ (lines : List ℕ). IsDriven (record driver { pending = lines }) new) (sym c.remove.ensures.items) made;
       script = at.invariant.script;
       issuing = at.invariant.issuing;
@@ -58,16 +62,14 @@ loop-place-preserved-in-Some g c =
       performed = (
         earlier ++ c.in-Some.entry ∷ [],
         one_more_performed start old new earlier c.in-Some.entry at.invariant.performed.1 own,
+        subst (λ (lines : List ℕ). HasHeard hears c.args.gate.now c.answered.new.self first (record driver { pending = lines }) start new
+            (map Answered (earlier ++ c.in-Some.entry ∷ []))) (sym c.remove.ensures.items) heard,
         subst (λ (deeds : List Deed). g.W.Worker.does c.args.worker.now deeds c.perform.new.self) (sym (map-append performed earlier (c.in-Some.entry ∷ [])))
             (g.met.W.Worker.does_on c.args.worker.now at.worker c.perform.new.self (map performed earlier) (performed c.in-Some.entry ∷ [])
-            at.invariant.performed.2 did),
+            at.invariant.performed.3 did),
       );
+      told = at.invariant.told;
       tried = tried_then;
-      heard = subst (λ (lines : List ℕ).
-          IsHeard g.G.Gate.hears c.args.gate.now c.answered.new.self first (record driver { pending = lines }) (g.W.Worker.node c.args.worker.now) new)
-          (sym c.remove.ensures.items)
-          (heard_on g.G.Gate.hears g.met.G.Gate.hears_nothing g.met.G.Gate.hears_on c.args.gate.now at.gate c.answered.new.self first driver later
-          (g.W.Worker.node c.args.worker.now) old new at.invariant.heard heard);
     }
   where
     apart : true ≡ false → ⊥
@@ -86,9 +88,14 @@ loop-place-init g c =
       same = λ _. refl;
       order = λ was. was;
       done = c.self.invariant.1;
-      performed = ([], refl, g.met.W.Worker.does_nothing c.args.worker.now);
+      performed = (
+        [],
+        refl,
+        (g.met.G.Gate.hears_nothing c.args.gate.now, no_calls first first node node refl refl refl),
+        g.met.W.Worker.does_nothing c.args.worker.now,
+      );
+      told = refl;
       tried = λ k lt within. absurd (omega arith);
-      heard = heard_nothing g.G.Gate.hears g.met.G.Gate.hears_nothing g.met.G.Gate.hears_on c.args.gate.now first first node node refl refl refl;
     }
   where
     apart : false ≡ true → ⊥
@@ -129,8 +136,10 @@ loop-place-preserved g c =
       performed = (
         earlier,
         subst (ArePerformed start earlier) (sym same) at.invariant.performed.1,
+        subst (λ (n : NodeOf). HasHeard g.G.Gate.hears c.args.gate.now at.gate first driver start n (map Answered earlier)) (sym same)
+            at.invariant.performed.2,
         subst (λ (deeds : List Deed). g.W.Worker.does c.args.worker.now deeds c.perform.new.self) (append-nil (map performed earlier))
-            (g.met.W.Worker.does_on c.args.worker.now at.worker c.perform.new.self (map performed earlier) [] at.invariant.performed.2
+            (g.met.W.Worker.does_on c.args.worker.now at.worker c.perform.new.self (map performed earlier) [] at.invariant.performed.3
             (c.perform.ensures.idle c.in-None.is)),
       );
       tried = λ k lt within. elim (cases_lt k at.place) [
@@ -139,7 +148,7 @@ loop-place-preserved g c =
             let here : at.place ≡ k = omega arith in
             subst (λ (i : ℕ). IsTried (slice_index_or driver.pending i 0) start new) here tried_here
       ];
-      heard = subst (λ (n : NodeOf). IsHeard g.G.Gate.hears c.args.gate.now at.gate first driver start n) (sym same) at.invariant.heard;
+      told = at.invariant.told;
     }
 
 pub returns-clause-tried : goal.returns-clause-tried

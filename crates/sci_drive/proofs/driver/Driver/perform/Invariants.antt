@@ -1,7 +1,7 @@
 use Rattle.std.proofs.Common.{◌≡◌, ◌<◌, ℕ, List, [], length, map, ◌-◌, true, false}
 use Rattle.std.specs.Prelude.{slice_index_or}
 use Rattle.sci_history.specs.declared.entry.Entry.{Entry}
-use Rattle.sci_drive.specs.{Calls.{IsHeard}, Driving.{DriverOf, IsDriven, IsInOrder}, Rounds.{ArePerformed, IsTried, performed}}
+use Rattle.sci_drive.specs.{Calls.{Answered, HasHeard}, Driving.{DriverOf, IsDriven, IsInOrder}, Rounds.{ArePerformed, IsTried, performed}}
 use Rattle.sci_drive.proofs.driver.Driver.perform.Given as goal
 
 abbrev pub invariant-loop-place : goal.invariant-loop-place
@@ -20,10 +20,11 @@ invariant-loop-place g l =
       order : IsInOrder first (g.W.Worker.node l.initial.worker) → IsInOrder driver (g.W.Worker.node l.worker);
       done : driver.was_done ≡ true → (driver.next ≡ length driver.script) × (driver.pending ≡ []);
       performed : (entries : List Entry) × ArePerformed (g.W.Worker.node l.initial.worker) entries (g.W.Worker.node l.worker)
+          × HasHeard g.G.Gate.hears l.initial.gate l.gate first driver (g.W.Worker.node l.initial.worker) (g.W.Worker.node l.worker) (map Answered entries)
           × g.W.Worker.does l.initial.worker (map performed entries) l.worker;
+      told : l.self-inside.was_done ≡ l.initial.self-inside.was_done;
       tried : (k : ℕ) → k < l.place → k < length driver.pending
           → IsTried (slice_index_or driver.pending k 0) (g.W.Worker.node l.initial.worker) (g.W.Worker.node l.worker);
-      heard : IsHeard g.G.Gate.hears l.initial.gate l.gate first driver (g.W.Worker.node l.initial.worker) (g.W.Worker.node l.worker);
     }
 
 abbrev pub decreases-loop-place : goal.decreases-loop-place

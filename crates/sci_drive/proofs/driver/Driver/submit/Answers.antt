@@ -48,15 +48,15 @@ pub returns-then-not-has_room-clause-submits : goal.returns-then-not-has_room-cl
 returns-then-not-has_room-clause-submits g c =
     let self = c.args.self.now in
     let made = holds_back g.G.Gate.hears g.met.G.Gate.hears_nothing c.args.gate.now self (g.W.Worker.node c.args.worker.now)
-    (NoRoom (not_below (length self.pending) (most_pending self.issuing) c.has_room.result c.has_room.ensures.1 c.if-not-has_room.true)) in
-    (made.0, [], made.1, g.met.W.Worker.does_nothing c.args.worker.now)
+    (NoRoom (not_below (length self.pending) (most_pending self.issuing) c.has_room.result c.has_room.ensures.1 c.if-not-has_room.true) refl) in
+    ([], [], made.0, made.1, g.met.W.Worker.does_nothing c.args.worker.now)
 
 pub returns-in_default-clause-submits : goal.returns-in_default-clause-submits
 returns-in_default-clause-submits g c =
     let driver : DriverOf = left_of c.self.view_is in
     let made = holds_back g.G.Gate.hears g.met.G.Gate.hears_nothing c.args.gate.now driver (g.W.Worker.node c.args.worker.now)
-    (AllSubmitted (past driver.script driver.next c.in_default.ensures.lookup.0)) in
-    rw (← c.self.view_is) (made.0, [], made.1, g.met.W.Worker.does_nothing c.args.worker.now)
+    (AllSubmitted (past driver.script driver.next c.in_default.ensures.lookup.0) refl) in
+    rw (← c.self.view_is) ([], [], made.0, made.1, g.met.W.Worker.does_nothing c.args.worker.now)
 
 pub returns-then-contains-clause-submits : goal.returns-then-contains-clause-submits
 returns-then-contains-clause-submits g c =
@@ -65,8 +65,8 @@ returns-then-contains-clause-submits g c =
     let at = next_is g (goal.at.returns-then-contains-clause-submits g c).In-Some in
     let taken : Contains c.deref.result.now op.line = is_contained op.line c.deref.result.now (sym c.contains.ensures.value ∙ c.if-contains.true) in
     let there : Contains driver.pending op.line = subst (λ (lines : List ℕ). Contains lines op.line) c.deref.ensures.0 taken in
-    let made = holds_back g.G.Gate.hears g.met.G.Gate.hears_nothing c.args.gate.now driver (g.W.Worker.node c.args.worker.now) (LineIsTaken op at there) in
-    rw (← c.self.view_is) (made.0, [], made.1, g.met.W.Worker.does_nothing c.args.worker.now)
+    let made = holds_back g.G.Gate.hears g.met.G.Gate.hears_nothing c.args.gate.now driver (g.W.Worker.node c.args.worker.now) (LineIsTaken op at there refl) in
+    rw (← c.self.view_is) ([], [], made.0, made.1, g.met.W.Worker.does_nothing c.args.worker.now)
 
 pub returns-then-not-may_issue-clause-submits : goal.returns-then-not-may_issue-clause-submits
 returns-then-not-may_issue-clause-submits g c =
@@ -75,8 +75,8 @@ returns-then-not-may_issue-clause-submits g c =
     let hears = g.G.Gate.hears in
     let gate = c.args.gate.now in
     let asked : hears gate (MayIssue driver.next false ∷ []) c.may_issue.new.self = rw (← c.if-not-may_issue.true) c.may_issue.ensures in
-    let made = asks hears g.met.G.Gate.hears_nothing gate c.may_issue.new.self false driver node node asked refl (NotAllowed (0, omega arith, refl)) in
-    rw (← c.self.view_is) (made.0, [], made.1, g.met.W.Worker.does_nothing c.args.worker.now)
+    let made = asks hears g.met.G.Gate.hears_nothing gate c.may_issue.new.self false driver node node asked refl (NotAllowed refl) in
+    rw (← c.self.view_is) (MayIssue driver.next false ∷ [], [], made.0, made.1, g.met.W.Worker.does_nothing c.args.worker.now)
 
 pub returns-in-Ok-clause-submits : goal.returns-in-Ok-clause-submits
 returns-in-Ok-clause-submits g c =
@@ -88,7 +88,8 @@ returns-in-Ok-clause-submits g c =
     (g.W.Worker.node c.submit.new.self) c.in-Some.op.now asked
     (subst (λ (d : DriverOf). length d.pending < most_pending d.issuing) (sym c.self.view_is)
     (c.has_room.ensures.0 (rw (← c.if-not-has_room.false) refl))) at c.in-Ok.ensures.issued in
-    rw (← c.self.view_is, c.push.ensures.items) (made.0, Issues c.in-Some.op.now ∷ [], made.1, c.in-Ok.ensures.does)
+    rw (← c.self.view_is, c.push.ensures.items)
+    (MayIssue driver.next true ∷ [], Issues c.in-Some.op.now ∷ [], made.0, made.1, c.in-Ok.ensures.does)
 
 not_ok : {A E : Type 0} (r : Result A E) → ((x : A) → r ≡ Ok x → ⊥) → IsErr r
 not_ok (Ok x) isnt = absurd (isnt x refl)
@@ -107,6 +108,8 @@ returns-in_default-submit-clause-submits g c =
     let at = next_is g (goal.at.returns-in_default-submit-clause-submits g c).In-Some in
     let err = not_ok c.submit.result c.in_default-submit.not-Ok in
     let fault : IsSome (submit_fault old c.in-Some.op.now) = has_fault c.submit.result (submit_fault old c.in-Some.op.now) err c.submit.ensures.fault in
-    let made = asks g.G.Gate.hears g.met.G.Gate.hears_nothing c.args.gate.now c.may_issue.new.self c.may_issue.result driver old
-    (g.W.Worker.node c.submit.new.self) c.may_issue.ensures (c.submit.ensures.same err) (Refused c.in-Some.op.now at fault) in
-    rw (← c.self.view_is) (made.0, [], made.1, c.submit.ensures.idle err)
+    let asked : g.G.Gate.hears c.args.gate.now (MayIssue driver.next true ∷ []) c.may_issue.new.self =
+    rw (← c.if-not-may_issue.false) c.may_issue.ensures in
+    let made = asks g.G.Gate.hears g.met.G.Gate.hears_nothing c.args.gate.now c.may_issue.new.self true driver old (g.W.Worker.node c.submit.new.self)
+    asked (c.submit.ensures.same err) (Refused c.in-Some.op.now at fault refl) in
+    rw (← c.self.view_is) (MayIssue driver.next true ∷ [], [], made.0, made.1, c.submit.ensures.idle err)

@@ -1,9 +1,10 @@
-use Rattle.std.proofs.Common.{◌≡◌, ℕ, List, sym, subst, rules}
+use Rattle.std.proofs.Common.{◌≡◌, ℕ, All, List, sym, subst, rules}
 use Rattle.sci_core.specs.Core.{node_at}
 use Rattle.sci_policy.specs.Deeds.{Deed}
-use Rattle.sci_drive.specs.Rounds.{HasDone}
+use Rattle.sci_drive.specs.{Calls.{IsOpen}, Rounds.{HasDone}}
+use Rattle.sci_drive.proofs.HeardAs.{round_as}
 use Rattle.sci_runs.specs.{declared.seat.Seat.{Seat}, Goings.{GoesAt, StopsAt, place}, Played.{GoesOpenly}, Recorded.{RecorderOf}}
-use Rattle.sci_runs.proofs.Playing.{at_node, goes_open}
+use Rattle.sci_runs.proofs.Playing.{at_node}
 use Rattle.sci_runs.proofs.player.Player.round.Goals as goal
 
 pub returns-clause-goes : goal.returns-clause-goes
@@ -19,7 +20,8 @@ returns-clause-goes c =
     let there : (later : RecorderOf) → later ≡ worker.recorder.now → Round later = λ later is. subst Round (sym is) (
       went.0,
       subst (λ (k : ℕ). GoesOpenly went.0 player.driver c.round.new.self (node_at old.core n) (node_at worker.recorder.now.core k) c.round.result)
-          c.round.ensures.stays.0 (goes_open went.1 (λ calls all. all)),
+          c.round.ensures.stays.0
+          (round_as _ (λ (first : Unit {0}) calls last. All IsOpen calls) (λ gate. tt) (λ gate later calls all. all) went.1),
       at_node (λ (seat : Seat). seat.node) (λ (seat : Seat). seat.policy.now) (λ (seat : Seat). seat.recorder.now) n went.0 player.policy old worker
           c.round.result went.2,
     ) in
