@@ -3,3 +3,5 @@ pub mod Sameness
 pub mod SeenAlike
 pub mod Shares
 pub mod Allowing
+pub mod Tens
+pub mod Within

@@ -81,19 +81,25 @@ operation_is : (script : ScriptValue) (n : ℕ) (op : Op) → n < script.nodes �
 operation_is script n op below within =
     record { node = below; line = within.known_line; word = within.known_word; words = act_words op.act within.words }
 
+-- each operation of a node is within the machine
+pub share_within : (script : ScriptValue) → IsScript script → (n i : ℕ) → i < length (own_of (shares_of script) n)
+    → IsWithin script.nodes script.lines n (operation_at (shares_of script) n i)
+share_within script good n i below = elim (cases_lt n script.nodes) [
+  | inl lt ↦
+      let is = own_is_share script n lt in
+      subst (λ (own : List Op). IsWithin script.nodes script.lines n (get_or own i no_operation)) (sym is)
+      (own_within script.nodes script.lines n script.operations good.within i (subst (λ (own : List Op). i < length own) is below))
+  | inr past ↦ (
+      let none : length (own_of (shares_of script) n) ≡ 0 = ap (λ (own : List Op). length own) (no_share script n past) in
+      absurd (omega arith))
+]
+
 pub is_script : (script : ScriptValue) → IsScript script → ((n : ℕ) → length (own_of (shares_of script) n) ≤ MAX_OPERATIONS)
     → IsScriptOf (size_for script) (shares_of script)
 is_script script good few = record {
-  each = λ n i below. elim (cases_lt n script.nodes) [
-    | inl lt ↦
-        let is = own_is_share script n lt in
-        operation_is script n (operation_at (shares_of script) n i) lt
-        (subst (λ (own : List Op). IsWithin script.nodes script.lines n (get_or own i no_operation)) (sym is)
-        (own_within script.nodes script.lines n script.operations good.within i (subst (λ (own : List Op). i < length own) is below)))
-    | inr past ↦ (
-        let none : length (own_of (shares_of script) n) ≡ 0 = ap (λ (own : List Op). length own) (no_share script n past) in
-        absurd (omega arith))
-  ];
+  each = λ n i below. (
+      let within = share_within script good n i below in
+      operation_is script n (operation_at (shares_of script) n i) within.known_node within);
   few = few;
 }
 
