@@ -25,7 +25,7 @@ contains_map f (z ∷ xs) x has = elim (contains_cases z x xs has) [
   | inr later ↦ contains_there (f z) (f x) (map f xs) (contains_map f xs x later)
 ]
 
-map_contains : {X Y : Type 0} (f : X → Y) (xs : List X) (y : Y) → Contains (map f xs) y → (x : X) × Contains xs x × (f x ≡ y)
+pub map_contains : {X Y : Type 0} (f : X → Y) (xs : List X) (y : Y) → Contains (map f xs) y → (x : X) × Contains xs x × (f x ≡ y)
 map_contains f [] y has = contains_none y has
 map_contains f (z ∷ xs) y has = elim (contains_cases (f z) y (map f xs) has) [
   | inl is ↦ (z, contains_here z xs, is)
@@ -41,6 +41,20 @@ contains_any outcomes shown has =
 any_contains : (outcomes : List Outcome) (shown : Shown) → Any (λ o. shown_of o ≡ shown) outcomes → Contains (map shown_of outcomes) shown
 any_contains outcomes shown (k, o, below, here, is) = subst (Contains (map shown_of outcomes)) is (contains_map shown_of outcomes o (k, below, here))
 
+-- what is seen of a run is seen of a standing where runs end
+pub seen_at_end : (litmus : Litmus) (window : ℕ) (standings : List Standing) → IsLitmus litmus
+    → HaveRuns (size_for litmus.script) (shares_of litmus.script) window (map position_of standings) → (shown : Shown)
+    → IsAllowed litmus.script window shown → Contains (map (λ (s : Standing). seen_at litmus.script (position_of s)) standings) shown
+seen_at_end litmus window standings good has shown (schedule, way) =
+    let among = has.all schedule way.run.runs in
+    let at = map_contains position_of standings among.0 among.1 in
+    let script = litmus.script in
+    let same : shown ≡ seen_at script among.0 =
+    way.is ∙ shown_same (size_for script) (shares_of script) _ _ way.position among.0 way.run.outcome among.2 (written_places script.lines script.operations)
+    (subst (All (IsPlaceWithin script.lines)) good.places good.within) in
+    subst (Contains (map (λ (s : Standing). seen_at script (position_of s)) standings)) (sym (same ∙ ap (seen_at script) (sym at.2)))
+    (contains_map (λ (s : Standing). seen_at script (position_of s)) standings at.0 at.1)
+
 module _ (litmus : Litmus) (window : ℕ) (standings : List Standing) (outcomes : List Outcome) (good : IsLitmus litmus)
     (has : HaveRuns (size_for litmus.script) (shares_of litmus.script) window (map position_of standings))
     (seen : AreSeenAt litmus.script standings outcomes) where
@@ -55,16 +69,7 @@ module _ (litmus : Litmus) (window : ℕ) (standings : List Standing) (outcomes 
 
   -- and what is seen of a run is seen of an outcome
   pub seen_there : (shown : Shown) → IsAllowed litmus.script window shown → Contains (map shown_of outcomes) shown
-  seen_there shown (schedule, way) =
-      let among = has.all schedule way.run.runs in
-      let at = map_contains position_of standings among.0 among.1 in
-      let script = litmus.script in
-      let same : shown ≡ seen_at script among.0 =
-      way.is ∙ shown_same (size_for script) (shares_of script) _ _ way.position among.0 way.run.outcome among.2 (written_places script.lines script.operations)
-      (subst (All (IsPlaceWithin script.lines)) good.places good.within) in
-      subst (λ (xs : List Shown). Contains xs shown) (sym seen)
-      (subst (Contains (map (λ (s : Standing). seen_at script (position_of s)) standings)) (sym (same ∙ ap (seen_at script) (sym at.2)))
-      (contains_map (λ (s : Standing). seen_at script (position_of s)) standings at.0 at.1))
+  seen_there shown allowed = subst (λ (xs : List Shown). Contains xs shown) (sym seen) (seen_at_end litmus window standings good has shown allowed)
 
 -- a sort and a `dedup` keep what is seen
 module _ (E : Outcome → Outcome → Bool) (e : IsEquivalence E) (same : (a b : Outcome) → E a b ≡ true → shown_of a ≡ shown_of b)

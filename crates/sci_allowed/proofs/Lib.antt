@@ -5,3 +5,7 @@ pub mod Shares
 pub mod Allowing
 pub mod Tens
 pub mod Within
+pub mod Litmuses
+pub mod Replies
+pub mod Schedules
+pub mod Refusing

@@ -93,11 +93,7 @@ fn shown_text(
 }
 
 /// What is written of a script.
-fn text_of(
-    alloc: Global,
-    litmus: &Litmus,
-    request: AllowedRequest,
-) -> Result<Vec<u8>, AllowedFault>
+fn text_of(alloc: Global, litmus: &Litmus, request: AllowedRequest) -> Result<Vec<u8>, AllowedFault>
     requires { IsLitmus litmus.now }
     ensures text { IfOk result (λ text. IsTextOf litmus.now.script (most_pending request.issuing)
         request.show text.items) }

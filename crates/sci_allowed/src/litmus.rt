@@ -64,7 +64,8 @@ impl Litmus {
         ensures many { IfErr result (λ fault. fault ≡ TooMany →
             AreTooMany self.now.script.lines (shares_of self.now.script) window) }
     {
-        self.orders(window).outcomes(alloc, self.script.extent(), MAX_OPERATIONS)
+        self.orders(window)
+            .outcomes(alloc, self.script.extent(), MAX_OPERATIONS)
     }
 
     /// The outcome of a run that ends here. Refused if memory is.
@@ -82,11 +83,7 @@ impl Litmus {
     }
 
     /// The outcome of each run that ends in one of these standings. Refused if memory is.
-    fn outcomes_of(
-        &self,
-        alloc: Global,
-        standings: &[Standing],
-    ) -> Result<Vec<Outcome>, AllocError>
+    fn outcomes_of(&self, alloc: Global, standings: &[Standing]) -> Result<Vec<Outcome>, AllocError>
         requires litmus { IsLitmus self.now }
         requires nodes { All (λ standing. length standing.answers.items ≡ self.now.script.nodes) standings.now }
         ensures { IfOk result (λ outcomes. AreSeenAt self.now.script standings.now outcomes.items) }
@@ -100,11 +97,7 @@ impl Litmus {
 
     /// All outcomes of its runs, if at most this number of operations waits at a node: by what was replied, then by the
     /// words, each once. Refused if memory is, and as too many if some number of steps leads to more than 100,000 positions.
-    pub(crate) fn outcomes(
-        &self,
-        alloc: Global,
-        window: usize,
-    ) -> Result<Vec<Outcome>, OrdersFault>
+    pub(crate) fn outcomes(&self, alloc: Global, window: usize) -> Result<Vec<Outcome>, OrdersFault>
         requires { IsLitmus self.now }
         ensures allowed { IfOk result (λ outcomes. AreAllowed self.now.script window outcomes.items) }
         ensures many { IfErr result (λ fault. fault ≡ TooMany →

@@ -108,11 +108,7 @@ fn held_word(place: Place, words: &[Word]) -> Held
 }
 
 /// What the words at these places hold.
-fn words_of(
-    alloc: Global,
-    places: &[Place],
-    standing: &Standing,
-) -> Result<Vec<Held>, AllocError>
+fn words_of(alloc: Global, places: &[Place], standing: &Standing) -> Result<Vec<Held>, AllocError>
     ensures { IfOk result (λ words. words.items ≡ map (held_in (position_of standing.now)) places.now) }
 {
     let mut words = Vec::with_capacity(alloc, places.len())?;

@@ -1,6 +1,6 @@
 //! A schedule that leads to an outcome.
 
-ghost use Rattle.std.specs.Prelude.{◌≡◌, ◌<◌, ◌≤◌, ◌*◌, Contains, length, map, slice_index_or, All, Any, IfErr, IfOk};
+ghost use Rattle.std.specs.Prelude.{◌≡◌, ◌<◌, ◌≤◌, ◌*◌, ℕ, Contains, length, map, slice_index_or, All, Any, IfErr, IfOk};
 ghost use Rattle.sci_words.specs.declared.limits.TheConstants.{MAX_EVENTS};
 ghost use Rattle.sci_text.specs.Schedule.{AreEventsWithin, IsSchedule};
 ghost use Rattle.sci_orders.specs.{Positions.{position_of}, declared.standing.Standing.{Standing}};
@@ -37,11 +37,7 @@ fn place_of(
 }
 
 /// The schedule with these events. Refused if memory is, or if there are more than 500,000.
-fn schedule_with(
-    alloc: Global,
-    extent: Extent,
-    events: &[Event],
-) -> Result<Schedule, AllowedFault>
+fn schedule_with(alloc: Global, extent: Extent, events: &[Event]) -> Result<Schedule, AllowedFault>
     requires { AreEventsWithin extent.nodes extent.lines events.now }
     ensures value { IfOk result (λ schedule. schedule ≡ record {
       nodes = extent.nodes;

@@ -6,8 +6,8 @@ use Rattle.sci_allowed.proofs.showing.schedule_with.Given as goal
 abbrev pub invariant-loop-event : goal.invariant-loop-event
 invariant-loop-event l = record {
   good : IsSchedule l.schedule;
-  nodes : l.schedule.nodes ≡ l.extent.nodes;
-  lines : l.schedule.lines ≡ l.extent.lines;
-  slots : l.schedule.slots ≡ l.extent.slots;
+  nodes : l.schedule.nodes ≡ l.fn.extent.nodes;
+  lines : l.schedule.lines ≡ l.fn.extent.lines;
+  slots : l.schedule.slots ≡ l.fn.extent.slots;
   events : l.schedule.events ≡ take l.event-index l.events;
 }
