@@ -8,7 +8,7 @@ use Rattle.sci_words.specs.declared.event.Event.{Event}
 use Rattle.sci_text.specs.Script.{ScriptValue}
 use Rattle.sci_drive.specs.ScriptLogs.{size_for}
 use Rattle.sci_orders.proofs.Keeping.{contains_cases, contains_here, contains_none, contains_there, kept, left}
-use Rattle.sci_orders.specs.{Positions.{Position, position_of}, declared.standing.Standing.{Standing}}
+use Rattle.sci_orders.specs.{Orders.{HasRun}, Positions.{Position, position_of}, declared.standing.Standing.{Standing}}
 use Rattle.sci_allowed.specs.Allowed.{AreAllowed, AreRows, AreSeenAt, HaveRuns, IsAllowed, IsLitmus, is_among, rows_of, seen_at, shares_of}
 use Rattle.sci_allowed.specs.Outcome.{IsPlaceWithin, Shown, outcome_cmp, shown_of, written_places}
 use Rattle.sci_allowed.specs.declared.{litmus.Litmus.{Litmus}, outcome.Outcome.{Outcome}, rows.Rows.{Rows}}
@@ -64,7 +64,8 @@ module _ (litmus : Litmus) (window : ℕ) (standings : List Standing) (outcomes 
       let at = map_contains (λ (s : Standing). seen_at litmus.script (position_of s)) standings shown
       (subst (λ (xs : List Shown). Contains xs shown) seen there) in
       let p = position_of at.0 in
-      let way = All-contains (λ q. (schedule : List Event) × _) (map position_of standings) p has.each (contains_map position_of standings at.0 at.1) in
+      let way = All-contains (λ q. (schedule : List Event) × HasRun (size_for litmus.script) (shares_of litmus.script) window q schedule)
+      (map position_of standings) p has.each (contains_map position_of standings at.0 at.1) in
       (way.0, record { position = p; run = way.1; is = sym at.2 })
 
   -- and what is seen of a run is seen of an outcome
@@ -120,7 +121,7 @@ are_allowed litmus window standings outcomes sorted final good has seen moved or
 
 -- ---- rows
 
-row_outcomes : (tag : Outcome → Bool) (outcomes : List Outcome) → map (λ row. row.0) (map (λ o. (o, tag o)) outcomes) ≡ outcomes
+row_outcomes : (tag : Outcome → Bool) (outcomes : List Outcome) → map (λ (row : Outcome × Bool). row.0) (map (λ o. (o, tag o)) outcomes) ≡ outcomes
 row_outcomes tag [] = refl
 row_outcomes tag (o ∷ outcomes) = ap (λ (os : List Outcome). o ∷ os) (row_outcomes tag outcomes)
 
@@ -130,7 +131,7 @@ are_rows script window rows all in_order =
     let tag = is_among rows.in_order.items in
     record {
       outcomes = subst (AreAllowed script window) (sym (row_outcomes tag rows.outcomes.items)) all;
-      tags = All-map (λ row. (row.1 ≡ true) ↔ IsAllowed script 1 (shown_of row.0)) (λ o. (o, tag o)) rows.outcomes.items
+      tags = All-map (λ (row : Outcome × Bool). (row.1 ≡ true) ↔ IsAllowed script 1 (shown_of row.0)) (λ o. (o, tag o)) rows.outcomes.items
           (All-weaker (Contains rows.outcomes.items) (λ o. (tag o ≡ true) ↔ IsAllowed script 1 (shown_of o))
           (λ o there. among_is script rows.in_order.items o in_order) rows.outcomes.items (All-contains_itself rows.outcomes.items));
     }

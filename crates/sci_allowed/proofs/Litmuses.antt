@@ -24,7 +24,7 @@ node_count litmus good =
     let count = share_count litmus.script in
     omega arith
 
-shares_good : (litmus : Litmus) → IsLitmus litmus → IsScriptOf (size_for litmus.script) (shares_of litmus.script)
+pub shares_good : (litmus : Litmus) → IsLitmus litmus → IsScriptOf (size_for litmus.script) (shares_of litmus.script)
 shares_good litmus good =
     is_script litmus.script good.good (λ n.
     subst (λ (ops : Operations). length (own_of ops n) ≤ MAX_OPERATIONS) good.shares (few_own litmus.operations.items good.few n))

@@ -38,13 +38,21 @@ numbers_equal a b c =
     and_from (nat_eq a a) (nat_eq b b && nat_eq c c) (eq-eqb a a refl) (and_from (nat_eq b b) (nat_eq c c) (eq-eqb b b refl) (eq-eqb c c refl))
 
 same_replied : (a b : Replied) → (replies.ghosts).eq a b ≡ true → a ≡ b
-same_replied a b is = let all = numbers_same a.node a.serial a.word b.node b.serial b.word is in cc
+same_replied a b is =
+    let all = numbers_same a.node a.serial a.word b.node b.serial b.word is in
+    ap (λ (n : ℕ). let r : Replied = record { node = n; serial = a.serial; word = a.word } in r) all.0
+    ∙ (ap (λ (n : ℕ). let r : Replied = record { node = b.node; serial = n; word = a.word } in r) all.1.0
+    ∙ ap (λ (n : ℕ). let r : Replied = record { node = b.node; serial = b.serial; word = n } in r) all.1.1)
 
 equal_replied : (a : Replied) → (replies.ghosts).eq a a ≡ true
 equal_replied a = numbers_equal a.node a.serial a.word
 
 same_held : (a b : Held) → (held.ghosts).eq a b ≡ true → a ≡ b
-same_held a b is = let all = numbers_same a.line a.word a.value b.line b.word b.value is in cc
+same_held a b is =
+    let all = numbers_same a.line a.word a.value b.line b.word b.value is in
+    ap (λ (n : ℕ). let h : Held = record { line = n; word = a.word; value = a.value } in h) all.0
+    ∙ (ap (λ (n : ℕ). let h : Held = record { line = b.line; word = n; value = a.value } in h) all.1.0
+    ∙ ap (λ (n : ℕ). let h : Held = record { line = b.line; word = b.word; value = n } in h) all.1.1)
 
 equal_held : (a : Held) → (held.ghosts).eq a a ≡ true
 equal_held a = numbers_equal a.line a.word a.value

@@ -73,8 +73,8 @@ module _ (nodes lines n : ℕ) where
 
   own_within : (ops : List (ℕ × Op)) → All (λ p. IsWithin nodes lines p.0 p.1) ops → own_below (operations_of n ops)
   own_within [] all i below = absurd (omega arith)
-  own_within (p ∷ ops) all =
-      own_more p (filter (λ q. q.0 == n) ops) (p.0 == n) refl (all 0 p (omega arith)) (own_within ops (λ k d low. all (suc k) d (omega arith)))
+  own_within (p ∷ ops) all i below =
+      own_more p (filter (λ q. q.0 == n) ops) (p.0 == n) refl (all 0 p (omega arith)) (own_within ops (λ k d low. all (suc k) d (omega arith))) i below
 
 -- an operation of a script is one of the machine's
 operation_is : (script : ScriptValue) (n : ℕ) (op : Op) → n < script.nodes → IsWithin script.nodes script.lines n op → IsOperation (size_for script) n op

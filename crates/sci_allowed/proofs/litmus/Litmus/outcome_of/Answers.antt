@@ -2,7 +2,7 @@ use Rattle.std.proofs.{Common.{◌≡◌, ◌≤◌, List, length, sym, ap, subs
 use Rattle.std.specs.{List.{All}, Prelude.{Vec}, declared.alloc.Global.{Global}}
 use Rattle.sci_words.specs.declared.{limits.TheConstants.{MAX_OPERATIONS}, operation.Op.{Op}}
 use Rattle.sci_orders.specs.Positions.{Operations, lists_of, position_of}
-use Rattle.sci_allowed.{proofs.Litmuses.{node_count}, specs.{Outcome.{Shown, shown_at, shown_of}, declared.place.Place.{Place}}}
+use Rattle.sci_allowed.{proofs.Litmuses.{node_count}, specs.{Allowed.{shares_of}, Outcome.{Shown, shown_at, shown_of}, declared.place.Place.{Place}}}
 use Rattle.sci_allowed.proofs.litmus.Litmus.outcome_of.Goals as goal
 
 pub outcome_of-requires-clause-nodes : goal.outcome_of-requires-clause-nodes
@@ -28,5 +28,5 @@ returns c =
     IfOk-weaker c.outcome_of.result _ _ (λ outcome so.
     so ∙ (ap (λ (ops : Operations). shown_at ops c.deref-2.result.now p)
     (ap (λ (ops : List (Vec Op Global)). lists_of ops) c.deref.ensures.value ∙ c.requires.litmus.shares)
-    ∙ ap (λ (places : List Place). shown_at _ places p) (c.deref-2.ensures.value ∙ c.requires.litmus.places)))
+    ∙ ap (λ (places : List Place). shown_at (shares_of c.args.self.now.script) places p) (c.deref-2.ensures.value ∙ c.requires.litmus.places)))
     c.outcome_of.ensures

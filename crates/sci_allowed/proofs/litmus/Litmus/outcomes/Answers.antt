@@ -1,9 +1,9 @@
 -- A sort and a `dedup` keep what is seen where runs end.
 use Rattle.std.proofs.{Common.{◌≡◌, List, length, sym, subst}, lemmas.List.Filters.{dedup_is}}
 use Rattle.std.specs.List.{All}
-use Rattle.sci_orders.{proofs.Refusing.{raised}, specs.{Positions.{AreTooMany}, declared.standing.Standing.{Standing}}}
+use Rattle.sci_orders.specs.declared.standing.Standing.{Standing}
 use Rattle.sci_allowed.proofs.{Allowing.{are_allowed}, Litmuses.{nodes_all}}
-use Rattle.sci_allowed.specs.Allowed.{AreSeenAt, shares_of}
+use Rattle.sci_allowed.specs.Allowed.{AreSeenAt}
 use Rattle.sci_allowed.proofs.litmus.Litmus.outcomes.Goals as goal
 
 pub outcomes_of-requires-clause-nodes : goal.outcomes_of-requires-clause-nodes
@@ -19,9 +19,3 @@ returns-clause-allowed c =
     c.dedup.new.self.items c.requires c.in_ok-standings.ensures.runs
     (subst (λ (ss : List Standing). AreSeenAt script ss c.in_ok-outcomes.outcomes.items) c.deref.ensures.value c.in_ok-outcomes.ensures)
     c.sort.ensures.permutation c.in_ok-sort.ensures.sorted (dedup_is _ _ _ c.dedup.ensures.filtered)
-
-pub returns-in_err-standings-clause-many : goal.returns-in_err-standings-clause-many
-returns-in_err-standings-clause-many c =
-    let script = c.args.self.now.script in
-    raised (AreTooMany script.lines (shares_of script) c.args.window) _ c.in_err-standings.field-0.0 c.from_residual-in_err-standings.ensures.1
-    c.in_err-standings.ensures.many
