@@ -1,5 +1,5 @@
 -- What is shown where runs end are all outcomes of runs, and a sort and a `dedup` keep them.
-use Rattle.std.proofs.Common.{◌≡◌, ◌↔◌, ℕ, suc, ◌<◌, Bool, true, List, [], ◌∷◌, length, map, get_or, refl, sym, ap, subst, ◌∙◌, inl, inr}
+use Rattle.std.proofs.Common.{◌≡◌, ◌↔◌, ℕ, Bool, true, List, [], ◌∷◌, map, refl, sym, ap, subst, ◌∙◌, inl, inr}
 use Rattle.std.proofs.lemmas.List.{Elements.{All-contains, All-contains_itself, All-map, All-weaker}, Folds.{Any-from_list_any, list_any-from_Any}}
 use Rattle.std.proofs.lemmas.List.Sorted.{Contains-permutation, IsPermutation-map, IsPermutation-sym}
 use Rattle.std.proofs.lemmas.List.Kept.{IsStrictlySortedBy-dedup}
@@ -8,7 +8,7 @@ use Rattle.sci_words.specs.declared.event.Event.{Event}
 use Rattle.sci_text.specs.Script.{ScriptValue}
 use Rattle.sci_drive.specs.ScriptLogs.{size_for}
 use Rattle.sci_orders.proofs.Keeping.{contains_cases, contains_here, contains_none, contains_there, kept, left}
-use Rattle.sci_orders.specs.{Orders.{HasRun}, Positions.{Position, position_of}, declared.standing.Standing.{Standing}}
+use Rattle.sci_orders.specs.{Orders.{HasRun}, Positions.{position_of}, declared.standing.Standing.{Standing}}
 use Rattle.sci_allowed.specs.Allowed.{AreAllowed, AreRows, AreSeenAt, HaveRuns, IsAllowed, IsLitmus, is_among, rows_of, seen_at, shares_of}
 use Rattle.sci_allowed.specs.Outcome.{IsPlaceWithin, Shown, outcome_cmp, shown_of, written_places}
 use Rattle.sci_allowed.specs.declared.{litmus.Litmus.{Litmus}, outcome.Outcome.{Outcome}, rows.Rows.{Rows}}

@@ -6,7 +6,7 @@ use Rattle.sci_words.specs.declared.operation.Op.{Op}
 use Rattle.sci_orders.proofs.Places.{gives_more}
 use Rattle.sci_orders.specs.Positions.{Operations, Position, answer_at, answers_of, own_of}
 use Rattle.sci_orders.specs.declared.standing.Answer.{Answer, TheVariants.{Stored}}
-use Rattle.sci_allowed.specs.{Outcome.{replied_at, replies_on}, declared.outcome.Replied.{Replied}}
+use Rattle.sci_allowed.specs.{Outcome.{replied_at, replies_on}}
 
 pub one_replied : {Y : Type 0} (f : ℕ → Option Y) (n : ℕ) (first before new : List Y) (y : Y) → f n ≡ Some y
     → before ≡ first ++ filter_map f (range_with_len 0 n) → new ≡ before ++ y ∷ [] → new ≡ first ++ filter_map f (range_with_len 0 (n + 1))

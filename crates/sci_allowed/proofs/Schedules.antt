@@ -1,18 +1,17 @@
 -- The schedule that leads to a standing where a run ends is that of a run, and has ten events for each operation.
-use Rattle.std.proofs.Common.{◌≡◌, ℕ, ◌+◌, ◌*◌, ◌<◌, ◌≤◌, List, [], length, map, get_or, Result, Ok, Err, refl, sym, ap, subst, ◌∙◌, arith}
-use Rattle.std.proofs.lemmas.List.{get_or-map, length-map, Elements.{All-get_or}}
-use Rattle.std.specs.{List.{All, Any, Contains}, Prelude.{IfErr, IfOk, slice_index_or}}
+use Rattle.std.proofs.Common.{◌≡◌, ℕ, ◌*◌, ◌<◌, List, [], length, map, get_or, Result, Ok, Err, sym, ap, subst, ◌∙◌, arith}
+use Rattle.std.specs.{List.{Any}, Prelude.{IfOk}}
 use Rattle.sci_words.specs.declared.{event.Event.{Event}, extent.Extent.{Extent}, limits.TheConstants.{MAX_EVENTS}}
 use Rattle.sci_text.specs.{Schedule.{AreEventsWithin, IsSchedule, ScheduleValue}, Script.{IsScript, ScriptValue}}
 use Rattle.sci_core.specs.Size.{IsMachineSize, Size}
 use Rattle.sci_drive.specs.ScriptLogs.{size_for}
-use Rattle.sci_orders.proofs.{Following.{IsOrderFor, opening_order, order_leads}, Turns.{order_seen}, Ways.{holds_at}}
+use Rattle.sci_orders.proofs.{Following.{opening_order, order_leads}, Turns.{order_seen}, Ways.{holds_at}}
 use Rattle.sci_orders.specs.Orders.{HasRun, IsOrderOf, IsScriptOf}
 use Rattle.sci_orders.specs.Positions.{IsReachedIn, Operations, Position, opening_position, operation_count, position_of}
 use Rattle.sci_orders.specs.{Ways.{IsWayTo}, Witness.{schedule_of, seen}, declared.standing.Standing.{Standing}}
 use Rattle.sci_allowed.proofs.{Allowing.{map_contains, seen_at_end}, Shares.{share_within}, Tens.{shares_few, ten_each}, Within.{schedule_within, way_within}}
 use Rattle.sci_allowed.specs.Allowed.{HaveRuns, IsAllowed, IsLitmus, IsRunTo, IsScheduleTo, IsTooLong, seen_at, shares_of}
-use Rattle.sci_allowed.specs.{Outcome.{shown_of}, declared.{fault.AllowedFault.{AllowedFault, TheVariants.{TooLong}}, litmus.Litmus.{Litmus}, outcome.Outcome.{Outcome}}}
+use Rattle.sci_allowed.specs.{Outcome.{shown_of}, declared.{fault.AllowedFault.{AllowedFault}, litmus.Litmus.{Litmus}, outcome.Outcome.{Outcome}}}
 
 -- a schedule of a way to a position
 abbrev pub IsOfWay : Size → Operations → (window : ℕ) → Position → List Event → Type 0
@@ -26,8 +25,8 @@ module _ (script : ScriptValue) (window : ℕ) (p : Position) (schedule : List E
       subst (AreEventsWithin script.nodes script.lines) (sym way.2) (schedule_within (size_for script) good.size.has_node way.0
       (way_within script.nodes script.lines (shares_of script) (share_within script good) window first p way.0 way.1.leads))
 
-  pub too_long : IsMachineSize (size_for script) → IsScriptOf (size_for script) (shares_of script) → HasRun (size_for script) (shares_of script) window p schedule
-      → MAX_EVENTS < length schedule → IsTooLong script
+  pub too_long : IsMachineSize (size_for script) → IsScriptOf (size_for script) (shares_of script)
+      → HasRun (size_for script) (shares_of script) window p schedule → MAX_EVENTS < length schedule → IsTooLong script
   too_long sizes known has many =
       let size = size_for script in
       let operations = shares_of script in

@@ -1,10 +1,10 @@
 -- The events of the schedule of a way are the machine's.
-use Rattle.std.proofs.Common.{◌≡◌, ◌==◌, ◌%◌, ℕ, ◌<◌, ◌≤◌, Bool, true, false, if◌then◌else◌, List, [], ◌∷◌, ◌++◌, length, All, sym, subst, arith}
+use Rattle.std.proofs.Common.{◌==◌, ◌%◌, ℕ, ◌<◌, ◌≤◌, Bool, true, false, if◌then◌else◌, List, [], ◌∷◌, length, sym, subst, arith}
 use Rattle.std.proofs.lemmas.List.Elements.{All-append, All-cons, All-from_recursion, All-head, All-tail}
-use Rattle.sci_words.specs.declared.{event.Event.{Event}, operation.Op.{Op}}
+use Rattle.sci_words.specs.declared.{event.Event.{Event}}
 use Rattle.sci_text.specs.{Schedule.{AreEventsWithin, IsEventWithin}, Script.{IsWithin}}
 use Rattle.sci_core.specs.Size.{Size}
-use Rattle.sci_orders.specs.{Positions.{Operations, Position, answers_of, operation_at, own_of}, Ways.{LeadsTo, event_at}, Witness.{schedule_of, turn_of}}
+use Rattle.sci_orders.specs.{Positions.{Operations, Position, answers_of, operation_at, own_of}, Ways.{LeadsTo}, Witness.{schedule_of, turn_of}}
 use Rattle.sci_words.specs.declared.event.Event.TheVariants as event
 
 module _ (size : Size) (some : 1 ≤ size.nodes) where

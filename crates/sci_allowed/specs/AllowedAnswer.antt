@@ -1,5 +1,5 @@
 -- What `allowed` writes for its input.
-use Rattle.std.specs.Prelude.{◌≡◌, ◌≤◌, ◌<◌, ◌-◌, ◌⊎◌, ℕ, Bool, List, [], ◌∷◌, ◌++◌, codes, length, Option, None, Some, IsSome, slice_index_or}
+use Rattle.std.specs.Prelude.{◌≡◌, ◌≤◌, ◌-◌, ◌⊎◌, ℕ, Bool, List, [], ◌∷◌, ◌++◌, codes, length, Option, None, Some, IsSome, slice_index_or}
 use Rattle.std.specs.List.{flat_map}
 use Rattle.sci_text.specs.declared.fault.TextFaultKind.{TextFaultKind, TheVariants.{Range, TooMany}}
 use Rattle.sci_text.specs.{FirstFault.{IsTold}, Number.{field}, Schedule.{ScheduleValue, schedule_text}}

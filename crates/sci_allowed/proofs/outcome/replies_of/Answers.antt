@@ -1,5 +1,5 @@
 use Rattle.std.proofs.Common.{◌≡◌, ◌++◌, ◌<◌, ℕ, List, length, get_or, sym, ap, ◌∙◌, arith}
-use Rattle.std.specs.{List.{filter_map, flat_map, range_with_len}, Prelude.{Vec, slice_index_or}, Vec.{vec_len}, declared.alloc.Global.{Global}}
+use Rattle.std.specs.{List.{filter_map, range_with_len}, Prelude.{Vec, slice_index_or}, Vec.{vec_len}, declared.alloc.Global.{Global}}
 use Rattle.sci_words.specs.declared.operation.Op.{Op}
 use Rattle.sci_orders.proofs.{Copies.{own_is}, Places.{flat_more}}
 use Rattle.sci_orders.specs.Positions.{answers_of, lists_of, own_of, position_of}

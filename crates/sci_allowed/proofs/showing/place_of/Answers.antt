@@ -1,8 +1,8 @@
 -- Some standing has the outcome.
-use Rattle.std.proofs.Common.{◌≡◌, true, false, length, get_or, refl, sym, ap, subst, ◌∙◌, arith, inl, inr}
+use Rattle.std.proofs.Common.{◌≡◌, true, false, length, refl, sym, ap, subst, ◌∙◌, arith, inl, inr}
 use Rattle.std.proofs.lemmas.Bool.{cases_lt}
 use Rattle.sci_orders.{proofs.Ways.{item_at}, specs.{Positions.{position_of}, declared.standing.Standing.{Standing}}}
-use Rattle.sci_allowed.{proofs.Sameness.{equal_outcome, same_outcome}, specs.{Allowed.{seen_at}, Outcome.{shown_of}}}
+use Rattle.sci_allowed.{proofs.Sameness.{equal_outcome, same_outcome}, specs.{Allowed.{seen_at}}}
 use Rattle.sci_allowed.proofs.showing.place_of.Goals as goal
 
 pub outcome_of-requires-clause-nodes : goal.outcome_of-requires-clause-nodes

@@ -1,8 +1,8 @@
-use Rattle.std.proofs.{Common.{◌≡◌, ◌≤◌, List, length, sym, ap, subst, ◌∙◌, arith}, lemmas.Result.{IfOk-weaker}}
+use Rattle.std.proofs.{Common.{◌≤◌, List, length, sym, ap, subst, ◌∙◌, arith}, lemmas.Result.{IfOk-weaker}}
 use Rattle.std.specs.{List.{All}, Prelude.{Vec}, declared.alloc.Global.{Global}}
 use Rattle.sci_words.specs.declared.{limits.TheConstants.{MAX_OPERATIONS}, operation.Op.{Op}}
 use Rattle.sci_orders.specs.Positions.{Operations, lists_of, position_of}
-use Rattle.sci_allowed.{proofs.Litmuses.{node_count}, specs.{Allowed.{shares_of}, Outcome.{Shown, shown_at, shown_of}, declared.place.Place.{Place}}}
+use Rattle.sci_allowed.{proofs.Litmuses.{node_count}, specs.{Allowed.{shares_of}, Outcome.{shown_at}, declared.place.Place.{Place}}}
 use Rattle.sci_allowed.proofs.litmus.Litmus.outcome_of.Goals as goal
 
 pub outcome_of-requires-clause-nodes : goal.outcome_of-requires-clause-nodes

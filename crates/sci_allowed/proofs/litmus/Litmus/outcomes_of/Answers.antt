@@ -1,6 +1,6 @@
-use Rattle.std.proofs.{Common.{◌≡◌, ◌+◌, ℕ, List, length, map, take, refl, sym, ap, subst, ◌∙◌, arith}, Math.Seq.{take-length}}
+use Rattle.std.proofs.{Common.{◌≡◌, ◌+◌, ℕ, List, length, take, sym, ap, subst, ◌∙◌, arith}, Math.Seq.{take-length}}
 use Rattle.sci_orders.specs.declared.standing.Standing.{Standing}
-use Rattle.sci_allowed.{proofs.Litmuses.{seen_more}, specs.{Allowed.{AreSeenAt}, declared.outcome.Outcome.{Outcome}}}
+use Rattle.sci_allowed.{proofs.Litmuses.{seen_more}, specs.{Allowed.{AreSeenAt}}}
 use Rattle.sci_allowed.proofs.litmus.Litmus.outcomes_of.Goals as goal
 
 pub outcome_of-requires-clause-nodes : goal.outcome_of-requires-clause-nodes

@@ -1,8 +1,8 @@
 -- A standing where runs end has the outcome, and the schedule that leads to it is a run.
-use Rattle.std.proofs.Common.{◌≡◌, ◌*◌, ◌<◌, ℕ, List, length, map, get_or, sym, ap, subst, ◌∙◌}
+use Rattle.std.proofs.Common.{◌≡◌, ◌*◌, ◌<◌, ℕ, List, length, get_or, sym, ap, subst, ◌∙◌}
 use Rattle.std.proofs.lemmas.Result.{IfErr-weaker}
 use Rattle.std.specs.{List.{All, Any}, Prelude.{Vec}, declared.alloc.Global.{Global}}
-use Rattle.sci_words.specs.declared.{event.Event.{Event}, operation.Op.{Op}}
+use Rattle.sci_words.specs.declared.{operation.Op.{Op}}
 use Rattle.sci_text.specs.Schedule.{AreEventsWithin}
 use Rattle.sci_drive.specs.ScriptLogs.{size_for}
 use Rattle.sci_orders.specs.{Orders.{HasRun}, Positions.{IsReachedIn, operation_count, position_of}, declared.standing.Standing.{Standing}}

@@ -1,6 +1,5 @@
-use Rattle.std.proofs.{Common.{map}, lemmas.Result.{IfErr-weaker}}
+use Rattle.std.proofs.{lemmas.Result.{IfErr-weaker}}
 use Rattle.sci_allowed.proofs.Litmuses.{many_are, runs_are, script_good, size_good}
-use Rattle.sci_orders.specs.declared.fault.OrdersFault.TheVariants.{TooMany}
 use Rattle.sci_allowed.proofs.litmus.Litmus.standings.Goals as goal
 
 pub outcomes-requires-clause-size : goal.outcomes-requires-clause-size
