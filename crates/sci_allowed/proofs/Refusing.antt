@@ -22,5 +22,15 @@ module _ (request : AllowedRequest) (script : ScriptValue) (known : Option (List
       inr (inl (is, zero_is, (unfailed, (script_text script, read, record { script = script; good = good; read = refl; big = inr (long refl) }))))
   refused_for (fault.NoRow rows) many long row is =
       let found = row rows refl in
-      inr (inr (is, zero_is, (unfailed, (script_text script, read,
-      record { script = script; good = good; read = refl; number = found.0; asked = found.1; lacks = found.2 }))))
+      inr (inr (
+        is,
+        zero_is,
+        (
+          unfailed,
+          (
+            script_text script,
+            read,
+            record { script = script; good = good; read = refl; number = found.0; asked = found.1; lacks = found.2 },
+          ),
+        ),
+      ))
