@@ -1,0 +1,11 @@
+pub mod WrittenWords
+pub mod Sameness
+pub mod SeenAlike
+pub mod Shares
+pub mod Allowing
+pub mod Tens
+pub mod Within
+pub mod Litmuses
+pub mod Replies
+pub mod Schedules
+pub mod Refusing

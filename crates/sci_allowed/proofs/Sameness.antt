@@ -1,0 +1,75 @@
+-- Outcomes that a comparison finds equal are the same, and the other way round.
+use Rattle.std.proofs.Common.{◌≡◌, ◌&&◌, ℕ, nat_eq, Bool, true, List, [], ◌∷◌, refl, ap, subst, ◌∙◌, arith}
+use Rattle.std.proofs.lemmas.Bool.{and_from, and_parts, eq-eqb, eqb-true}
+use Rattle.std.specs.Cmp.Lexicographic.{pointwise}
+use Rattle.sci_allowed.specs.{Outcome.{Shown, shown_of}, declared.outcome.{Held.{Held}, Outcome.{Outcome}, Replied.{Replied}}}
+use Rattle.sci_allowed.specs.contracts.outcome.HeldPartialEq.TheImpl as held
+use Rattle.sci_allowed.specs.contracts.outcome.OutcomePartialEq.TheImpl as outcomes
+use Rattle.sci_allowed.specs.contracts.outcome.RepliedPartialEq.TheImpl as replies
+
+module _ {X : Type 0} (E : X → X → Bool) (same : (a b : X) → E a b ≡ true → a ≡ b) (equal : (a : X) → E a a ≡ true) where
+  same_each : (xs ys : List X) → pointwise E xs ys ≡ true → xs ≡ ys
+  same_each [] [] is = refl
+  same_each [] (y ∷ ys) is = cc
+  same_each (x ∷ xs) [] is = cc
+  same_each (x ∷ xs) (y ∷ ys) is =
+      let both = and_parts (E x y) (pointwise E xs ys) is in
+      ap (λ (z : X). z ∷ xs) (same x y both.0) ∙ ap (λ (zs : List X). y ∷ zs) (same_each xs ys both.1)
+
+  equal_each : (xs ys : List X) → xs ≡ ys → pointwise E xs ys ≡ true
+  equal_each [] [] is = refl
+  equal_each [] (y ∷ ys) is = cc
+  equal_each (x ∷ xs) [] is = cc
+  equal_each (x ∷ xs) (y ∷ ys) is =
+      let head : x ≡ y = cc in
+      let tail : xs ≡ ys = cc in
+      and_from (E x y) (pointwise E xs ys) (subst (λ (z : X). E x z ≡ true) head (equal x)) (equal_each xs ys tail)
+
+-- ---- three numbers
+
+numbers_same : (a b c x y z : ℕ) → (nat_eq a x && (nat_eq b y && nat_eq c z)) ≡ true → (a ≡ x) × ((b ≡ y) × (c ≡ z))
+numbers_same a b c x y z is =
+    let first = and_parts (nat_eq a x) (nat_eq b y && nat_eq c z) is in
+    let second = and_parts (nat_eq b y) (nat_eq c z) first.1 in
+    (eqb-true a x first.0, (eqb-true b y second.0, eqb-true c z second.1))
+
+numbers_equal : (a b c : ℕ) → (nat_eq a a && (nat_eq b b && nat_eq c c)) ≡ true
+numbers_equal a b c =
+    and_from (nat_eq a a) (nat_eq b b && nat_eq c c) (eq-eqb a a refl) (and_from (nat_eq b b) (nat_eq c c) (eq-eqb b b refl) (eq-eqb c c refl))
+
+same_replied : (a b : Replied) → (replies.ghosts).eq a b ≡ true → a ≡ b
+same_replied a b is =
+    let all = numbers_same a.node a.serial a.word b.node b.serial b.word is in
+    ap (λ (n : ℕ). let r : Replied = record { node = n; serial = a.serial; word = a.word } in r) all.0
+    ∙ (ap (λ (n : ℕ). let r : Replied = record { node = b.node; serial = n; word = a.word } in r) all.1.0
+    ∙ ap (λ (n : ℕ). let r : Replied = record { node = b.node; serial = b.serial; word = n } in r) all.1.1)
+
+equal_replied : (a : Replied) → (replies.ghosts).eq a a ≡ true
+equal_replied a = numbers_equal a.node a.serial a.word
+
+same_held : (a b : Held) → (held.ghosts).eq a b ≡ true → a ≡ b
+same_held a b is =
+    let all = numbers_same a.line a.word a.value b.line b.word b.value is in
+    ap (λ (n : ℕ). let h : Held = record { line = n; word = a.word; value = a.value } in h) all.0
+    ∙ (ap (λ (n : ℕ). let h : Held = record { line = b.line; word = n; value = a.value } in h) all.1.0
+    ∙ ap (λ (n : ℕ). let h : Held = record { line = b.line; word = b.word; value = n } in h) all.1.1)
+
+equal_held : (a : Held) → (held.ghosts).eq a a ≡ true
+equal_held a = numbers_equal a.line a.word a.value
+
+-- ---- outcomes
+
+pub same_shown : (a b : Shown) → a.replies ≡ b.replies → a.last ≡ b.last → a ≡ b
+same_shown a b replies last = grind arith
+
+pub same_outcome : (a b : Outcome) → (outcomes.ghosts).eq a b ≡ true → shown_of a ≡ shown_of b
+same_outcome a b is =
+    let both = and_parts (pointwise (replies.ghosts).eq a.replies.items b.replies.items) (pointwise (held.ghosts).eq a.last.items b.last.items) is in
+    same_shown (shown_of a) (shown_of b) (same_each (replies.ghosts).eq same_replied equal_replied a.replies.items b.replies.items both.0)
+    (same_each (held.ghosts).eq same_held equal_held a.last.items b.last.items both.1)
+
+pub equal_outcome : (a b : Outcome) → shown_of a ≡ shown_of b → (outcomes.ghosts).eq a b ≡ true
+equal_outcome a b same =
+    and_from (pointwise (replies.ghosts).eq a.replies.items b.replies.items) (pointwise (held.ghosts).eq a.last.items b.last.items)
+    (equal_each (replies.ghosts).eq same_replied equal_replied a.replies.items b.replies.items (ap (λ (s : Shown). s.replies) same))
+    (equal_each (held.ghosts).eq same_held equal_held a.last.items b.last.items (ap (λ (s : Shown). s.last) same))

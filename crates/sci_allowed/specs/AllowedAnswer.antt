@@ -1,0 +1,92 @@
+-- What `allowed` writes for its input.
+use Rattle.std.specs.Prelude.{◌≡◌, ◌≤◌, ◌-◌, ◌⊎◌, ℕ, Bool, List, [], ◌∷◌, ◌++◌, codes, length, Option, None, Some, IsSome, slice_index_or}
+use Rattle.std.specs.List.{flat_map}
+use Rattle.sci_text.specs.declared.fault.TextFaultKind.{TextFaultKind, TheVariants.{Range, TooMany}}
+use Rattle.sci_text.specs.{FirstFault.{IsTold}, Number.{field}, Schedule.{ScheduleValue, schedule_text}}
+use Rattle.sci_text.specs.{Script.{IsScript, ScriptValue, script_text}, ScriptFault.{IsScriptFault}}
+use Rattle.sci_command.specs.{Answer.{IsDoneBy}, Input.{IsReadAs}}
+use Rattle.sci_drive.specs.Rounds.{most_pending}
+use Rattle.sci_allowed.specs.declared.{outcome.Outcome.{Outcome}, allowed_report.AllowedRequest.{AllowedRequest}}
+use Rattle.sci_allowed.specs.{Allowed.{AreAllowed, AreRows, IsScheduleTo, IsTooBig, IsTooLong}, OutcomeText.{outcome_text, sense_text}}
+use Rattle.sci_command.specs.declared.outcome.Outcome as ending
+
+-- ---- texts
+
+-- the outcome, a colon, and whether it is in program order
+unfoldable pub row_text : Outcome × Bool → List ℕ
+row_text row = outcome_text row.0 ++ (codes ":" ++ sense_text row.1)
+
+-- `outcomes N`, and the line feed
+unfoldable pub total_text : ℕ → List ℕ
+total_text rows = codes "outcomes" ++ (field rows ++ 10 ∷ [])
+
+-- a line for each row, and one for all
+abbrev pub rows_text : List (Outcome × Bool) → List ℕ
+rows_text rows = flat_map row_text rows ++ total_text (length rows)
+
+-- ---- the answer
+
+-- all rows of the script are written
+pub record IsRowsText (script : ScriptValue) (window : ℕ) (text : List ℕ) : Type 0 where
+  pub rows : List (Outcome × Bool)
+  pub are : AreRows script window rows
+  pub written : text ≡ rows_text rows
+
+-- the number is that of one of the rows, from 1
+abbrev pub IsNumberOf : List Outcome → ℕ → Type 0
+IsNumberOf outcomes number = (1 ≤ number) × (number ≤ length outcomes)
+
+-- a schedule to the row with this number is written
+pub record IsShownText (script : ScriptValue) (window number : ℕ) (text : List ℕ) : Type 0 where
+  pub outcomes : List Outcome
+  pub are : AreAllowed script window outcomes
+  pub is_row : IsNumberOf outcomes number
+  pub schedule : ScheduleValue
+  pub leads : (d : Outcome) → IsScheduleTo script window (slice_index_or outcomes (number - 1) d) schedule
+  pub written : text ≡ schedule_text schedule
+
+abbrev pub IsTextOf : ScriptValue → (window : ℕ) → Option ℕ → List ℕ → Type 0
+IsTextOf script window None text = IsRowsText script window text
+IsTextOf script window (Some number) text = IsShownText script window number text
+
+-- the input is the text of a script, and what is asked of it is written
+pub record IsAllowedText (request : AllowedRequest) (input text : List ℕ) : Type 0 where
+  pub script : ScriptValue
+  pub good : IsScript script
+  pub read : input ≡ script_text script
+  pub written : IsTextOf script (most_pending request.issuing) request.show text
+
+-- ---- refusals
+
+-- the input is the text of a script with too many positions, or a schedule is asked for that has too many events
+pub record IsBigScript (request : AllowedRequest) (input : List ℕ) : Type 0 where
+  pub script : ScriptValue
+  pub good : IsScript script
+  pub read : input ≡ script_text script
+  pub big : IsTooBig script (most_pending request.issuing) ⊎ (IsSome request.show × IsTooLong script)
+
+-- the rows of the script don't have the number
+pub record LacksNumber (script : ScriptValue) (window number : ℕ) : Type 0 where
+  pub outcomes : List Outcome
+  pub are : AreAllowed script window outcomes
+  pub lacks : IsNumberOf outcomes number → ⊥
+
+-- the input is the text of a script whose rows don't have the number that is asked for
+pub record LacksRow (request : AllowedRequest) (input : List ℕ) : Type 0 where
+  pub script : ScriptValue
+  pub good : IsScript script
+  pub read : input ≡ script_text script
+  pub number : ℕ
+  pub asked : request.show ≡ Some number
+  pub lacks : LacksNumber script (most_pending request.issuing) number
+
+-- why there is no answer: the input has a fault, it is a script that is too big, or it lacks the row
+abbrev pub IsAllowedRefusal : AllowedRequest → TextFaultKind → Option (List ℕ) → Bool → ℕ → Type 0
+IsAllowedRefusal request kind input failed at =
+    IsTold IsScriptFault kind input failed at
+    ⊎ (((kind ≡ TooMany) × (at ≡ 0) × IsReadAs input failed (IsBigScript request))
+    ⊎ ((kind ≡ Range) × (at ≡ 0) × IsReadAs input failed (LacksRow request)))
+
+-- what `allowed` writes, and how it ends, for the bytes of a reader, which has failed or not
+abbrev pub IsAllowedAnswer : AllowedRequest → Option (List ℕ) → Bool → List ℕ → ending.Outcome → Type 0
+IsAllowedAnswer request = IsDoneBy (IsAllowedText request) (IsAllowedRefusal request)

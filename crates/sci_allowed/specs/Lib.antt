@@ -1,0 +1,4 @@
+pub mod Outcome
+pub mod Allowed
+pub mod OutcomeText
+pub mod AllowedAnswer

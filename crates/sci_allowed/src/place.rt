@@ -1,0 +1,59 @@
+//! The words that operations may write.
+
+ghost use Rattle.std.specs.Prelude.{◌≡◌, ◌<◌, ◌++◌, All, IfOk, OnOk};
+ghost use Rattle.sci_words.specs.declared.limits.TheConstants.{WORDS_PER_LINE};
+ghost use Rattle.sci_allowed.specs.Outcome.{IsPlaceWithin, is_written as is_written_of, written_on, written_places as written_places_of};
+
+use sci_words::{Op, WORDS_PER_LINE};
+use std::alloc::{AllocError, Global};
+
+const WORDS: u8 = WORDS_PER_LINE as u8;
+
+/// A word of memory.
+#[derive(Clone, Copy)]
+pub struct Place {
+    /// Its line.
+    pub line: u8,
+    /// Its place in the line, below 8.
+    pub word: u8,
+}
+
+/// Whether some of the operations may write the word at a place.
+fn is_written(place: Place, operations: &[(u8, Op)]) -> bool
+    ensures { result ≡ is_written_of operations.now place }
+{
+    operations.iter().any(|(_, op)| op.is_maker() && op.line == place.line && op.word == place.word)
+}
+
+/// Appends the words of a line that some of the operations may write.
+fn push_written(
+    places: &mut Vec<Place>,
+    line: u8,
+    operations: &[(u8, Op)],
+) -> Result<(), AllocError>
+    ensures { OnOk result (places.new.items ≡ places.old.items ++ written_on operations.now line) }
+{
+    for word in 0..WORDS {
+        let place = Place { line, word };
+        if is_written(place, operations) {
+            places.push(place)?;
+        }
+    }
+    Ok(())
+}
+
+/// The words of this many lines that some of the operations may write, by line, then by place. Refused if memory is.
+pub fn written_places(
+    alloc: Global,
+    lines: u8,
+    operations: &[(u8, Op)],
+) -> Result<Vec<Place>, AllocError>
+    ensures places { IfOk result (λ places. places.items ≡ written_places_of lines operations.now) }
+    ensures within { IfOk result (λ places. All (IsPlaceWithin lines) places.items) }
+{
+    let mut places = Vec::new(alloc);
+    for line in 0..lines {
+        push_written(&mut places, line, operations)?;
+    }
+    Ok(places)
+}
