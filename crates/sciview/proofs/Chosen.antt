@@ -11,7 +11,7 @@ use Rattle.sciview.specs.declared.choice.Command.TheVariants as commands
 use Rattle.sciview.specs.declared.complaint.Complaint.{Complaint}
 use Rattle.sciview.specs.declared.complaint.Complaint.TheVariants as complaints
 use Rattle.sciview.specs.declared.verb.Verb.{Verb}
-use Rattle.sciview.specs.declared.verb.Verb.TheVariants.{Chart, Check, Explain, Judge, Lists, Order, Outcomes, Packets, Random, Run, Stats, Trace}
+use Rattle.sciview.specs.declared.verb.Verb.TheVariants.{Allowed, Chart, Check, Explain, Judge, Lists, Order, Outcomes, Packets, Random, Run, Stats, Trace}
 use Rattle.sciview.specs.Choice.{Asks, Chooses, ChoosesOf, IsChosenBy, IsHelp, command_of, file_words, is_refused, options_of, shown_in, verb_word}
 
 -- a command that reads a text
@@ -125,6 +125,7 @@ verbs_begin Explain = refl
 verbs_begin Judge = refl
 verbs_begin Run = refl
 verbs_begin Outcomes = refl
+verbs_begin Allowed = refl
 verbs_begin Check = refl
 verbs_begin Packets = refl
 verbs_begin Trace = refl

@@ -18,7 +18,7 @@ use Rattle.sciview.specs.declared.choice.{Choice.{Choice}, Command.{Command}}
 use Rattle.sciview.specs.declared.choice.Command.TheVariants as commands
 use Rattle.sciview.specs.declared.complaint.Complaint.{Complaint, TheVariants.{Memory}}
 use Rattle.sciview.specs.declared.verb.Verb.{Verb}
-use Rattle.sciview.specs.declared.verb.Verb.TheVariants.{Chart, Check, Explain, Judge, Lists, Order, Outcomes, Packets, Random, Run, Stats, Trace}
+use Rattle.sciview.specs.declared.verb.Verb.TheVariants.{Allowed, Chart, Check, Explain, Judge, Lists, Order, Outcomes, Packets, Random, Run, Stats, Trace}
 
 -- the word of a command
 abbrev pub verb_word : Verb → List ℕ
@@ -27,6 +27,7 @@ verb_word Explain = codes "explain"
 verb_word Judge = codes "judge"
 verb_word Run = codes "run"
 verb_word Outcomes = codes "outcomes"
+verb_word Allowed = codes "allowed"
 verb_word Check = codes "check"
 verb_word Packets = codes "packets"
 verb_word Trace = codes "trace"
@@ -55,6 +56,7 @@ options_of Judge = flag options.Times ∷ []
 options_of Run = number_from options.Seed 0 0xffff_ffff_ffff_ffff ∷ flag options.InOrder ∷ number_from options.Turns 0 0xffff_ffff_ffff_ffff ∷ []
 options_of Outcomes = number_from options.Runs 1 MAX_RUNS ∷ number_from options.Seed 0 0xffff_ffff_ffff_ffff ∷ flag options.Threads
     ∷ flag options.InOrder ∷ []
+options_of Allowed = flag options.InOrder ∷ number_from options.Show 1 0xffff_ffff_ffff_ffff ∷ []
 options_of Trace = flag options.Json ∷ flag options.Strict ∷ place options.Line MAX_LINES ∷ []
 options_of Lists = place options.Line MAX_LINES ∷ []
 options_of Stats = place options.Line MAX_LINES ∷ place options.Node MAX_NODES ∷ []
@@ -102,6 +104,7 @@ command_of Run settings = Some (commands.Run (record {
   turns = asked_number options.Turns settings;
 }))
 command_of Outcomes settings = option_map (outcomes_asked settings) (asked_turns settings)
+command_of Allowed settings = Some (commands.Allowed (record { issuing = asked_issuing settings; show = asked_number options.Show settings }))
 command_of Check settings = Some commands.Check
 command_of Packets settings = Some commands.Packets
 command_of Trace settings = Some (commands.Trace (record {

@@ -2,8 +2,9 @@
 use Rattle.std.specs.Prelude.{◌≡◌, ℕ, Bool, List, Option, Some, None}
 use Rattle.sci_command.specs.declared.outcome.Outcome.{Outcome, TheVariants.{Done}}
 use Rattle.sciview.specs.declared.{choice.Command.{Command}, verb.Verb.{Verb}, help.TheConstants.{HELP, VERSION}}
-use Rattle.sciview.specs.declared.help.TheConstants.{CHART, CHECK, EXPLAIN, JUDGE, LISTS, ORDER, OUTCOMES, PACKETS, RANDOM, RUN, STATS, TRACE}
-use Rattle.sciview.specs.declared.verb.Verb.TheVariants.{Chart, Check, Explain, Judge, Lists, Order, Outcomes, Packets, Random, Run, Stats, Trace}
+use Rattle.sciview.specs.declared.help.TheConstants.{ALLOWED, CHART, CHECK, EXPLAIN, JUDGE, LISTS, ORDER, OUTCOMES, PACKETS, RANDOM, RUN, STATS, TRACE}
+use Rattle.sciview.specs.declared.verb.Verb.TheVariants.{Allowed, Chart, Check, Explain, Judge, Lists, Order, Outcomes, Packets, Random, Run, Stats, Trace}
+use Rattle.sci_allowed.specs.AllowedAnswer.{IsAllowedAnswer}
 use Rattle.sci_axe.specs.JudgeAnswer.{IsJudgeAnswer}
 use Rattle.sci_charts.specs.ChartAnswer.{IsChartAnswer}
 use Rattle.sci_reports.specs.{CheckAnswer.{IsCheckAnswer}, ExplainAnswer.{IsExplainAnswer}, OrderAnswer.{IsOrderAnswer}}
@@ -20,6 +21,7 @@ help_text Explain = EXPLAIN.now
 help_text Judge = JUDGE.now
 help_text Run = RUN.now
 help_text Outcomes = OUTCOMES.now
+help_text Allowed = ALLOWED.now
 help_text Check = CHECK.now
 help_text Packets = PACKETS.now
 help_text Trace = TRACE.now
@@ -47,5 +49,6 @@ IsAnswerTo (commands.Chart request) = IsChartAnswer request
 IsAnswerTo (commands.Random walk dead) = λ input failed. IsRandomAnswer walk dead
 IsAnswerTo (commands.Run request) = IsRunAnswer request
 IsAnswerTo (commands.Outcomes request) = IsOutcomesAnswer request
+IsAnswerTo (commands.Allowed request) = IsAllowedAnswer request
 IsAnswerTo (commands.Help verb) = λ input failed text outcome. (text ≡ help_for verb) × (outcome ≡ Done)
 IsAnswerTo commands.Version = λ input failed text outcome. (text ≡ VERSION.now) × (outcome ≡ Done)

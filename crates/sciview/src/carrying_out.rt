@@ -7,6 +7,7 @@ ghost use Rattle.sciview.specs.CommandAnswer.{IsAnswerTo};
 
 use crate::choice::Command;
 use crate::help::{VERSION, help_of};
+use sci_allowed::allowed;
 use sci_axe::judge_trace;
 use sci_charts::chart;
 use sci_command::{Ended, Outcome, show, write_answer};
@@ -63,6 +64,7 @@ pub fn carried_out<T: Threads + Sync, R: Read, W: Write>(
         Command::Random { walk, dead } => { show(writer, random_schedule(alloc, &walk, dead)) }
         Command::Run(request) => show(writer, run(alloc, request, reader)),
         Command::Outcomes(request) => { show(writer, outcomes_of(rt, alloc, request, reader)) }
+        Command::Allowed(request) => show(writer, allowed(alloc, request, reader)),
         Command::Help(verb) => show_words(writer, help_of(verb)),
         Command::Version => show_words(writer, VERSION),
     }

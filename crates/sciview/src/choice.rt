@@ -8,6 +8,7 @@ ghost use Rattle.sci_walks.specs.declared.random.Walk.{Walk};
 
 use crate::complaint::{Complaint, Problem};
 use crate::verb::Verb;
+use sci_allowed::AllowedRequest;
 use sci_axe::JudgeRequest;
 use sci_charts::{ChartRequest, TextLines};
 use sci_command::texts_of;
@@ -48,6 +49,8 @@ pub enum Command {
     Run(RunRequest),
     /// Write the outcomes of a script's runs.
     Outcomes(OutcomesRequest),
+    /// Write all outcomes that a script's runs can have.
+    Allowed(AllowedRequest),
     /// Write what the program knows, or how one command is called and what it does.
     Help(Option<Verb>),
     /// Write which version of the program it is.
@@ -97,6 +100,7 @@ impl Command {
             Command::Random { .. } => Verb::Random.name(),
             Command::Run(_) => Verb::Run.name(),
             Command::Outcomes(_) => Verb::Outcomes.name(),
+            Command::Allowed(_) => Verb::Allowed.name(),
             Command::Help(_) | Command::Version => "sciview",
         }
     }
@@ -170,6 +174,10 @@ fn command_of(verb: Verb, given: &Given) -> Option<Command>
             runs: given.number(OptionName::Runs),
             turns: turns_of(given)?,
             issuing: issuing_of(given),
+        }),
+        Verb::Allowed => Command::Allowed(AllowedRequest {
+            issuing: issuing_of(given),
+            show: given.number(OptionName::Show),
         }),
         Verb::Check => Command::Check,
         Verb::Packets => Command::Packets,

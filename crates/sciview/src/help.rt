@@ -7,7 +7,7 @@ use crate::verb::Verb;
 
 /// How the program is called.
 pub const USAGE: &str =
-    "usage: sciview COMMAND [OPTIONS] [FILE]; COMMAND is order, explain, judge, check, packets, trace, lists, stats, chart, random, run or outcomes";
+    "usage: sciview COMMAND [OPTIONS] [FILE]; COMMAND is order, explain, judge, check, packets, trace, lists, stats, chart, random, run, outcomes or allowed";
 
 /// What stands below the usage line on standard error.
 pub const MANUAL: &str = "sciview --help says what each command does. The manual is sciview(1).";
@@ -24,6 +24,7 @@ usage: sciview COMMAND [OPTIONS] [FILE]
   judge      whether another machine's trace is coherent, and else why not
   run        the schedule of a script's run
   outcomes   how often each outcome of a script comes
+  allowed    all outcomes that a script can have, and a schedule to each
   check      what a text is, or where and why it is none
   packets    the bytes of the packets that a schedule sends
   trace      what each event of a schedule does, or why it isn't enabled
@@ -105,6 +106,18 @@ the first of them, and whether one memory explains it in the order of the script
   --seed S      by the seeds from S on, and not from 1
   --threads     by threads, and not by seeds
   --in-order    a node has one operation pending, and not up to four
+";
+
+/// What `allowed --help` writes.
+pub const ALLOWED: &str = "\
+usage: sciview allowed [--in-order] [--show K] [FILE]
+
+Of a script: each outcome that a run of it can have, whatever takes the turns:
+what each load and lock operation replied, the words at the end, and whether a
+run in the order of the script can have it.
+
+  --in-order    a node has one operation pending, and not up to four
+  --show K      the schedule of a run with the outcome of line K, and no lines
 ";
 
 /// What `check --help` writes.
@@ -201,6 +214,7 @@ impl Verb {
             Verb::Judge => JUDGE,
             Verb::Run => RUN,
             Verb::Outcomes => OUTCOMES,
+            Verb::Allowed => ALLOWED,
             Verb::Check => CHECK,
             Verb::Packets => PACKETS,
             Verb::Trace => TRACE,

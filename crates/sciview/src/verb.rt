@@ -21,6 +21,8 @@ pub enum Verb {
     Run,
     /// The outcomes of a script's runs.
     Outcomes,
+    /// All outcomes that a script's runs can have.
+    Allowed,
     /// Which kind of text the input is.
     Check,
     /// The packets that a schedule sends.
@@ -96,6 +98,14 @@ const SHOW: OptionRow = OptionRow {
     argument: Argument::Nothing,
 };
 
+const SHOW_ROW: OptionRow = OptionRow {
+    name: OptionName::Show,
+    argument: Argument::Number {
+        least: 1,
+        greatest: u64::MAX,
+    },
+};
+
 const STRICT: OptionRow = OptionRow {
     name: OptionName::Strict,
     argument: Argument::Nothing,
@@ -130,6 +140,7 @@ impl Verb {
             "judge" => Some(Verb::Judge),
             "run" => Some(Verb::Run),
             "outcomes" => Some(Verb::Outcomes),
+            "allowed" => Some(Verb::Allowed),
             "check" => Some(Verb::Check),
             "packets" => Some(Verb::Packets),
             "trace" => Some(Verb::Trace),
@@ -150,6 +161,7 @@ impl Verb {
             Verb::Judge => &[TIMES],
             Verb::Run => &[SEED, IN_ORDER, TURNS],
             Verb::Outcomes => &[RUNS, SEED, THREADS, IN_ORDER],
+            Verb::Allowed => &[IN_ORDER, SHOW_ROW],
             Verb::Trace => &[JSON, STRICT, LINE],
             Verb::Lists => &[LINE],
             Verb::Stats => &[LINE, NODE],
@@ -167,6 +179,7 @@ impl Verb {
             Verb::Judge => "sciview judge",
             Verb::Run => "sciview run",
             Verb::Outcomes => "sciview outcomes",
+            Verb::Allowed => "sciview allowed",
             Verb::Check => "sciview check",
             Verb::Packets => "sciview packets",
             Verb::Trace => "sciview trace",

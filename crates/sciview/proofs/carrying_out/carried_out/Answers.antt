@@ -6,6 +6,7 @@ use Rattle.sci_command.specs.declared.{outcome.Outcome.{Outcome, TheVariants.{Do
 use Rattle.sci_command.specs.{Answer.{IsAnswerAlone}, AskedLine.{IsAskedFault}, Writing.{HasWritten}}
 use Rattle.sci_command.proofs.Finished.{answered_by, carried_out}
 use Rattle.sciview.specs.declared.help.TheConstants.{VERSION}
+use Rattle.sci_allowed.specs.AllowedAnswer.{IsAllowedAnswer, IsAllowedRefusal}
 use Rattle.sci_axe.specs.{JudgeAnswer.{IsJudgeAnswer}, Trace.{IsTraceFault}}
 use Rattle.sci_charts.specs.ChartAnswer.{IsChartAnswer}
 use Rattle.sci_reports.specs.{CheckAnswer.{IsCheckAnswer, IsLastFault}, ExplainAnswer.{IsExplainAnswer}}
@@ -95,6 +96,13 @@ returns-in-Outcomes g c =
     let given_up = IsGivenUpScript c.in-Outcomes.request in
     rw c.in-Outcomes.is (carried_out (IsOutcomesAnswer c.in-Outcomes.request) (IsRunRefusal given_up) c.outcomes_of.result shown.result.refusal
     (λ text is. is) c.outcomes_of.ensures shown.ensures.refusal shown.ensures.written shown.ensures.again)
+
+pub returns-in-Allowed : goal.returns-in-Allowed
+returns-in-Allowed g c =
+    let shown = c.show-in-Allowed in
+    let request = c.in-Allowed.request in
+    rw c.in-Allowed.is (carried_out (IsAllowedAnswer request) (IsAllowedRefusal request) c.allowed.result shown.result.refusal (λ text is. is)
+    c.allowed.ensures shown.ensures.refusal shown.ensures.written shown.ensures.again)
 
 pub returns-in-Random : goal.returns-in-Random
 returns-in-Random g c =
