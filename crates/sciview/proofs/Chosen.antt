@@ -23,14 +23,18 @@ asks_text verb settings alone command file other = (λ h. h, λ h. h)
 unsome : {A : Type 0} (x y : A) → Some x ≡ Some y → x ≡ y
 unsome x y same = cc
 
+-- a command, and the file that it reads
+abbrev of_file : Command → Option (List ℕ) → Option (Command × Option (List ℕ))
+of_file command file = Some (command, file)
+
 -- a command that reads a text, and the file that words name, are what is asked of it, and nothing else is
 pub asked_text : (verb : Verb) (settings : List Setting) (alone : List (List ℕ)) (asked : Command) (named : Option (List ℕ)) → ¬ (verb ≡ Random)
     → command_of verb settings ≡ Some asked → ((file : Option (List ℕ)) → (Some named ≡ Some file) ↔ (alone ≡ file_words file))
-    → (command : Command) (file : Option (List ℕ)) → (Some (asked, named) ≡ Some (command, file)) ↔ Asks verb settings alone command file
+    → (command : Command) (file : Option (List ℕ)) → (of_file asked named ≡ of_file command file) ↔ Asks verb settings alone command file
 asked_text verb settings alone asked named other is files command file =
     let text = asks_text verb settings alone command file other in (
       λ same.
-          let pair = unsome (asked, named) (command, file) same in
+          let pair = unsome {A = Command × Option (List ℕ)} (asked, named) (command, file) same in
           let first : asked ≡ command = ap (λ p. p.0) pair in
           let second : named ≡ file = ap (λ p. p.1) pair in
           text.1 (is ∙ ap (λ (c : Command). Some c) first, (files file).0 (ap (λ (f : Option (List ℕ)). Some f) second)),
@@ -38,7 +42,7 @@ asked_text verb settings alone asked named other is files command file =
           let two = text.0 asks in
           let first : asked ≡ command = unsome asked command (sym is ∙ two.0) in
           let second : named ≡ file = unsome named file ((files file).1 two.1) in
-          ap (λ (c : Command). Some (c, named)) first ∙ ap (λ (f : Option (List ℕ)). Some (command, f)) second,
+          ap (λ (c : Command). of_file c named) first ∙ ap (λ (f : Option (List ℕ)). of_file command f) second,
     )
 
 -- a verb that a word chooses is the only one of that word
