@@ -9,3 +9,4 @@ pub mod Litmuses
 pub mod Replies
 pub mod Schedules
 pub mod Refusing
+pub mod Searching

@@ -95,6 +95,10 @@ AreSeenAt script standings outcomes = map shown_of outcomes ≡ map (λ standing
 abbrev pub is_among : List Outcome → Outcome → Bool
 is_among outcomes outcome = list_any (λ other. (TheEquality.ghosts).eq other outcome) outcomes
 
+-- the outcomes of runs in order are sorted, each once
+abbrev pub AreSorted : Rows → Type 0
+AreSorted rows = IsStrictlySortedBy outcome_cmp rows.in_order.items
+
 -- the rows of the outcomes
 abbrev pub rows_of : Rows → List (Outcome × Bool)
 rows_of rows = map (λ outcome. (outcome, is_among rows.in_order.items outcome)) rows.outcomes.items

@@ -4,7 +4,7 @@ ghost use Rattle.std.specs.Prelude.{◌≡◌, ◌++◌, ◌⊎◌, ℕ, Some, f
 ghost use Rattle.sci_text.specs.Tap.{has_failed};
 ghost use Rattle.sci_command.specs.Answer.{HasAnswered};
 ghost use Rattle.sci_drive.specs.Rounds.{most_pending};
-ghost use Rattle.sci_allowed.specs.Allowed.{IsLitmus, IsTooBig, IsTooLong, kind_of, rows_of};
+ghost use Rattle.sci_allowed.specs.Allowed.{AreSorted, IsLitmus, IsTooBig, IsTooLong, kind_of, rows_of};
 ghost use Rattle.sci_allowed.specs.AllowedAnswer.{IsAllowedAnswer, IsAllowedRefusal, IsShownText, IsTextOf, LacksNumber, row_text, rows_text as rows_text_of, total_text};
 ghost use Rattle.sci_allowed.specs.declared.fault.AllowedFault.TheVariants.{NoRow, TooLong, TooMany};
 
@@ -59,6 +59,7 @@ fn push_total(out: &mut Vec<u8>, rows: u64) -> Result<(), AllocError>
 
 /// The text of the rows.
 fn rows_text(alloc: Global, rows: &Rows) -> Result<Vec<u8>, AllocError>
+    requires { AreSorted rows.now }
     ensures { IfOk result (λ text. text.items ≡ rows_text_of (rows_of rows.now)) }
 {
     let mut text = Vec::new(alloc);

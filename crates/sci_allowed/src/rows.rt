@@ -2,7 +2,7 @@
 
 ghost use Rattle.std.specs.Prelude.{◌≡◌, IfErr, IfOk};
 ghost use Rattle.sci_orders.specs.declared.fault.OrdersFault.TheVariants.{TooMany};
-ghost use Rattle.sci_allowed.specs.Allowed.{AreRows, IsLitmus, IsTooBig, is_among, rows_of};
+ghost use Rattle.sci_allowed.specs.Allowed.{AreRows, AreSorted, IsLitmus, IsTooBig, is_among, rows_of};
 
 use crate::litmus::Litmus;
 use crate::outcome::Outcome;
@@ -14,7 +14,7 @@ use std::alloc::Global;
 pub(crate) struct Rows {
     /// All outcomes, sorted.
     pub(crate) outcomes: Vec<Outcome>,
-    /// Those of runs in which each node goes in order.
+    /// Those of runs in which each node goes in order, sorted.
     in_order: Vec<Outcome>,
 }
 
@@ -24,6 +24,7 @@ impl Rows {
     pub(crate) fn of(alloc: Global, litmus: &Litmus, window: usize) -> Result<Rows, OrdersFault>
         requires { IsLitmus litmus.now }
         ensures rows { IfOk result (λ rows. AreRows litmus.now.script window (rows_of rows)) }
+        ensures sorted { IfOk result AreSorted }
         ensures many { IfErr result (λ fault. fault ≡ TooMany → IsTooBig litmus.now.script window) }
     {
         Ok(Rows {
@@ -34,8 +35,9 @@ impl Rows {
 
     /// Whether an outcome is that of a run in which each node goes in order.
     pub(crate) fn is_in_order(&self, outcome: &Outcome) -> bool
+        requires { AreSorted self.now }
         ensures { result ≡ is_among self.now.in_order.items outcome.now }
     {
-        self.in_order.contains(outcome)
+        self.in_order.binary_search(outcome).is_ok()
     }
 }
