@@ -3,7 +3,7 @@ use Rattle.std.proofs.Common.{◌≡◌, ◌↔◌, ◌⊎◌, ℕ, Bool, true, 
 use Rattle.std.specs.Prelude.{codes, option_map, Result, Ok, Err}
 use Rattle.sci_options.specs.declared.given.{Given.{Given}, Wrong.{Wrong}}
 use Rattle.sci_options.specs.declared.given.Wrong.TheVariants as wrongs
-use Rattle.sci_options.specs.declared.setting.Setting.{Setting}
+use Rattle.sci_options.specs.declared.setting.{OptionRow.{OptionRow}, Setting.{Setting}}
 use Rattle.sci_options.specs.Options.{IsGiven, begins_option}
 use Rattle.sci_options.specs.Given.{IsReading, lacks_memory, texts}
 use Rattle.sciview.specs.declared.choice.{Choice.{Choice}, Command.{Command}}
@@ -66,6 +66,12 @@ refused Chosen complaints.Memory is = tt
 refused Chosen complaint is = absurd (cc)
 
 -- ---- the words behind a command
+
+-- what is read by the table of a command
+pub by_table : (verb : Verb) (options : List OptionRow) (words : List (List ℕ)) (read want : Result Given Wrong) → options ≡ options_of verb → read ≡ want
+    → IsReading options words read → IsReading (options_of verb) words want
+by_table verb options words read want is so reading =
+    subst (λ (r : Result Given Wrong). IsReading (options_of verb) words r) so (subst (λ (o : List OptionRow). IsReading o words read) is reading)
 
 -- what is read of the options and of the words that stand alone
 abbrev pub IsAsked : Verb → Given → Option Choice → Type 0
