@@ -105,8 +105,9 @@ def is_whole(ran, case):
 
 
 def is_memory(ran, case, program):
-    """Whether memory is told and nothing else; or, if the command line couldn't be read, the usage line."""
-    if ran.told != b"a" and ran[:3] == (2, b"", case.usage):
+    """Whether memory is told and nothing else; or, if the command line couldn't be read, the usage line, or why there is none."""
+    unread_words = case.usage, b"sciview: there is no memory for the words\n"
+    if ran.told != b"a" and ran[:2] == (2, b"") and ran.errors in unread_words:
         return True
     return ran[:3] == refused(program, case, b"memory", b"out of memory")
 
