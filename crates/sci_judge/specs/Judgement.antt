@@ -1,6 +1,7 @@
 -- What the judge answers.
-use Rattle.std.specs.Prelude.{◌≡◌, ◌≢◌, ◌<◌, ◌≤◌, ◌==◌, ℕ, Bool, List, Option, None, All, filter, length, slice_index_or}
-use Rattle.sci_judge.specs.declared.{access.Access.{Access}, finding.Finding.{Finding}}
+use Rattle.std.specs.Prelude.{◌≡◌, ◌⊎◌, ◌==◌, ℕ, Bool, true, List, Option, IsSome, filter}
+use Rattle.std.specs.{BTreeMap.{get}, List.{list_any}, Ordering.{nat_cmp}}
+use Rattle.sci_judge.specs.declared.{access.Access.{Access}, finding.Finding.{Finding}, trace.Trace.{Trace}}
 use Rattle.sci_judge.specs.declared.finding.Finding.TheVariants as found
 use Rattle.sci_judge.specs.declared.judging.Judgement.{Judgement}
 use Rattle.sci_judge.specs.declared.judging.Judgement.TheVariants as judged
@@ -21,21 +22,21 @@ is_at address access = access.address == address
 abbrev pub at_address : ℕ → List Access → List Access
 at_address address accesses = filter (is_at address) accesses
 
--- the operations at one address have this answer
-abbrev pub IsFoundAt : (timed : Bool) → (accesses : List Access) → (address : ℕ) → Finding → Type 0
-IsFoundAt timed accesses address finding = IsFinding timed (at_address address accesses) None finding
+-- the last word at an address, if the trace has it
+abbrev pub last_at : ℕ → Trace → Option ℕ
+last_at address trace = get nat_cmp trace.last address
+
+-- the trace has an operation or a last word at this address
+abbrev pub Names : Trace → ℕ → Type 0
+Names trace address = (list_any (is_at address) trace.accesses.items ≡ true) ⊎ IsSome (last_at address trace)
+
+-- the operations at one address and the last word there have this answer
+abbrev pub IsFoundAt : (timed : Bool) → Trace → (address : ℕ) → Finding → Type 0
+IsFoundAt timed trace address finding = IsFinding timed (at_address address trace.accesses.items) (last_at address trace) finding
 
 -- what is answered of a trace holds of it: at each address that it names, or at the one that is answered
-abbrev pub IsJudgement : (timed : Bool) → List Access → Judgement → Type 0
-IsJudgement timed accesses judged.Coherent = All (λ access. IsFoundAt timed accesses access.address found.Coherent) accesses
-IsJudgement timed accesses (judged.NotCoherent address there witness) =
-    (there.items ≡ at_address address accesses) × IsFoundAt timed accesses address (found.NotCoherent witness)
-IsJudgement timed accesses (judged.Undecided address) = Unit {0}
-
--- from a place on, operations have its address up to an end, and the next one hasn't
-pub record IsRun (accesses : List Access) (start end : ℕ) : Type 0 where
-  pub some : start < end
-  pub within : end ≤ length accesses
-  pub same : (place : ℕ) (d : Access) → start ≤ place → place < end
-      → (slice_index_or accesses place d).address ≡ (slice_index_or accesses start d).address
-  pub ends : (d : Access) → end < length accesses → (slice_index_or accesses end d).address ≢ (slice_index_or accesses start d).address
+abbrev pub IsJudgement : (timed : Bool) → Trace → Judgement → Type 0
+IsJudgement timed trace judged.Coherent = (address : ℕ) → Names trace address → IsFoundAt timed trace address found.Coherent
+IsJudgement timed trace (judged.NotCoherent address there witness) =
+    (there.items ≡ at_address address trace.accesses.items) × IsFoundAt timed trace address (found.NotCoherent witness)
+IsJudgement timed trace (judged.Undecided address) = Unit {0}

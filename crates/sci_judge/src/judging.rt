@@ -1,15 +1,17 @@
 //! The judge of a trace: each address by itself.
 
-ghost use Rattle.std.specs.Prelude.{◌≡◌, ◌<◌, ◌≤◌, ℕ, IfOk, filter, length, slice_index_or};
-ghost use Rattle.std.specs.List.Sorted.{IsNonDecreasingBy, IsPermutation};
-ghost use Rattle.sci_judge.specs.declared.access.Access.{Access};
-ghost use Rattle.sci_judge.specs.{Access.{AreKnown}, Judgement.{IsJudgement, IsRun, is_at}};
+ghost use Rattle.std.specs.Prelude.{◌≡◌, ℕ, true, IfOk, filter};
+ghost use Rattle.std.specs.{BTreeSet.{contains}, List.{list_any}, Ordering.{nat_cmp}};
+ghost use Rattle.std.specs.List.Sorted.{IsNonDecreasingBy};
+ghost use Rattle.sci_judge.specs.{Access.{AreKnown}, Judgement.{IsJudgement, Names, at_address, is_at}};
 
 use crate::access::Access;
 use crate::finding::Finding;
 use crate::site::Site;
+use crate::trace::Trace;
 use crate::witness::Witness;
 use std::alloc::{AllocError, Global};
+use std::collections::BTreeSet;
 
 /// What is found of a trace.
 #[derive(Debug, Drop)]
@@ -33,7 +35,6 @@ pub enum Judgement {
 fn by_address(alloc: Global, accesses: &[Access]) -> Result<Vec<Access>, AllocError>
     ensures rising { IfOk result
         (λ sorted. IsNonDecreasingBy (λ access. access.address) sorted.items) }
-    ensures moved { IfOk result (λ sorted. IsPermutation accesses.now sorted.items) }
     ensures same { IfOk result (λ sorted. (address : ℕ) →
         filter (is_at address) sorted.items ≡ filter (is_at address) accesses.now) }
 {
@@ -42,45 +43,56 @@ fn by_address(alloc: Global, accesses: &[Access]) -> Result<Vec<Access>, AllocEr
     Ok(sorted)
 }
 
-/// The address of the operation at a place.
-fn address_at(sorted: &[Access], place: usize) -> u64
-    requires { place < length sorted.now }
-    ensures { (d : Access) → result ≡ (slice_index_or sorted.now place d).address }
+/// The operations at an address, of operations by their addresses.
+fn operations_at(sorted: &[Access], address: u64) -> &[Access]
+    requires { IsNonDecreasingBy (λ access. access.address) sorted.now }
+    ensures { result.now ≡ at_address address sorted.now }
 {
-    sorted[place].address
+    let start = sorted.partition_point(|access| access.address < address);
+    let end = sorted.partition_point(|access| access.address <= address);
+    &sorted[start..end]
 }
 
-/// The end of the operations that have the address of the one at a place, from there on.
-fn end_of_run(sorted: &[Access], start: usize) -> usize
-    requires { start < length sorted.now }
-    ensures { IsRun sorted.now start result }
+/// The addresses of operations.
+fn addresses_of(alloc: Global, accesses: &[Access]) -> Result<BTreeSet<u64>, AllocError>
+    ensures { IfOk result (λ set. (address : ℕ) →
+        contains nat_cmp set address ≡ list_any (is_at address) accesses.now) }
 {
-    let address = sorted[start].address;
-    for place in start + 1..sorted.len() {
-        if sorted[place].address != address {
-            return place;
-        }
+    let mut addresses = BTreeSet::new(alloc);
+    for access in accesses {
+        addresses.insert(access.address)?;
     }
-    sorted.len()
+    Ok(addresses)
 }
 
-/// Judges a trace: Coherent if the operations at each address are, and else the lowest address at which they aren't, or at which
-/// nothing was found. Refused only if memory is. If `timed` is set, what ended before another operation at its address began
-/// has to stand before it.
-pub fn judge(alloc: Global, accesses: &[Access], timed: bool) -> Result<Judgement, AllocError>
-    requires { AreKnown accesses.now }
-    ensures { IfOk result (IsJudgement timed accesses.now) }
+/// The addresses that a trace names.
+fn named(alloc: Global, trace: &Trace) -> Result<BTreeSet<u64>, AllocError>
+    ensures { IfOk result (λ set. (address : ℕ) → Names trace.now address →
+        contains nat_cmp set address ≡ true) }
 {
-    let sorted = by_address(alloc, accesses)?;
-    let mut start = 0;
-    while start < sorted.len() {
-        let end = end_of_run(&sorted, start);
+    let mut addresses = addresses_of(alloc, &trace.accesses)?;
+    for address in trace.last.keys() {
+        addresses.insert(*address)?;
+    }
+    Ok(addresses)
+}
+
+/// Judges a trace: Coherent if the operations at each address are, with the last word there if it is known, and else the lowest
+/// address at which they aren't, or at which nothing was found. Refused only if memory is. If `timed` is set, what ended before
+/// another operation at its address began has to stand before it.
+pub fn judge(alloc: Global, trace: &Trace, timed: bool) -> Result<Judgement, AllocError>
+    requires { AreKnown trace.now.accesses.items }
+    ensures { IfOk result (IsJudgement timed trace.now) }
+{
+    let sorted = by_address(alloc, &trace.accesses)?;
+    let addresses = named(alloc, trace)?;
+    for at in addresses.iter() {
+        let address = *at;
         let site = Site {
-            accesses: &sorted[start..end],
-            last: None,
+            accesses: operations_at(&sorted, address),
+            last: trace.last.get(&address).copied(),
             timed,
         };
-        let address = address_at(&sorted, start);
         match site.judge(alloc)? {
             Finding::Coherent => {}
             Finding::NotCoherent(witness) => {
@@ -93,7 +105,6 @@ pub fn judge(alloc: Global, accesses: &[Access], timed: bool) -> Result<Judgemen
             }
             Finding::Undecided => return Ok(Judgement::Undecided { address }),
         }
-        start = end;
     }
     Ok(Judgement::Coherent)
 }

@@ -13,6 +13,7 @@ mod site;
 mod stretches;
 mod times;
 mod timing;
+mod trace;
 mod witness;
 
 pub use access::{Access, Kind};
@@ -20,4 +21,5 @@ pub use finding::Finding;
 pub use judging::{Judgement, judge};
 pub use laws::witnesses_rule_out_coherence;
 pub use site::Site;
+pub use trace::Trace;
 pub use witness::{Claim, Step, Witness};

@@ -1,5 +1,4 @@
-use Rattle.std.proofs.{Common.{ap, ◌∙◌, subst, rules}, lemmas.List.Sorted.{IsNonDecreasingBy-from_sort_by_key, answers_always}}
-use Rattle.std.specs.List.Sorted.{IsPermutation}
+use Rattle.std.proofs.{Common.{ap, ◌∙◌, rules}, lemmas.List.Sorted.{IsNonDecreasingBy-from_sort_by_key, answers_always}}
 use Rattle.sci_judge.specs.{declared.access.Access.{Access}, Judgement.{at_address}}
 use Rattle.sci_judge.proofs.Runs.{same_at}
 use Rattle.sci_judge.proofs.judging.by_address.Goals as goal
@@ -10,7 +9,6 @@ returns c =
     let sorts = c.in_ok-sort_by_key.ensures in
     record {
       rising = IsNonDecreasingBy-from_sort_by_key address _ sorts.sorted (λ a r f called. search rules);
-      moved = subst (λ xs. IsPermutation xs c.sort_by_key.new.self.items) c.in_ok-sorted.ensures.items sorts.permutation;
       same = λ k. same_at c.in_ok-sorted.sorted.items c.sort_by_key.new.self.items
           (sorts.stable address (answers_always _ _ _ (λ f a r g called. search rules))) k
           ∙ ap (at_address k) c.in_ok-sorted.ensures.items;
