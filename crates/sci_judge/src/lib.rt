@@ -4,6 +4,7 @@
 mod access;
 mod chains;
 mod checking;
+mod ending;
 mod explaining;
 mod finding;
 mod judging;

@@ -222,5 +222,6 @@ pub fn versions(alloc: Global, chains: &Chains) -> Result<Vec<u64>, Stop> {
         let edges = round(alloc, chains, &placing)?;
         return Err(Stop::Refuted(circle(alloc, chains, &edges)?));
     }
-    chains.versions(alloc, &placing.order)
+    let order = chains.ended(alloc, &placing.order)?;
+    chains.versions(alloc, &order)
 }

@@ -67,13 +67,22 @@ pub struct Stretches {
     pub last: Option<usize>,
 }
 
-/// The stretch of each word that is written, and the operation that wrote it.
-fn written(
-    alloc: Global,
-    site: &Site,
-) -> Result<(BTreeMap<Word, usize>, Vec<Option<usize>>), Stop> {
+/// The words that are written.
+#[derive(Drop)]
+struct WrittenWords {
+    /// The stretch of each word.
+    stretches: BTreeMap<Word, usize>,
+    /// Of each stretch the operation that wrote it.
+    writers: Vec<Option<usize>>,
+    /// Whether each word is written once, and never 0.
+    once: bool,
+}
+
+/// The words that are written.
+fn written(alloc: Global, site: &Site) -> Result<WrittenWords, Stop> {
     let mut stretches = BTreeMap::new(alloc);
     let mut writers = Vec::new(alloc);
+    let mut once = true;
     writers.push(None)?;
     for (place, access) in site.accesses.iter().enumerate() {
         if !access.kind.is_writing() {
@@ -81,11 +90,15 @@ fn written(
         }
         let word = access.kind.left();
         if word == 0 || stretches.insert(word, writers.len())?.is_some() {
-            return Err(Stop::GaveUp);
+            once = false;
         }
         writers.push(Some(place))?;
     }
-    Ok((stretches, writers))
+    Ok(WrittenWords {
+        stretches,
+        writers,
+        once,
+    })
 }
 
 /// The stretch of a word, or None if nobody wrote it.
@@ -99,7 +112,11 @@ fn stretch_of(stretches: &BTreeMap<Word, usize>, word: Word) -> Option<usize> {
 impl Stretches {
     /// The stretches of operations.
     pub fn new(alloc: Global, site: &Site) -> Result<Stretches, Stop> {
-        let (stretches, writer) = written(alloc, site)?;
+        let WrittenWords {
+            stretches,
+            writers,
+            once,
+        } = written(alloc, site)?;
         let mut found = Vec::with_capacity(alloc, site.accesses.len())?;
         let mut left = Vec::with_capacity(alloc, site.accesses.len())?;
         for (place, access) in site.accesses.iter().enumerate() {
@@ -119,11 +136,14 @@ impl Stretches {
                 known => known,
             },
         };
-        let leaver = leavers(alloc, site, &found, writer.len())?;
+        if !once {
+            return Err(Stop::GaveUp);
+        }
+        let leaver = leavers(alloc, site, &found, writers.len())?;
         Ok(Stretches {
             found,
             left,
-            writer,
+            writer: writers,
             leaver,
             last,
         })
