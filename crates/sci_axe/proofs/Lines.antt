@@ -1,11 +1,14 @@
 -- Lines of a trace, one after another.
-use Rattle.std.proofs.Common.{◌≡◌, ℕ, suc, ◌+◌, ◌<◌, ◌≤◌, List, [], ◌∷◌, ◌++◌, length, get_or, take, drop, Some, refl, sym, ap, subst, ◌∙◌, arith}
+use Rattle.std.proofs.Common.{◌≡◌, ℕ, suc, ◌+◌, ◌<◌, ◌≤◌, List, [], ◌∷◌, ◌++◌, length, get_or, take, drop, Some, None, refl, sym, ap, subst, ◌∙◌, arith}
 use Rattle.std.proofs.Common.{inl, inr}
 use Rattle.std.proofs.lemmas.{Bool.{cases_eq, eq-eqb, ne_eqb}, List.{append-nil, length-append, take_more}}
 use Rattle.std.proofs.Math.Seq.{drop-cons}
 use Rattle.sci_judge.specs.declared.access.Access.{Access}
-use Rattle.sci_axe.specs.declared.line.Said.{Said, TheVariants.{Nothing, Did}}
-use Rattle.sci_axe.specs.{Line.{line_read}, Trace.{AreSaid, IsAdded, IsKnown, accesses_of, line_split}}
+use Rattle.sci_axe.specs.declared.line.{LastWord.{LastWord}, Said.{Said, TheVariants.{Nothing, Did, Ended}}}
+use Rattle.sci_axe.specs.{Line.{line_read}, Trace.{Agrees, AreAgreed, AreSaid, IsAdded, IsKnown, LastWords, accesses_of, learnt, learnt_from, line_split, no_words}}
+use Rattle.sci_axe.specs.Trace.{IsWrong, is_free_for}
+use Rattle.std.proofs.Common.{Bool, true, false, Option}
+use Rattle.sci_text.specs.declared.fault.TextFaultKind.{TextFaultKind, TheVariants.{Syntax, Range, TooMany, Read, Write, Memory}}
 use Rattle.sci_words.specs.declared.limits.TheConstants.{MAX_NODES}
 use Rattle.sci_judge.specs.Access.{AreKnown}
 use Rattle.std.proofs.lemmas.List.Elements.{All-push}
@@ -107,34 +110,89 @@ pub nothing_more : (said : List Said) → accesses_of (said ++ Nothing ∷ []) �
 nothing_more [] = refl
 nothing_more (Nothing ∷ said) = nothing_more said
 nothing_more (Did a ∷ said) = ap (λ (xs : List Access). a ∷ xs) (nothing_more said)
+nothing_more (Ended l ∷ said) = nothing_more said
+
+pub ended_more : (said : List Said) (last : LastWord) → accesses_of (said ++ Ended last ∷ []) ≡ accesses_of said
+ended_more [] last = refl
+ended_more (Nothing ∷ said) last = ended_more said last
+ended_more (Did a ∷ said) last = ap (λ (xs : List Access). a ∷ xs) (ended_more said last)
+ended_more (Ended l ∷ said) last = ended_more said last
 
 pub access_more : (said : List Said) (access : Access) → accesses_of (said ++ Did access ∷ []) ≡ accesses_of said ++ access ∷ []
 access_more [] access = refl
 access_more (Nothing ∷ said) access = access_more said access
 access_more (Did a ∷ said) access = ap (λ (xs : List Access). a ∷ xs) (access_more said access)
+access_more (Ended l ∷ said) access = access_more said access
 
 added_more : (said : List Said) (next : Said) (accesses new : List Access) → accesses ≡ accesses_of said → IsAdded next accesses new
     → new ≡ accesses_of (said ++ next ∷ [])
 added_more said Nothing accesses new are added = added ∙ (are ∙ sym (nothing_more said))
 added_more said (Did access) accesses new are added =
     added ∙ (ap (λ (xs : List Access). xs ++ access ∷ []) are ∙ sym (access_more said access))
+added_more said (Ended last) accesses new are added = added ∙ (are ∙ sym (ended_more said last))
+
+-- ---- last words
+
+learnt_push : (said : List Said) (known : LastWords) (next : Said) (address : ℕ)
+    → learnt_from known (said ++ next ∷ []) address ≡ learnt (learnt_from known said) next address
+learnt_push [] known next address = refl
+learnt_push (s ∷ said) known next address = learnt_push said (learnt known s) next address
+
+agreed_push : (said : List Said) (known : LastWords) (next : Said) → AreAgreed known said → Agrees (learnt_from known said) next
+    → AreAgreed known (said ++ next ∷ [])
+agreed_push [] known next before agrees = (agrees, tt)
+agreed_push (s ∷ said) known next before agrees = (before.0, agreed_push said (learnt known s) next before.1 agrees)
+
+learnt_same : (f g : LastWords) (next : Said) (address : ℕ) → ((at : ℕ) → f at ≡ g at) → learnt f next address ≡ learnt g next address
+learnt_same f g Nothing address same = same address
+learnt_same f g (Did access) address same = same address
+learnt_same f g (Ended last) address same = rw (same address) refl
+
+agrees_same : (f g : LastWords) (next : Said) → ((at : ℕ) → f at ≡ g at) → Agrees f next → Agrees g next
+agrees_same f g Nothing same agrees = tt
+agrees_same f g (Did access) same agrees = tt
+agrees_same f g (Ended last) same agrees = subst (λ (known : Option ℕ). is_free_for known last.word ≡ true) (same last.address) agrees
+
+-- a line is wrong by what is known, however that is told
+pub wrong_same : (f g : LastWords) (number : ℕ) (bytes : List ℕ) (kind : TextFaultKind) → ((at : ℕ) → f at ≡ g at) → IsWrong f number bytes kind
+    → IsWrong g number bytes kind
+wrong_same f g number bytes Syntax same wrong = wrong
+wrong_same f g number bytes Range same (inl off) = inl off
+wrong_same f g number bytes Range same (inr other) =
+    inr (other.0, other.1, subst (λ (known : Option ℕ). is_free_for known other.0.word ≡ false) (same other.0.address) other.2)
+wrong_same f g number bytes TooMany same wrong = wrong
+wrong_same f g number bytes Read same wrong = wrong
+wrong_same f g number bytes Write same wrong = wrong
+wrong_same f g number bytes Memory same wrong = wrong
 
 -- what is read so far
-pub record IsReadTo (bytes rest : List ℕ) (number : ℕ) (accesses : List Access) : Type 0 where
+pub record IsReadTo (bytes rest : List ℕ) (number : ℕ) (accesses : List Access) (known : LastWords) : Type 0 where
   pub said : List Said
   pub lines : AreSaid said 1 bytes rest
+  pub agreed : AreAgreed no_words said
   pub are : accesses ≡ accesses_of said
+  pub last : (address : ℕ) → known address ≡ learnt_from no_words said address
   pub place : number ≡ length said + 1
   pub few : number + length rest ≤ length bytes + 1
 
-pub read_none : (bytes : List ℕ) (accesses : List Access) → accesses ≡ [] → IsReadTo bytes bytes 1 accesses
-read_none bytes accesses none = record { said = []; lines = refl; are = none; place = omega arith; few = omega arith }
+pub read_none : (bytes : List ℕ) (accesses : List Access) (known : LastWords) → accesses ≡ [] → ((address : ℕ) → known address ≡ None)
+    → IsReadTo bytes bytes 1 accesses known
+read_none bytes accesses known none free = record {
+  said = [];
+  lines = refl;
+  agreed = tt;
+  are = none;
+  last = free;
+  place = omega arith;
+  few = omega arith;
+}
 
 -- a line more
-pub read_more : (bytes rest more : List ℕ) (number : ℕ) (accesses new : List Access) (said : Said) → IsReadTo bytes rest number accesses → 0 < length rest
+pub read_more : (bytes rest more : List ℕ) (number : ℕ) (accesses new : List Access) (known after : LastWords) (said : Said)
+    → IsReadTo bytes rest number accesses known → 0 < length rest
     → line_read number (line_split rest).0 ≡ Some (Some said) → more ≡ (line_split rest).1 → IsAdded said accesses new
-    → IsReadTo bytes more (number + 1) new
-read_more bytes rest more number accesses new said is some reads left added =
+    → ((address : ℕ) → after address ≡ learnt known said address) → Agrees known said → IsReadTo bytes more (number + 1) new after
+read_more bytes rest more number accesses new known after said is some reads left added knows agrees =
     let shorter = split_shorter rest some in
     let few = is.few in
     let place = is.place in
@@ -143,7 +201,10 @@ read_more bytes rest more number accesses new said is some reads left added =
       said = is.said ++ said ∷ [];
       lines = subst (AreSaid (is.said ++ said ∷ []) 1 bytes) (sym left)
           (said_push is.said 1 bytes rest said is.lines some (ap (λ (k : ℕ). line_read k (line_split rest).0) (omega arith) ∙ reads));
+      agreed = agreed_push is.said no_words said is.agreed (agrees_same known (learnt_from no_words is.said) said is.last agrees);
       are = added_more is.said said accesses new is.are added;
+      last = λ address. knows address ∙ (learnt_same known (learnt_from no_words is.said) said address is.last
+          ∙ sym (learnt_push is.said no_words said address));
       place = omega arith;
       few = omega arith;
     }
@@ -152,3 +213,4 @@ pub known_more : (accesses new : List Access) (said : Said) → AreKnown accesse
 known_more accesses new Nothing known is added = subst AreKnown (sym added) known
 known_more accesses new (Did access) known is added =
     subst AreKnown (sym added) (All-push (λ a. a.processor < MAX_NODES) accesses access known is)
+known_more accesses new (Ended last) known is added = subst AreKnown (sym added) known

@@ -3,7 +3,7 @@ use Rattle.std.specs.Prelude.{ℕ, ◌^◌, ◌-◌, Bool, true, false, ◌==◌
 use Rattle.sci_words.specs.declared.limits.TheConstants.{MAX_NODES}
 use Rattle.sci_text.specs.Reading.{◌>>=◌, otherwise, both}
 use Rattle.sci_judge.specs.declared.access.{Access.{Access}, Kind.{Kind, TheVariants.{Load, Store, Atomic}}}
-use Rattle.sci_axe.specs.declared.line.{Relation.{Relation, TheVariants.{Wrote, Found}}, Said.{Said, TheVariants.{Nothing, Did}}}
+use Rattle.sci_axe.specs.declared.line.{Relation.{Relation, TheVariants.{Wrote, Found}}, Said.{Said, TheVariants.{Nothing, Did, Ended}}}
 use Rattle.sci_axe.specs.declared.line.{Part.{Part}, Span.{Span}, Work.{Work}}
 use Rattle.sci_axe.specs.Notation.{behind, is_end, number_read}
 
@@ -123,6 +123,28 @@ operation_read line bytes = do
   rest ← behind (codes ":") processor.1
   done_by line processor.0 rest (behind (codes "sync") rest)
 
+-- the last word that a part says, if its numbers fit
+unfoldable pub ended : Part → Option Said
+ended part = do
+  address ← part.address
+  word ← part.word
+  Some (Ended (record { address = address; word = word }))
+
+abbrev pub ended_by : Relation → Bool → Part → Option (Option Said)
+ended_by Found true part = Some (ended part)
+ended_by _ _ part = None
+
+-- `M[A] == V`, and nothing more
+unfoldable pub final_read : List ℕ → Option (Option Said)
+final_read bytes = do
+  part ← part_read bytes
+  ended_by part.0.relation (is_end part.1) part.0
+
+-- the last word at an address stands behind `final`
+abbrev pub said_by : ℕ → List ℕ → Option (List ℕ) → Option (Option Said)
+said_by line bytes None = operation_read line bytes
+said_by line bytes (Some rest) = final_read rest
+
 -- What the bytes of a line say: None if they are of no such form, and Some None if a number is outside its limits.
 unfoldable pub line_read : ℕ → List ℕ → Option (Option Said)
-line_read line bytes = if is_end bytes then Some (Some Nothing) else operation_read line bytes
+line_read line bytes = if is_end bytes then Some (Some Nothing) else said_by line bytes (behind (codes "final") bytes)

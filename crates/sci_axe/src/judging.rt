@@ -29,7 +29,7 @@ pub fn judge_trace<R: Read>(alloc: Global, request: JudgeRequest, reader: &mut T
     ensures { HasAnswered R.remaining reader.old reader.new (IsJudgeAnswer request) (IsTold IsTraceFault) result }
 {
     let bytes = read_input(alloc, reader)?;
-    let accesses = trace_of(alloc, &bytes)?;
-    let judgement = judge(alloc, &accesses, request.timed)?;
+    let trace = trace_of(alloc, &bytes)?;
+    let judgement = judge(alloc, &trace, request.timed)?;
     Ok(told(alloc, &judgement)?)
 }

@@ -4,12 +4,12 @@ ghost use Rattle.std.specs.Prelude.{◌≡◌, ◌<◌, IfSome};
 ghost use Rattle.sci_words.specs.declared.limits.TheConstants.{MAX_NODES};
 ghost use Rattle.sci_axe.specs.Trace.{IsKnown};
 ghost use Rattle.sci_text.specs.Reading.{Gives};
-ghost use Rattle.sci_axe.specs.Line.{access_read, atomic_read, joined as joined_of, line_read, made as made_of, operation_read, part_read, relation_read};
+ghost use Rattle.sci_axe.specs.Line.{access_read, atomic_read, ended as ended_of, final_read, joined as joined_of, line_read, made as made_of, operation_read, part_read, relation_read};
 ghost use Rattle.sci_axe.specs.Line.{single as single_of, span_read, time_read, work_read};
 
 use crate::notation::{Number, behind, is_end, number};
 use sci_judge::{Access, Kind};
-use sci_words::MAX_NODES;
+use sci_words::{MAX_NODES, Word};
 
 /// How a word and memory are related.
 #[derive(Clone, Copy, Debug, PartialEq, Eq)]
@@ -42,6 +42,13 @@ pub struct Span {
     pub end: Number,
 }
 
+/// The last word at an address.
+#[derive(Clone, Copy, Debug, PartialEq, Eq)]
+pub struct LastWord {
+    pub address: u64,
+    pub word: Word,
+}
+
 /// What a line says.
 #[derive(Clone, Copy, Debug, PartialEq, Eq)]
 pub enum Said {
@@ -49,6 +56,8 @@ pub enum Said {
     Nothing,
     /// What a processor did.
     Did(Access),
+    /// What an address had at the end.
+    Ended(LastWord),
 }
 
 /// The relation at the front of `bytes`, and the bytes after it.
@@ -220,6 +229,30 @@ fn operation(line: usize, bytes: &[u8]) -> Option<Option<Said>>
     }
 }
 
+/// The last word that a part says, if its numbers fit.
+#[tactic(auto, unfolding(crate::specs::Line::ended))]
+fn ended(part: Part) -> Option<Said>
+    ensures ended { result ≡ ended_of part }
+    ensures known { IfSome result IsKnown }
+{
+    let address = part.address?;
+    let word = part.word?;
+    Some(Said::Ended(LastWord { address, word }))
+}
+
+/// What a line says whose bytes behind `final` these are.
+#[tactic(auto, unfolding(crate::specs::Line::final_read))]
+fn last_word(bytes: &[u8]) -> Option<Option<Said>>
+    ensures read { result ≡ final_read bytes.now }
+    ensures known { IfSome result (λ said. IfSome said IsKnown) }
+{
+    let (part, rest) = part_at(bytes)?;
+    match part.relation {
+        Relation::Found if is_end(rest) => Some(ended(part)),
+        _ => None,
+    }
+}
+
 /// What the bytes of a line say: None if they are of no such form, and Some of None if a number is outside its limits.
 #[tactic(auto, unfolding(crate::specs::Line::line_read))]
 pub fn line(line: usize, bytes: &[u8]) -> Option<Option<Said>>
@@ -229,5 +262,8 @@ pub fn line(line: usize, bytes: &[u8]) -> Option<Option<Said>>
     if is_end(bytes) {
         return Some(Some(Said::Nothing));
     }
-    operation(line, bytes)
+    match behind(b"final", bytes) {
+        None => operation(line, bytes),
+        Some(rest) => last_word(rest),
+    }
 }

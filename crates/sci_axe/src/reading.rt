@@ -1,16 +1,21 @@
 //! The whole text of a trace.
 
-ghost use Rattle.std.specs.Prelude.{◌≡◌, ◌<◌, ◌++◌, ◌∷◌, [], length, IfOk, IfErr, OnOk, Some};
+ghost use Rattle.std.specs.Prelude.{◌≡◌, ◌++◌, ◌∷◌, [], ℕ, true, IfOk, IfErr, OnOk, Some};
+ghost use Rattle.std.specs.{BTreeMap.{get}, Ordering.{nat_cmp}};
 ghost use Rattle.sci_text.specs.FirstFault.{IsRefusal};
 ghost use Rattle.sci_judge.specs.Access.{AreKnown};
 ghost use Rattle.sci_axe.specs.Line.{line_read};
 ghost use denote.Ref.{Bor};
-ghost use Rattle.sci_axe.specs.Trace.{AddsLine, IsKnown, IsLineRefusal, IsTrace, IsTraceFault, IsWrong, line_split};
+ghost use Rattle.sci_axe.specs.declared.line.Said.TheVariants.{Ended};
+ghost use Rattle.sci_axe.specs.Trace.{AddsLine, IsKnown, IsLineRefusal, IsTrace, IsTraceFault, LastWords, IsWrong, is_free_for, known_in, learnt};
+ghost use Rattle.sci_axe.specs.Trace.{line_split};
 
-use crate::line::{Said, line};
-use sci_judge::Access;
+use crate::line::{LastWord, Said, line};
+use sci_judge::{Access, Trace};
 use sci_text::{TextFault, TextFaultKind};
+use sci_words::Word;
 use std::alloc::{AllocError, Global};
+use std::collections::BTreeMap;
 
 /// The first line, without its line feed, and the bytes after it.
 #[tactic(auto, unfolding(crate::specs::Trace::line_split))]
@@ -29,7 +34,7 @@ fn first_line(bytes: &[u8]) -> (&[u8], &[u8])
 fn said(number: usize, bytes: &[u8]) -> Result<Said, TextFaultKind>
     ensures ok { IfOk result (λ said. line_read number bytes.now ≡ Some (Some said)) }
     ensures known { IfOk result IsKnown }
-    ensures fault { IfErr result (IsWrong number bytes.now) }
+    ensures fault { IfErr result (λ kind. (known : LastWords) → IsWrong known number bytes.now kind) }
 {
     match line(number, bytes) {
         None => Err(TextFaultKind::Syntax),
@@ -46,40 +51,64 @@ fn push(accesses: &mut Vec<Access>, access: Access) -> Result<(), AllocError>
     Ok(())
 }
 
+/// Adds the last word at an address, and answers whether no other one was known. Refused if memory is.
+fn learn(words: &mut BTreeMap<u64, Word>, last: LastWord) -> Result<bool, AllocError>
+    ensures learnt { OnOk result ((address : ℕ) → get nat_cmp words.new address
+        ≡ learnt (λ at. get nat_cmp words.old at) (Ended last) address) }
+    ensures free { IfOk result (λ free. free
+        ≡ is_free_for (get nat_cmp words.old last.address) last.word) }
+{
+    match words.insert(last.address, last.word)? {
+        None => Ok(true),
+        Some(known) => Ok(known == last.word),
+    }
+}
+
 /// Adds what the first line says, and answers the bytes after it.
 fn add_line<'a>(
-    accesses: &mut Vec<Access>,
+    trace: &mut Trace,
     number: usize,
     bytes: &'a [u8],
 ) -> Result<&'a [u8], TextFault>
     ensures ok { IfOk result (λ (rest : Bor _).
-        AddsLine number bytes.now rest.now accesses.old.items accesses.new.items) }
-    ensures fault { IfErr result (IsLineRefusal number bytes.now) }
+        AddsLine number bytes.now rest.now trace.old trace.new) }
+    ensures fault { IfErr result (IsLineRefusal (known_in trace.old) number bytes.now) }
 {
     let (front, rest) = first_line(bytes);
     match said(number, front) {
         Err(kind) => Err(TextFault { line: number, kind }),
         Ok(Said::Nothing) => Ok(rest),
         Ok(Said::Did(access)) => {
-            push(accesses, access)?;
+            push(&mut trace.accesses, access)?;
             Ok(rest)
+        }
+        Ok(Said::Ended(last)) => {
+            if learn(&mut trace.last, last)? {
+                return Ok(rest);
+            }
+            Err(TextFault {
+                line: number,
+                kind: TextFaultKind::Range,
+            })
         }
     }
 }
 
-/// The operations of the trace whose text the bytes are. A refusal names the first line that is wrong, or has line 0 if memory
-/// was refused.
-pub fn trace_of(alloc: Global, input: &[u8]) -> Result<Vec<Access>, TextFault>
-    ensures ok { IfOk result (λ accesses. IsTrace input.now accesses.items) }
-    ensures known { IfOk result (λ accesses. AreKnown accesses.items) }
+/// The trace whose text the bytes are. A refusal names the first line that is wrong, or has line 0 if memory was refused.
+pub fn trace_of(alloc: Global, input: &[u8]) -> Result<Trace, TextFault>
+    ensures ok { IfOk result (λ trace. IsTrace input.now trace) }
+    ensures known { IfOk result (λ trace. AreKnown trace.accesses.items) }
     ensures fault { IfErr result (IsRefusal IsTraceFault input.now) }
 {
-    let mut accesses = Vec::new(alloc);
+    let mut trace = Trace {
+        accesses: Vec::new(alloc),
+        last: BTreeMap::new(alloc),
+    };
     let mut rest = input;
     let mut number = 1;
     while !rest.is_empty() {
-        rest = add_line(&mut accesses, number, rest)?;
+        rest = add_line(&mut trace, number, rest)?;
         number += 1;
     }
-    Ok(accesses)
+    Ok(trace)
 }

@@ -24,10 +24,10 @@ returns g c =
               c.in_ok-bytes.bytes.items,
               c.in_ok-bytes.ensures.read,
               record {
-                accesses = c.in_ok-accesses.accesses.items;
-                read = rw (sym c.deref.ensures.value) c.in_ok-accesses.ensures.ok;
+                trace = c.in_ok-trace.trace;
+                read = rw (sym c.deref.ensures.value) c.in_ok-trace.ensures.ok;
                 judgement = judgement;
-                holds = rw (sym c.deref-2.ensures.value) c.in_ok-judgement.ensures;
+                holds = c.in_ok-judgement.ensures;
                 written = c.in_ok-told.ensures.text;
                 ends = c.in_ok-told.ensures.ends;
               },
@@ -36,9 +36,9 @@ returns g c =
       c.read_input.ensures.again,
     )
 
-pub returns-in_err-accesses : goal.returns-in_err-accesses
-returns-in_err-accesses g c =
-    let refused = c.from_residual-in_err-accesses in (
+pub returns-in_err-trace : goal.returns-in_err-trace
+returns-in_err-trace g c =
+    let refused = c.from_residual-in_err-trace in (
       answer_refused (IsJudgeAnswer c.args.request) IsTraceFault _ _ c.deref.result.now refused.result c.in_ok-bytes.ensures.unfailed
           (rw c.deref.ensures.value c.in_ok-bytes.ensures.read) refused.ensures.0 (search rules),
       c.read_input.ensures.again,
