@@ -5,9 +5,10 @@ use Rattle.std.proofs.lemmas.{Bool.{cases_eq, eq-eqb, ne_eqb}, List.{append-nil,
 use Rattle.std.proofs.Math.Seq.{drop-cons}
 use Rattle.sci_judge.specs.declared.access.Access.{Access}
 use Rattle.sci_axe.specs.declared.line.{LastWord.{LastWord}, Said.{Said, TheVariants.{Nothing, Did, Ended}}}
-use Rattle.sci_axe.specs.{Line.{line_read}, Trace.{Agrees, AreAgreed, AreSaid, IsAdded, IsKnown, LastWords, accesses_of, learnt, learnt_from, line_split, no_words}}
+use Rattle.sci_axe.specs.Line.{line_read}
+use Rattle.sci_axe.specs.Trace.{Agrees, AreAgreed, AreSaid, IsAdded, IsKnown, LastWords, accesses_of, learnt, learnt_from, line_split, no_words}
 use Rattle.sci_axe.specs.Trace.{IsWrong, is_free_for}
-use Rattle.std.proofs.Common.{Bool, true, false, Option}
+use Rattle.std.proofs.Common.{true, false, Option}
 use Rattle.sci_text.specs.declared.fault.TextFaultKind.{TextFaultKind, TheVariants.{Syntax, Range, TooMany, Read, Write, Memory}}
 use Rattle.sci_words.specs.declared.limits.TheConstants.{MAX_NODES}
 use Rattle.sci_judge.specs.Access.{AreKnown}

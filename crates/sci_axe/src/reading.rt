@@ -65,11 +65,7 @@ fn learn(words: &mut BTreeMap<u64, Word>, last: LastWord) -> Result<bool, AllocE
 }
 
 /// Adds what the first line says, and answers the bytes after it.
-fn add_line<'a>(
-    trace: &mut Trace,
-    number: usize,
-    bytes: &'a [u8],
-) -> Result<&'a [u8], TextFault>
+fn add_line<'a>(trace: &mut Trace, number: usize, bytes: &'a [u8]) -> Result<&'a [u8], TextFault>
     ensures ok { IfOk result (λ (rest : Bor _).
         AddsLine number bytes.now rest.now trace.old trace.new) }
     ensures fault { IfErr result (IsLineRefusal (known_in trace.old) number bytes.now) }

@@ -1,10 +1,9 @@
 -- Versions that respect times, one operation after another.
 use Rattle.std.proofs.Common.{◌≡◌, ℕ, zero, suc, ◌+◌, ◌<◌, ◌≤◌, true, List, [], ◌∷◌, ◌++◌, length, get_or, Some, refl, sym, ap, subst, ◌∙◌, arith, inl, inr}
 use Rattle.std.proofs.lemmas.{Bool.{cases_eq, cases_lt, cases_order, eq-eqb, le-ltb, lt-ltb, ne_eqb}}
-use Rattle.std.proofs.lemmas.{List.{get_or_append_left, length-append}, Option.{slice_get-get_or, get_or_from_slice_get, slice_get_within}}
-use Rattle.std.proofs.lemmas.List.Elements.{Contains-append_left, Contains-push}
+use Rattle.std.proofs.lemmas.{List.{get_or_append_left, length-append}, Option.{get_or_from_slice_get, slice_get_within}}
 use Rattle.std.proofs.Math.Seq.{get_or-append_seam}
-use Rattle.std.specs.{Prelude.{Contains, slice_get}, Ordering.{nat_cmp, ord_max}}
+use Rattle.std.specs.{Prelude.{slice_get}, Ordering.{nat_cmp, ord_max}}
 use Rattle.sci_judge.specs.{Access.{is_making}, declared.{access.Access.{Access}, times.Ended.{Ended}}, Stamped.{AreTimely}, Times.{AreMost, HasEnds, IsBehind}}
 
 -- for the operations before a place

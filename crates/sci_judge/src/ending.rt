@@ -16,10 +16,12 @@ fn left_behind(alloc: Global, atomic: usize) -> Result<Stop, Stop> {
 impl Chains<'_> {
     /// That an operation of another chain comes behind one of the chain of the last word.
     fn behind_last(&self, alloc: Global, edge: Edge, last: usize) -> Result<Stop, Stop> {
-        let mut steps = vec![in alloc; Step::Follows {
-            earlier: edge.earlier,
-            later: edge.later,
-        }]?;
+        let mut steps = vec![in alloc;
+            Step::Follows {
+                earlier: edge.earlier,
+                later: edge.later,
+            },
+        ]?;
         self.raise(&mut steps, self.left(edge.earlier)?, last)?;
         if self.found(edge.later)? != self.left(edge.later)? {
             steps.push(Step::Swaps(edge.later))?;

@@ -76,7 +76,7 @@ usage: sciview judge [--times] [FILE]
 Of a trace of another machine, which has no versions: `coherent`,
 `undecided at A`, or `not coherent at A` with the operations that show it, each
 with its line. The text is in the notation of Axe: `0: M[8] := 5 @ 100:110` is a
-store, `1: M[8] == 5` a load.
+store, `1: M[8] == 5` a load, `final M[8] == 5` the last word at an address.
 
   --times       what ended before another operation at its address began has to
                 stand before it

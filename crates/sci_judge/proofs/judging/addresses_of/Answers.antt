@@ -1,4 +1,4 @@
-use Rattle.std.proofs.{Common.{get_or, arith}, lemmas.{Bool.Decides.{nat_tests}, Grind.{common_steps}}}
+use Rattle.std.proofs.{Common.{arith}, lemmas.{Bool.Decides.{nat_tests}, Grind.{common_steps}}}
 use Rattle.sci_judge.specs.Judgement.{is_at}
 use Rattle.sci_judge.proofs.Once.{any_more, no_access}
 use Rattle.sci_judge.proofs.judging.addresses_of.Goals as goal

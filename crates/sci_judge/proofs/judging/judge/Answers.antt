@@ -2,7 +2,7 @@ use Rattle.std.proofs.Common.{◌≡◌, List, Option, ap, ℕ, inr, subst, sym,
 use Rattle.std.proofs.lemmas.Map.{Lookups.{exact_unsigned}, Views.{btree_set_contains_iff}}
 use Rattle.std.specs.{Cmp.{nat_cmp_total}, List.{Contains}}
 use Rattle.sci_judge.specs.declared.{access.Access.{Access}, finding.Finding.TheVariants.{NotCoherent}}
-use Rattle.sci_judge.specs.Judgement.{IsFinding, IsFoundAt, at_address, last_at}
+use Rattle.sci_judge.specs.Judgement.{IsFinding, at_address, last_at}
 use Rattle.sci_judge.proofs.Runs.{site_known}
 use Rattle.sci_judge.proofs.judging.judge.Goals as goal
 

@@ -1,7 +1,6 @@
-use Rattle.std.proofs.Common.{◌≡◌, ◌≤◌, ◌-◌, length, leb, ltb, rules, arith}
+use Rattle.std.proofs.Common.{rules, arith}
 use Rattle.std.proofs.lemmas.List.Sorted.{IsPartitionPoint-from_clause, IsPartitionedBy-leb, IsPartitionedBy-ltb}
-use Rattle.sci_judge.specs.declared.access.Access.{Access}
-use Rattle.sci_judge.proofs.Runs.{IsPart, Parts, is_below, is_up_to, part_from, part_is}
+use Rattle.sci_judge.proofs.Runs.{Parts, is_below, is_up_to, part_from, part_is}
 use Rattle.sci_judge.proofs.judging.operations_at.Goals as goal
 
 pub slice_bounds-result-count : goal.slice_bounds-result-count

@@ -1,5 +1,5 @@
-use Rattle.std.proofs.Common.{◌≡◌, ◌<◌, ◌≤◌, List, get_or, length, sym, ap, subst, ◌∙◌, arith}
-use Rattle.sci_judge.specs.{declared.{access.Access.{Access}, times.Ended.{Ended}}, Times.{HasEnds}}
+use Rattle.std.proofs.Common.{sym, subst}
+use Rattle.sci_judge.specs.{Times.{HasEnds}}
 use Rattle.sci_judge.proofs.{Once.{no_access}, Timely.{timely_all, timely_more, timely_past}}
 use Rattle.sci_judge.proofs.times.are_timely.Goals.{then-place-versions+else-not-is_behind, else-place-versions}
 use Rattle.sci_judge.proofs.times.are_timely.Goals as goal

@@ -1,4 +1,4 @@
-use Rattle.std.proofs.Common.{get_or, ltb, arith, sym, ◌∙◌, false, true, ◌≡◌, ◌<◌, ◌≤◌, ℕ, inl, inr, rules}
+use Rattle.std.proofs.Common.{get_or, ltb, sym, ◌∙◌, false, true, ◌≡◌, inl, inr, rules}
 use Rattle.std.proofs.lemmas.Bool.{cases_lt, lt-ltb}
 use Rattle.std.proofs.lemmas.List.Sorted.{IsPartitionPoint-from_clause, IsPartitionedBy-ltb}
 use Rattle.sci_judge.proofs.times.count_before.Goals as goal

@@ -1,6 +1,6 @@
 use Rattle.std.proofs.Common.{◌≡◌, ◌<◌, ℕ, Some}
 use Rattle.std.specs.Prelude.{Contains, slice_get}
-use Rattle.sci_judge.specs.declared.{access.Access.{Access}, times.Ended.{Ended}}
+use Rattle.sci_judge.specs.declared.{access.Access.{Access}}
 use Rattle.sci_judge.proofs.times.ends.Given as goal
 
 -- the ends of the operations so far

@@ -1,4 +1,4 @@
-use Rattle.std.proofs.Common.{◌≡◌, true, false, sym, subst, ◌∙◌}
+use Rattle.std.proofs.Common.{sym, subst}
 use Rattle.sci_history.specs.{Audit.{AreWithin}}
 use Rattle.sci_judge.specs.Stamped.{AreStamped}
 use Rattle.sci_judge.proofs.Stamps.{stamped_own, stamped_same, stamped_sixteen, stamped_times, stamped_within}

@@ -1,0 +1,191 @@
+#!/usr/bin/env python3
+"""Gives `sciview judge` small traces, made at random from a seed, and compares its verdicts with those of a judge that tries
+all orders.
+
+    scripts/measure/fuzz_traces.py [SECONDS [SEED [PROGRAM]]]        60 seconds and seed 1, if it isn't said
+
+Half of the traces write each word once, and never 0, so that the verdict has to be the right one. The others may write words
+again, and may be undecided then. Some have times, and some say last words. The last line is 'N passed, M failed', of traces.
+"""
+
+import os
+import random
+import re
+import subprocess
+import sys
+import time
+from concurrent.futures import ThreadPoolExecutor
+from functools import cache
+
+TOP = os.path.dirname(os.path.dirname(os.path.dirname(os.path.abspath(__file__))))
+PROGRAM = f"{TOP}/crates/sciview/out/sciview"
+# How many traces are made before the clock is read again.
+BATCH = 200
+FOREVER = 2**64 - 1
+
+FIRST = re.compile(rb"(coherent|not coherent at ([0-9]+)|undecided at ([0-9]+))\Z")
+STEP = re.compile(rb"(line [0-9]+: |nothing comes between the two of line [0-9]+: |0 at the start comes before line [0-9]+: |nobody wrote the last word)")
+
+
+class Access:
+    """An operation: what it read, and what it wrote, None if it did not."""
+
+    def __init__(self, processor, address, read, wrote, begin, end):
+        self.processor, self.address, self.read, self.wrote = processor, address, read, wrote
+        self.begin, self.end = begin, end
+
+    def text(self):
+        memory = f"M[{self.address}]"
+        found, put = f"{memory} == {self.read}", f"{memory} := {self.wrote}"
+        what = found if self.wrote is None else put if self.read is None else f"{{ {found}; {put} }}"
+        if (self.begin, self.end) == (0, FOREVER):
+            return f"{self.processor}: {what}"
+        return f"{self.processor}: {what} @ {self.begin or ''}:{'' if self.end == FOREVER else self.end}"
+
+    def writes(self):
+        return self.wrote is not None and self.read != self.wrote
+
+    def makes(self):
+        return self.wrote is not None
+
+
+def is_coherent(accesses, last, timed):
+    """Whether some order of the operations at one address explains them, by trying all. Loads at one version stand in no order."""
+    count = len(accesses)
+
+    def is_before(i, j):
+        x, y = accesses[i], accesses[j]
+        return x.processor == y.processor and i < j or timed and x.end < y.begin
+
+    before = [[i for i in range(count) if is_before(i, j)] for j in range(count)]
+
+    def with_loads(done, word):
+        """All loads of this word that may stand at this version: each operation before one is placed, or one of them."""
+        loads = {j for j in range(count) if not done >> j & 1 and not accesses[j].makes() and accesses[j].read == word}
+        while True:
+            early = {j for j in loads if any(not done >> i & 1 and i not in loads for i in before[j])}
+            if not early:
+                return done | sum(1 << j for j in loads)
+            loads -= early
+
+    @cache
+    def goes_on(done, word):
+        done = with_loads(done, word)
+        if done == (1 << count) - 1:
+            return last is None or last == word
+        for j, access in enumerate(accesses):
+            if done >> j & 1 or not access.makes() or any(not done >> i & 1 for i in before[j]):
+                continue
+            if access.read in (None, word) and goes_on(done | 1 << j, access.wrote):
+                return True
+        return False
+
+    return goes_on(0, 0)
+
+
+def is_once(accesses):
+    words = [it.wrote for it in accesses if it.writes()]
+    return len(words) == len(set(words)) and 0 not in words
+
+
+def made(chance):
+    """Operations in the order of the text, and last words."""
+    addresses = [8, 16][: chance.randint(1, 2)]
+    processors = chance.randint(1, 4)
+    once = chance.random() < 0.5
+    memory = {it: 0 for it in addresses}
+    old = {it: [0] for it in addresses}
+    accesses, clock = [], 0
+    timed = chance.random() < 0.6
+    for number in range(chance.randint(1, 9)):
+        address = chance.choice(addresses)
+        word = number + 1 if once or chance.random() < 0.5 else chance.randrange(3)
+        kind = chance.choice(("load", "load", "store", "atomic", "same"))
+        seen = memory[address] if chance.random() < 0.8 else chance.choice(old[address])
+        if chance.random() < 0.02:
+            seen = 77
+        read = None if kind == "store" else seen
+        wrote = None if kind == "load" else seen if kind == "same" else word
+        if wrote is not None and chance.random() < 0.95:
+            memory[address] = wrote
+        old[address].append(word)
+        clock += chance.randint(0, 3)
+        begin = max(0, clock - chance.randint(0, 4))
+        end = clock + chance.randint(0, 4)
+        span = (begin, end) if timed and chance.random() < 0.9 else (0, FOREVER)
+        accesses.append(Access(chance.randrange(processors), address, read, wrote, *span))
+    if chance.random() < 0.3:
+        chance.shuffle(accesses)
+    lasts = {}
+    for address in addresses:
+        if chance.random() < 0.4:
+            lasts[address] = memory[address] if chance.random() < 0.7 else chance.choice(old[address])
+    return accesses, lasts
+
+
+def text_of(chance, accesses, lasts):
+    lines = [it.text() for it in accesses]
+    for address, word in lasts.items():
+        lines.insert(chance.randint(0, len(lines)), f"final M[{address}] == {word}")
+    return "".join(it + "\n" for it in lines).encode()
+
+
+def wanted(accesses, lasts, timed):
+    """Of each address that is named whether it is coherent, and whether it has to be decided."""
+    found = {}
+    for address in sorted({it.address for it in accesses} | set(lasts)):
+        there = [it for it in accesses if it.address == address]
+        found[address] = (is_coherent(there, lasts.get(address), timed), is_once(there))
+    return found
+
+
+def is_right(found, status, output):
+    """Whether a verdict is the one that is wanted."""
+    lines = output.split(b"\n")
+    first = FIRST.match(lines[0])
+    if not first or lines[-1] or status != (0 if first[1] == b"coherent" else 1):
+        return False
+    if first[1] == b"coherent":
+        return all(coherent for coherent, _ in found.values())
+    at = int(first[2] or first[3])
+    if not all(coherent for address, (coherent, _) in found.items() if address < at):
+        return False
+    coherent, once = found[at]
+    if first[3]:
+        return not once
+    return not coherent and len(lines) > 2 and all(STEP.match(it) for it in lines[1:-1])
+
+
+def failure(job):
+    """What goes wrong with the trace of this number, or None, and the verdict's first word."""
+    program, number = job
+    chance = random.Random(number)
+    accesses, lasts = made(chance)
+    timed = chance.random() < 0.5
+    given = text_of(chance, accesses, lasts)
+    words = [program, "judge", *(["--times"] if timed else [])]
+    run = subprocess.run(words, input=given, stdout=subprocess.PIPE, stderr=subprocess.PIPE, timeout=60)
+    right = not run.stderr and is_right(wanted(accesses, lasts, timed), run.returncode, run.stdout)
+    wrong = None if right else f"trace {number}: {' '.join(words[1:])}, status {run.returncode}\n{given.decode()}-- {run.stdout.decode()}"
+    return wrong, run.stdout.split(b" ")[0].strip().decode()
+
+
+def main(words):
+    seconds, seed, program = (words + ["60", "1", PROGRAM][len(words) :])[:3]
+    kinds, failures, count, begun = {}, [], 0, time.monotonic()
+    with ThreadPoolExecutor(os.cpu_count()) as pool:
+        while time.monotonic() - begun < int(seconds):
+            first = int(seed) * 10**9 + count
+            for wrong, kind in pool.map(failure, ((program, number) for number in range(first, first + BATCH))):
+                kinds[kind] = kinds.get(kind, 0) + 1
+                if wrong:
+                    failures.append(wrong)
+            count += BATCH
+    for kind, runs in sorted(kinds.items()):
+        print(f"judge: {kind}, {runs} traces")
+    print("\n".join([*failures[:5], f"{count - len(failures)} passed, {len(failures)} failed"]))
+    return 1 if failures else 0
+
+
+if __name__ == "__main__":
+    sys.exit(main(sys.argv[1:]))
