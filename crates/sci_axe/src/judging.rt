@@ -5,7 +5,7 @@ ghost use Rattle.sci_text.specs.{FirstFault.{IsTold}, Tap.{has_failed}};
 ghost use Rattle.sci_command.specs.Answer.{HasAnswered};
 ghost use Rattle.sci_axe.specs.{JudgeAnswer.{IsJudgeAnswer}, Trace.{IsTraceFault}};
 
-use crate::reading::trace_of;
+use crate::misread::read_trace;
 use crate::telling::told;
 use sci_command::Answered;
 use sci_judge::judge;
@@ -29,7 +29,7 @@ pub fn judge_trace<R: Read>(alloc: Global, request: JudgeRequest, reader: &mut T
     ensures { HasAnswered R.remaining reader.old reader.new (IsJudgeAnswer request) (IsTold IsTraceFault) result }
 {
     let bytes = read_input(alloc, reader)?;
-    let trace = trace_of(alloc, &bytes)?;
+    let trace = read_trace(alloc, &bytes)?;
     let judgement = judge(alloc, &trace, request.timed)?;
     Ok(told(alloc, &judgement)?)
 }

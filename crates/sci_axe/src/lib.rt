@@ -3,6 +3,7 @@
 
 mod judging;
 mod line;
+mod misread;
 mod notation;
 mod reading;
 mod telling;

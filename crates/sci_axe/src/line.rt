@@ -62,7 +62,7 @@ pub enum Said {
 
 /// The relation at the front of `bytes`, and the bytes after it.
 #[tactic(auto, unfolding(crate::specs::Line::relation_read))]
-fn relation_at(bytes: &[u8]) -> Option<(Relation, &[u8])>
+pub fn relation_at(bytes: &[u8]) -> Option<(Relation, &[u8])>
     ensures { Gives (λ x. (x.0, x.1.now)) result (relation_read bytes.now) }
 {
     if let Some(rest) = behind(b":=", bytes) {

@@ -18,7 +18,7 @@ fn is_blank(byte: u8) -> bool
 
 /// The bytes behind blanks.
 #[tactic(auto, unfolding(crate::specs::Notation::behind_blanks))]
-fn after_blanks(bytes: &[u8]) -> &[u8]
+pub fn after_blanks(bytes: &[u8]) -> &[u8]
     ensures { result.now ≡ behind_blanks bytes.now }
 {
     let mut rest = bytes;
