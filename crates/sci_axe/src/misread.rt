@@ -33,11 +33,7 @@ struct Walk {
 }
 
 /// The bytes after a mark.
-fn mark<'a>(
-    mark: &[u8],
-    expected: &'static str,
-    rest: &'a [u8],
-) -> Result<&'a [u8], Mismatch<'a>> {
+fn mark<'a>(mark: &[u8], expected: &'static str, rest: &'a [u8]) -> Result<&'a [u8], Mismatch<'a>> {
     match behind(mark, rest) {
         Some(more) => Ok(more),
         None => Err(Mismatch { rest, expected }),
@@ -79,11 +75,7 @@ impl Walk {
     }
 
     /// The rest of a part of an operation behind its address. The bytes after it.
-    fn word<'a>(
-        self,
-        wants: Option<Relation>,
-        rest: &'a [u8],
-    ) -> Result<&'a [u8], Mismatch<'a>> {
+    fn word<'a>(self, wants: Option<Relation>, rest: &'a [u8]) -> Result<&'a [u8], Mismatch<'a>> {
         let rest = relation(wants, rest)?;
         let (_, rest) = self.number("a word below 2^64", rest)?;
         Ok(rest)
@@ -213,11 +205,17 @@ fn misread(alloc: Global, line: &[u8], kind: TextFaultKind) -> Result<Vec<u8>, A
         judges: kind == TextFaultKind::Range,
     };
     match walk.line(line) {
-        Ok(()) => push_text(&mut out, ": another last word of this address stands before it")?,
+        Ok(()) => push_text(
+            &mut out,
+            ": another last word of this address stands before it",
+        )?,
         Err(mismatch) => {
             let rest = after_blanks(mismatch.rest);
             push_text(&mut out, ", column")?;
-            push_field(&mut out, (line.len().saturating_sub(rest.len()) as u64).saturating_add(1))?;
+            push_field(
+                &mut out,
+                (line.len().saturating_sub(rest.len()) as u64).saturating_add(1),
+            )?;
             push_text(&mut out, ": expected ")?;
             push_text(&mut out, mismatch.expected)?;
             push_text(&mut out, ", found ")?;
