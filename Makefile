@@ -101,10 +101,11 @@ faults:
 soak: build
 	@scripts/measure/soak.py $(or $(SECONDS),60) $(or $(SEED),1)
 
-# Builds both programs, and gives scimem hostile inputs for some seconds: make fuzz SECONDS=600 SEED=2. It isn't part of the
-# gate.
+# Builds both programs, gives scimem hostile inputs for some seconds, and sciview judge small traces for as long, whose verdicts a
+# judge that tries all orders checks: make fuzz SECONDS=600 SEED=2. It isn't part of the gate.
 fuzz: build
 	@scripts/measure/fuzz.py $(or $(SECONDS),60) $(or $(SEED),1)
+	@scripts/measure/fuzz_traces.py $(or $(SECONDS),60) $(or $(SEED),1)
 
 # Builds both programs, and prints how the cost of each command grows with its input. It isn't part of the gate.
 growth: build
