@@ -5,7 +5,8 @@ all orders.
     scripts/measure/fuzz_traces.py [SECONDS [SEED [PROGRAM]]]        60 seconds and seed 1, if it isn't said
 
 Half of the traces write each word once, and never 0, so that the verdict has to be the right one. The others may write words
-again, and may be undecided then. Some have times, and some say last words. The last line is 'N passed, M failed', of traces.
+again, and may be undecided then; so may those in which times contradict the order of a processor. Some have times, and some say
+last words. The last line is 'N passed, M failed', of traces.
 """
 
 import os
@@ -88,6 +89,12 @@ def is_once(accesses):
     return len(words) == len(set(words)) and 0 not in words
 
 
+def is_monotone(accesses):
+    """Whether no operation of a processor ended before one began that stands before it."""
+    pairs = [(x, y) for at, x in enumerate(accesses) for y in accesses[at + 1 :] if x.processor == y.processor]
+    return all(y.end >= x.begin for x, y in pairs)
+
+
 def made(chance):
     """Operations in the order of the text, and last words."""
     addresses = [8, 16][: chance.randint(1, 2)]
@@ -135,7 +142,7 @@ def wanted(accesses, lasts, timed):
     found = {}
     for address in sorted({it.address for it in accesses} | set(lasts)):
         there = [it for it in accesses if it.address == address]
-        found[address] = (is_coherent(there, lasts.get(address), timed), is_once(there))
+        found[address] = (is_coherent(there, lasts.get(address), timed), is_once(there) and (not timed or is_monotone(there)))
     return found
 
 
