@@ -6,9 +6,9 @@ use Rattle.std.proofs.lemmas.Map.Entries.{sum_by-insert_entry}
 use Rattle.std.specs.{Prelude.{option_map, unwrap_or}, List.{sum_by}}
 use Rattle.std.specs.{BTreeMap.{BTreeMap, IsOrdered, Updates, get, insert_entry, values}, Map.{values_of}}
 use Rattle.std.specs.{Cmp.{IsTotalOrder}, Ordering.{eq_by_cmp}}
-use Rattle.sci_outcomes.specs.declared.{histogram.{Histogram.{Histogram}, Tally.{Tally}}, outcome.Held.{Held}}
-use Rattle.sci_outcomes.specs.declared.outcome.{Outcome.{Outcome}, Replied.{Replied}, Sighting.{Sighting}}
-use Rattle.sci_outcomes.specs.Rows.{HasCounted, has_outcome, held_cmp, outcome_cmp, replied_cmp, tally_by, with_run}
+use Rattle.sci_allowed.specs.{Outcome.{held_cmp, outcome_cmp, replied_cmp}, declared.outcome.{Held.{Held}, Outcome.{Outcome}, Replied.{Replied}}}
+use Rattle.sci_outcomes.specs.declared.{histogram.{Histogram.{Histogram}, Tally.{Tally}}, outcome.Sighting.{Sighting}}
+use Rattle.sci_outcomes.specs.Rows.{HasCounted, has_outcome, tally_by, with_run}
 use Rattle.sci_outcomes.proofs.SightingCounts.{tally_more, tally_same}
 
 -- ---- the order of outcomes

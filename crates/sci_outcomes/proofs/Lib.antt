@@ -1,5 +1,4 @@
 pub mod SightingCounts
-pub mod WrittenWords
 pub mod Histograms
 pub mod Ranked
 pub mod Sightings

@@ -13,9 +13,9 @@ use Rattle.std.specs.List.Sorted.{IsPermutation, IsSortedBy, IsStableBy, IsStric
 use Rattle.std.specs.{BTreeMap.{IsOrdered, get, is_at}, Map.{keys_of, lookup}, Cmp.{IsTotalOrder, IsStrictWeakOrder}}
 use Rattle.std.specs.Ordering.{is_eq, is_lt, nat_cmp, ordering_then, ordering_reverse}
 use Rattle.std.specs.declared.cmp.Ordering.{Ordering, TheVariants.{Less, Equal, Greater}}
-use Rattle.sci_outcomes.specs.declared.histogram.{Histogram.{Histogram}, Row.{Row}, Tally.{Tally}}
-use Rattle.sci_outcomes.specs.declared.outcome.{Outcome.{Outcome}, Sighting.{Sighting}}
-use Rattle.sci_outcomes.specs.Rows.{AreRowsOf, HasCounted, IsRowOf, has_outcome, outcome_cmp, row_cmp}
+use Rattle.sci_allowed.specs.{Outcome.{outcome_cmp}, declared.outcome.Outcome.{Outcome}}
+use Rattle.sci_outcomes.specs.declared.{histogram.{Histogram.{Histogram}, Row.{Row}, Tally.{Tally}}, outcome.Sighting.{Sighting}}
+use Rattle.sci_outcomes.specs.Rows.{AreRowsOf, HasCounted, IsRowOf, has_outcome, row_cmp}
 use Rattle.sci_outcomes.proofs.SightingCounts.{bit, some_tally, sum_by_map, tally_is}
 use Rattle.sci_outcomes.proofs.Histograms.{is_same, outcome_total, same_back}
 

@@ -8,7 +8,8 @@ use Rattle.sci_text.specs.{Script.{ScriptValue}, Schedule.{ScheduleValue}}
 use Rattle.sci_drive.specs.declared.driver.Issuing.{Issuing}
 use Rattle.sci_runs.specs.{Played.{IsPlayed}, Runs.{IsRunOf, last_behind, logs_behind}}
 use Rattle.sci_outcomes.specs.declared.{histogram.Histogram.{Histogram}, outcome.Sighting.{Sighting}}
-use Rattle.sci_outcomes.specs.{declared.place.Place.{Place}, Outcomes.{IsSeen, written_places}, Rows.{HasCounted}}
+use Rattle.sci_allowed.specs.{Outcome.{written_places}, declared.place.Place.{Place}}
+use Rattle.sci_outcomes.specs.{Outcomes.{IsSeen}, Rows.{HasCounted}}
 use Rattle.sci_outcomes.specs.Trials.{IsDrawnSighting, IsUnfinished}
 
 -- what is seen of logs and last contents is seen of the ones behind the schedule

@@ -1,31 +1,16 @@
 -- What `outcomes` writes for its input.
-use Rattle.std.specs.Prelude.{◌≡◌, ℕ, ◌+◌, ◌%◌, ◌^◌, Bool, true, false, List, [], ◌∷◌, ◌++◌, codes, length, Option, unwrap_or}
+use Rattle.std.specs.Prelude.{◌≡◌, ℕ, ◌+◌, ◌%◌, ◌^◌, Bool, List, [], ◌∷◌, ◌++◌, codes, length, Option, unwrap_or}
 use Rattle.std.specs.List.{flat_map}
-use Rattle.sci_text.specs.{Number.{number, field}, Script.{IsScript, ScriptValue, script_text}}
+use Rattle.sci_text.specs.{Number.{field}, Script.{IsScript, ScriptValue, script_text}}
 use Rattle.sci_command.specs.Answer.{IsDoneBy}
-use Rattle.sci_outcomes.specs.declared.{histogram.Row.{Row}, outcome.{Held.{Held}, Outcome.{Outcome}, Replied.{Replied}}}
+use Rattle.sci_allowed.specs.OutcomeText.{outcome_text, sense_text}
+use Rattle.sci_outcomes.specs.declared.histogram.Row.{Row}
 use Rattle.sci_outcomes.specs.declared.outcomes_report.{OutcomesRequest.{OutcomesRequest}, TheConstants.{RUNS, SEED}}
 use Rattle.sci_outcomes.specs.declared.trials.{Trials.{Trials}, Turns.{Turns, TheVariants.{Drawn, Threads}}}
 use Rattle.sci_outcomes.specs.{RunAnswer.{IsRunRefusal}, Trials.{AreOutcomes, OneIsGivenUp}}
 use Rattle.sci_command.specs.declared.outcome.Outcome as ending
 
 -- ---- texts
-
--- `NODE:SERIAL=WORD `
-unfoldable pub replied_text : Replied → List ℕ
-replied_text replied = number replied.node ++ (codes ":" ++ (number replied.serial ++ (codes "=" ++ (number replied.word ++ codes " "))))
-
--- ` LINE.PLACE=WORD`
-unfoldable pub held_text : Held → List ℕ
-held_text held = codes " " ++ (number held.line ++ (codes "." ++ (number held.word ++ (codes "=" ++ number held.value))))
-
--- what was replied, a bar, and the words
-unfoldable pub outcome_text : Outcome → List ℕ
-outcome_text outcome = flat_map replied_text outcome.replies.items ++ (codes "|" ++ flat_map held_text outcome.last.items)
-
-unfoldable pub sense_text : Bool → List ℕ
-sense_text true = codes " in program order" ++ 10 ∷ []
-sense_text false = codes " reordered" ++ 10 ∷ []
 
 -- ` seed SEED` of the run with this number, if its order of turns was drawn
 unfoldable pub seed_text : Turns → ℕ → List ℕ

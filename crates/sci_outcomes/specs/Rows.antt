@@ -1,21 +1,9 @@
 -- How often each outcome was seen.
 use Rattle.std.specs.Prelude.{◌≡◌, ◌≤◌, ℕ, ◌+◌, ◌==◌, ◌&&◌, ◌||◌, Bool, List, length, map, sum, All, count_by, Option, Some, None, if◌then◌else◌}
 use Rattle.std.specs.{List.{list_any, position_or_len, sum_by, Sorted.{IsStrictlySortedBy}}, BTreeMap.{get, values}}
-use Rattle.std.specs.{Cmp.Lexicographic.{slice_cmp}, Ordering.{is_eq, nat_cmp, ordering_then}}
-use Rattle.std.specs.declared.cmp.Ordering.{Ordering}
-use Rattle.sci_outcomes.specs.declared.histogram.{Histogram.{Histogram}, Row.{Row}, Tally.{Tally}}
-use Rattle.sci_outcomes.specs.declared.outcome.{Held.{Held}, Outcome.{Outcome}, Replied.{Replied}, Sighting.{Sighting}}
-
--- ---- the order of outcomes: by their replies, then by their words, as numbers
-
-abbrev pub replied_cmp : Replied → Replied → Ordering
-replied_cmp a b = ordering_then (nat_cmp a.node b.node) (ordering_then (nat_cmp a.serial b.serial) (nat_cmp a.word b.word))
-
-abbrev pub held_cmp : Held → Held → Ordering
-held_cmp a b = ordering_then (nat_cmp a.line b.line) (ordering_then (nat_cmp a.word b.word) (nat_cmp a.value b.value))
-
-abbrev pub outcome_cmp : Outcome → Outcome → Ordering
-outcome_cmp a b = ordering_then (slice_cmp replied_cmp a.replies.items b.replies.items) (slice_cmp held_cmp a.last.items b.last.items)
+use Rattle.std.specs.{Ordering.{is_eq, nat_cmp, ordering_then}, declared.cmp.Ordering.{Ordering}}
+use Rattle.sci_allowed.specs.{Outcome.{outcome_cmp}, declared.outcome.Outcome.{Outcome}}
+use Rattle.sci_outcomes.specs.declared.{histogram.{Histogram.{Histogram}, Row.{Row}, Tally.{Tally}}, outcome.Sighting.{Sighting}}
 
 -- whether a run that was seen had this outcome
 abbrev pub has_outcome : Outcome → Sighting → Bool

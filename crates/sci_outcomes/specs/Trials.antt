@@ -10,9 +10,10 @@ use Rattle.sci_drive.specs.declared.driver.Issuing.{Issuing, TheVariants.{InOrde
 use Rattle.sci_runs.specs.{Played.{IsPlayed, IsTooLong}, Runs.{IsRunOf, last_behind, logs_behind}}
 use Rattle.sci_drive.specs.ScriptLogs.{HaveWholeLogsOf, size_for}
 use Rattle.sci_threads.specs.{Shares.{AreLedTo}, Slices.{AreDrivenOpenly}}
-use Rattle.sci_outcomes.specs.declared.{histogram.Row.{Row}, outcome.Sighting.{Sighting}, place.Place.{Place}}
+use Rattle.sci_allowed.specs.{Outcome.{IsPlaceWithin, written_places}, declared.place.Place.{Place}}
+use Rattle.sci_outcomes.specs.declared.{histogram.Row.{Row}, outcome.Sighting.{Sighting}}
 use Rattle.sci_outcomes.specs.declared.trials.{Trials.{Trials}, Turns.{Turns, TheVariants.{Drawn, Threads}}}
-use Rattle.sci_outcomes.specs.{Outcomes.{IsPlaceWithin, IsSeen, written_places}, Rows.{AreRowsOf}}
+use Rattle.sci_outcomes.specs.{Outcomes.{IsSeen}, Rows.{AreRowsOf}}
 
 -- the places are those of the words that the script may write
 pub record AreWrittenBy (script : ScriptValue) (places : List Place) : Type 0 where

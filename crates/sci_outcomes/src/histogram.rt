@@ -2,7 +2,8 @@
 
 ghost use Rattle.sci_outcomes.specs.Rows.{AreRowsOf, HasCounted};
 
-use crate::outcome::{Outcome, Sighting};
+use crate::outcome::Sighting;
+use sci_allowed::Outcome;
 use std::alloc::{AllocError, Global};
 use std::cmp::Reverse;
 use std::collections::BTreeMap;

@@ -4,7 +4,6 @@
 mod histogram;
 mod outcome;
 mod outcomes_report;
-mod place;
 mod run_report;
 mod trials;
 

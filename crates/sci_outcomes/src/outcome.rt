@@ -1,46 +1,16 @@
-//! The outcome of a run: what its operations replied, and the words that they left.
+//! What is seen of a run: its outcome, and whether it is in order.
 
 ghost use Rattle.std.specs.{Prelude.{◌≡◌, ◌↔◌, ◌++◌, true, length, map, All, IfOk, OnOk}, List.{filter_map}};
 ghost use Rattle.sci_history.specs.{Cycle.{IsOrdered}, Lawful.{Lawful}, Sequential.{IsSequentiallyConsistent}};
 ghost use Rattle.sci_core.specs.{Outcome.{logs_of}, Sharing.{last_of}};
-ghost use Rattle.sci_outcomes.specs.Outcomes.{IsPlaceWithin, IsSeen, held_at, replied, replies_in};
+ghost use Rattle.sci_allowed.specs.Outcome.{IsPlaceWithin};
+ghost use Rattle.sci_outcomes.specs.Outcomes.{IsSeen, held_at, replied, replies_in};
 
-use crate::place::Place;
+use sci_allowed::{Held, Outcome, Place, Replied};
 use sci_core::Machine;
 use sci_history::{Entry, Last, Logs, OrderVerdict, sequential_order, serial_order_is_lawful};
-use sci_words::{Reply, Word};
+use sci_words::Reply;
 use std::alloc::{AllocError, Global};
-
-/// What an operation replied.
-#[derive(Clone, Copy, Debug, PartialEq, Eq, PartialOrd, Ord)]
-pub(crate) struct Replied {
-    /// The operation's node, below 16.
-    pub(crate) node: u8,
-    /// Its serial at the node, from 0: its place among the node's operations in the script.
-    pub(crate) serial: u32,
-    /// The word that it replied.
-    pub(crate) word: Word,
-}
-
-/// What a word of memory holds.
-#[derive(Clone, Copy, Debug, PartialEq, Eq, PartialOrd, Ord)]
-pub(crate) struct Held {
-    /// The line, below 64.
-    pub(crate) line: u8,
-    /// The word's place in the line, below 8.
-    pub(crate) word: u8,
-    /// What it holds.
-    pub(crate) value: Word,
-}
-
-/// The outcome of a run.
-#[derive(Debug, Drop, PartialEq, Eq, PartialOrd, Ord)]
-pub(crate) struct Outcome {
-    /// What each load and each lock operation replied, by node, then by serial.
-    pub(crate) replies: Vec<Replied>,
-    /// What each word that the script may write holds at the end, by line, then by place.
-    pub(crate) last: Vec<Held>,
-}
 
 /// What was seen of a run.
 #[derive(Drop)]

@@ -1,18 +1,18 @@
 //! The command `outcomes`: the outcomes of a script that is run many times.
 
-ghost use Rattle.std.specs.{Prelude.{◌≡◌, ◌++◌, false, IfOk, OnOk}, List.{flat_map}};
+ghost use Rattle.std.specs.Prelude.{◌≡◌, ◌++◌, false, IfOk, OnOk};
 ghost use Rattle.sci_text.specs.Tap.{has_failed};
 ghost use Rattle.sci_command.specs.{Answer.{HasAnswered}, declared.outcome.Outcome.{Outcome}};
-ghost use Rattle.sci_outcomes.specs.OutcomesAnswer.{IsGivenUpScript, IsOutcomesAnswer, count_text, held_text, outcome_text, outcomes_text as outcomes_text_of};
-ghost use Rattle.sci_outcomes.specs.{OutcomesAnswer.{replied_text, row_text, seed_text, sense_text, total_text}, RunAnswer.{IsRunRefusal}};
+ghost use Rattle.sci_outcomes.specs.OutcomesAnswer.{IsGivenUpScript, IsOutcomesAnswer, count_text, outcomes_text as outcomes_text_of};
+ghost use Rattle.sci_outcomes.specs.{OutcomesAnswer.{row_text, seed_text, total_text}, RunAnswer.{IsRunRefusal}};
 
 use crate::histogram::Row;
-use crate::outcome::{Held, Replied};
 use crate::run_report::refusal_of;
 use crate::trials::{Trials, Turns, outcomes};
+use sci_allowed::{push_outcome, sense_words};
 use sci_command::{Answer, Answered, Outcome, push_labelled, read_script};
 use sci_drive::Issuing;
-use sci_text::{Tap, push_number, push_text};
+use sci_text::{Tap, push_text};
 use std::alloc::{AllocError, Global};
 use std::io::Read;
 use std::thread::Threads;
@@ -43,64 +43,6 @@ pub struct OutcomesRequest {
     pub issuing: Issuing,
 }
 
-/// Appends what an operation replied.
-#[tactic(auto, unfolding(crate::specs::OutcomesAnswer::replied_text))]
-fn push_replied(out: &mut Vec<u8>, replied: &Replied) -> Result<(), AllocError>
-    ensures { OnOk result (out.new.items ≡ out.old.items ++ replied_text replied.now) }
-{
-    push_number(out, u64::from(replied.node))?;
-    push_text(out, ":")?;
-    push_number(out, u64::from(replied.serial))?;
-    push_text(out, "=")?;
-    push_number(out, replied.word)?;
-    push_text(out, " ")
-}
-
-/// Appends what a word holds.
-#[tactic(auto, unfolding(crate::specs::OutcomesAnswer::held_text))]
-fn push_held(out: &mut Vec<u8>, held: &Held) -> Result<(), AllocError>
-    ensures { OnOk result (out.new.items ≡ out.old.items ++ held_text held.now) }
-{
-    push_text(out, " ")?;
-    push_number(out, u64::from(held.line))?;
-    push_text(out, ".")?;
-    push_number(out, u64::from(held.word))?;
-    push_text(out, "=")?;
-    push_number(out, held.value)
-}
-
-/// Appends what operations replied.
-fn push_replies(out: &mut Vec<u8>, replies: &[Replied]) -> Result<(), AllocError>
-    ensures { OnOk result (out.new.items ≡ out.old.items ++ flat_map replied_text replies.now) }
-{
-    for replied in replies {
-        push_replied(out, replied)?;
-    }
-    Ok(())
-}
-
-/// Appends what words hold.
-fn push_words(out: &mut Vec<u8>, words: &[Held]) -> Result<(), AllocError>
-    ensures { OnOk result (out.new.items ≡ out.old.items ++ flat_map held_text words.now) }
-{
-    for held in words {
-        push_held(out, held)?;
-    }
-    Ok(())
-}
-
-/// The words that say whether an outcome is in program order.
-#[tactic(auto, unfolding(crate::specs::OutcomesAnswer::sense_text))]
-fn sense_words(in_order: bool) -> &'static str
-    ensures { result.now ≡ sense_text in_order }
-{
-    if in_order {
-        " in program order\n"
-    } else {
-        " reordered\n"
-    }
-}
-
 /// Appends the seed of the run with this number, if its order of turns was drawn.
 #[tactic(auto, unfolding(crate::specs::OutcomesAnswer::seed_text))]
 fn push_seed(out: &mut Vec<u8>, turns: Turns, number: u64) -> Result<(), AllocError>
@@ -122,22 +64,12 @@ fn push_count(out: &mut Vec<u8>, turns: Turns, row: &Row) -> Result<(), AllocErr
     push_text(out, sense_words(row.in_order))
 }
 
-/// Appends the outcome of a row.
-#[tactic(auto, unfolding(crate::specs::OutcomesAnswer::outcome_text))]
-fn push_outcome(out: &mut Vec<u8>, row: &Row) -> Result<(), AllocError>
-    ensures { OnOk result (out.new.items ≡ out.old.items ++ outcome_text row.now.outcome) }
-{
-    push_replies(out, &row.outcome.replies)?;
-    push_text(out, "|")?;
-    push_words(out, &row.outcome.last)
-}
-
 /// Appends the line of a row.
 #[tactic(auto, unfolding(crate::specs::OutcomesAnswer::row_text))]
 fn push_row(out: &mut Vec<u8>, turns: Turns, row: &Row) -> Result<(), AllocError>
     ensures { OnOk result (out.new.items ≡ out.old.items ++ row_text turns row.now) }
 {
-    push_outcome(out, row)?;
+    push_outcome(out, &row.outcome)?;
     push_count(out, turns, row)
 }
 

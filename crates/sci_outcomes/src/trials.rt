@@ -7,7 +7,7 @@ ghost use Rattle.sci_outcomes.specs.Trials.{AreOutcomes, AreWrittenBy, IsDrawnSi
 
 use crate::histogram::{Histogram, Row};
 use crate::outcome::{Sighting, seen};
-use crate::place::{Place, written_places};
+use sci_allowed::{Place, written_places};
 use sci_drive::Issuing;
 use sci_runs::{Plan, RunFault, run_script};
 use sci_text::Script;

@@ -3,7 +3,8 @@ use Rattle.sci_words.specs.declared.stamped.Stamped.{Stamped}
 use Rattle.sci_history.specs.{declared.entry.Entry.{Entry}, Audit.{AreWithin}, Lawful.{Lawful}}
 use Rattle.sci_history.specs.Sequential.{IsSequentiallyConsistent}
 use Rattle.sci_core.specs.Outcome.{logs_of}
-use Rattle.sci_outcomes.specs.{declared.outcome.{Outcome.{Outcome}, Sighting.{Sighting}}, Outcomes.{IsSeen, replies_in}}
+use Rattle.sci_allowed.specs.declared.outcome.Outcome.{Outcome}
+use Rattle.sci_outcomes.specs.{declared.outcome.Sighting.{Sighting}, Outcomes.{IsSeen, replies_in}}
 use Rattle.sci_outcomes.proofs.outcome.seen.Goals as goal
 
 pub sequential_order-requires : goal.sequential_order-requires

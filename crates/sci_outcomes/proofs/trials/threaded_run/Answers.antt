@@ -6,7 +6,8 @@ use Rattle.sci_text.specs.Script.{ScriptValue, operations_of}
 use Rattle.sci_drive.specs.{declared.driver.Issuing.{Issuing}, Calls.{AllowAll, Call}, ScriptLogs.{size_for}}
 use Rattle.sci_threads.specs.Slices.{AreDrivenThrough, hears_openly}
 use Rattle.sci_threads.proofs.{DrivenNodes.{led_and_driven}, Openly.{all_openly}}
-use Rattle.sci_outcomes.specs.{declared.place.Place.{Place}, Outcomes.{IsPlaceWithin, IsSeen}, Trials.{IsDrivenFor}}
+use Rattle.sci_allowed.specs.{Outcome.{IsPlaceWithin}, declared.place.Place.{Place}}
+use Rattle.sci_outcomes.specs.{Outcomes.{IsSeen}, Trials.{IsDrivenFor}}
 use Rattle.sci_outcomes.proofs.trials.threaded_run.Goals as goal
 
 pub seen-requires : goal.seen-requires

@@ -1,7 +1,8 @@
 use Rattle.std.proofs.{Common.{◌≡◌, map, sym, ap, subst, ◌∙◌, rules, List, ℕ}, lemmas.List.Sorted.{answers_always}}
 use Rattle.std.proofs.lemmas.Map.Iter.{iter_end}
 use Rattle.std.specs.{List.Sorted.{IsPermutation, IsStableBy}, declared.cmp.Reverse.{Reverse}}
-use Rattle.sci_outcomes.specs.declared.{histogram.{Row.{Row}, Tally.{Tally}}, outcome.Outcome.{Outcome}}
+use Rattle.sci_allowed.specs.declared.outcome.Outcome.{Outcome}
+use Rattle.sci_outcomes.specs.declared.histogram.{Row.{Row}, Tally.{Tally}}
 use Rattle.sci_outcomes.proofs.{SightingCounts.{map_same}, Ranked.{are_rows, is_more, row_of}}
 use Rattle.sci_outcomes.proofs.histogram.Histogram.rows.Goals as goal
 

@@ -1,8 +1,0 @@
-use Rattle.std.proofs.Common.{◌≡◌, ◌++◌, take}
-use Rattle.std.specs.List.{flat_map}
-use Rattle.sci_outcomes.specs.OutcomesAnswer.{held_text}
-use Rattle.sci_outcomes.proofs.outcomes_report.push_words.Given as goal
-
--- the words so far
-abbrev pub invariant-loop-held : goal.invariant-loop-held
-invariant-loop-held l = l.out.items ≡ l.fn.out.items ++ flat_map held_text (take l.held-index l.words)
