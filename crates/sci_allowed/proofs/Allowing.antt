@@ -121,7 +121,7 @@ are_allowed litmus window standings outcomes sorted final good has seen moved or
 
 -- ---- rows
 
-row_outcomes : (tag : Outcome → Bool) (outcomes : List Outcome) → map (λ (row : Outcome × Bool). row.0) (map (λ o. (o, tag o)) outcomes) ≡ outcomes
+pub row_outcomes : (tag : Outcome → Bool) (outcomes : List Outcome) → map (λ (row : Outcome × Bool). row.0) (map (λ o. (o, tag o)) outcomes) ≡ outcomes
 row_outcomes tag [] = refl
 row_outcomes tag (o ∷ outcomes) = ap (λ (os : List Outcome). o ∷ os) (row_outcomes tag outcomes)
 

@@ -1,4 +1,6 @@
 pub mod WrittenWords
+pub mod Verdicts
+pub mod LineFaults
 pub mod Sameness
 pub mod SeenAlike
 pub mod Shares

@@ -1,19 +1,23 @@
 //! The command `allowed`: all outcomes that runs of a script can have.
 
-ghost use Rattle.std.specs.Prelude.{◌≡◌, ◌++◌, ◌⊎◌, ℕ, Some, false, IfErr, IfOk, IsSome, OnOk};
+ghost use Rattle.std.specs.Prelude.{◌≡◌, ◌++◌, ℕ, Some, false, IfErr, IfOk, IsSome, OnOk};
 ghost use Rattle.sci_text.specs.Tap.{has_failed};
 ghost use Rattle.sci_command.specs.Answer.{HasAnswered};
 ghost use Rattle.sci_drive.specs.Rounds.{most_pending};
 ghost use Rattle.sci_allowed.specs.Allowed.{AreSorted, IsLitmus, IsTooBig, IsTooLong, kind_of, rows_of};
 ghost use Rattle.sci_allowed.specs.AllowedAnswer.{IsAllowedAnswer, IsAllowedRefusal, IsShownText, IsTextOf, LacksNumber, row_text, rows_text as rows_text_of, total_text};
+ghost use Rattle.sci_allowed.specs.Verdict.{AddsVerdict};
 ghost use Rattle.sci_allowed.specs.declared.fault.AllowedFault.TheVariants.{NoRow, TooLong, TooMany};
 
+use crate::condition::FinalCondition;
+use crate::conditioned::read_conditioned;
 use crate::fault::AllowedFault;
 use crate::litmus::Litmus;
 use crate::outcome::Outcome;
 use crate::outcome_text::{push_outcome, sense_words};
 use crate::rows::Rows;
-use sci_command::{Answer, Answered, Note, Outcome as Ending, Refusal, push_labelled, read_script};
+use crate::verdict::push_verdict;
+use sci_command::{Answer, Answered, Note, Outcome as Ending, Refusal, push_labelled};
 use sci_drive::Issuing;
 use sci_text::{Tap, TextFault, TextFaultKind, push_field, push_text, schedule_text};
 use std::alloc::{AllocError, Global};
@@ -70,6 +74,21 @@ fn rows_text(alloc: Global, rows: &Rows) -> Result<Vec<u8>, AllocError>
     Ok(text)
 }
 
+/// The text of the rows, and the verdict on the condition of the script, if it has one.
+fn judged_rows(
+    alloc: Global,
+    rows: &Rows,
+    last: &Option<FinalCondition>,
+) -> Result<Answer, AllocError>
+    requires { AreSorted rows.now }
+    ensures { IfOk result (λ answer. AddsVerdict last.now rows.now.outcomes.items
+        (rows_text_of (rows_of rows.now)) answer.text.items answer.outcome) }
+{
+    let mut text = rows_text(alloc, rows)?;
+    let outcome = push_verdict(&mut text, last, &rows.outcomes)?;
+    Ok(Answer { text, outcome })
+}
+
 /// The text of a schedule to the row with this number, from 1.
 fn shown_text(
     alloc: Global,
@@ -93,11 +112,16 @@ fn shown_text(
     Ok(schedule_text(alloc, &schedule)?)
 }
 
-/// What is written of a script.
-fn text_of(alloc: Global, litmus: &Litmus, request: AllowedRequest) -> Result<Vec<u8>, AllowedFault>
+/// What is written of a script and its condition, and how the command ends then.
+fn answer_of(
+    alloc: Global,
+    litmus: &Litmus,
+    last: &Option<FinalCondition>,
+    request: AllowedRequest,
+) -> Result<Answer, AllowedFault>
     requires { IsLitmus litmus.now }
-    ensures text { IfOk result (λ text. IsTextOf litmus.now.script (most_pending request.issuing)
-        request.show text.items) }
+    ensures text { IfOk result (λ answer. IsTextOf litmus.now.script (most_pending request.issuing)
+        request.show last.now answer.text.items answer.outcome) }
     ensures many { IfErr result (λ fault. fault ≡ TooMany →
         IsTooBig litmus.now.script (most_pending request.issuing)) }
     ensures long { IfErr result (λ fault. fault ≡ TooLong →
@@ -108,8 +132,17 @@ fn text_of(alloc: Global, litmus: &Litmus, request: AllowedRequest) -> Result<Ve
 {
     let window = window_of(request.issuing);
     match request.show {
-        None => Ok(rows_text(alloc, &Rows::of(alloc, litmus, window)?)?),
-        Some(number) => shown_text(alloc, litmus, window, number),
+        None => {
+            let rows = Rows::of(alloc, litmus, window)?;
+            Ok(judged_rows(alloc, &rows, last)?)
+        }
+        Some(number) => {
+            let text = shown_text(alloc, litmus, window, number)?;
+            Ok(Answer {
+                text,
+                outcome: Ending::Done,
+            })
+        }
     }
 }
 
@@ -154,7 +187,8 @@ fn refusal_of(alloc: Global, fault: AllowedFault) -> Refusal
 /// submits its operations in their order, up to four at once, each on another line, or each when all before it are performed:
 /// what each load and each lock operation replied, by node and then by serial; what each word that the script may write holds
 /// at the end; and whether a run in which each node goes in order can have the outcome, too. They stand by their numbers. The
-/// last line says how many outcomes there are. With a number, it gives a schedule to the row with this number, from 1.
+/// next line says how many outcomes there are. If the text of the script ends in a condition, the last line says whether it is
+/// true of the outcomes, and it is Unlawful if it isn't. With a number, it gives a schedule to the row with this number, from 1.
 ///
 /// A script with a fault is refused, as are a reader that fails, too long an input and running out of memory, at line 0. A
 /// script of which some number of steps leads to more than 100,000 positions is refused as `too-many` at line 0, as is a
@@ -165,13 +199,9 @@ pub fn allowed<R: Read>(alloc: Global, request: AllowedRequest, reader: &mut Tap
     ensures { HasAnswered R.remaining reader.old reader.new (IsAllowedAnswer request)
         (IsAllowedRefusal request) result }
 {
-    let script = read_script(alloc, reader)?;
-    let litmus = Litmus::of(alloc, script)?;
-    match text_of(alloc, &litmus, request) {
-        Ok(text) => Ok(Answer {
-            text,
-            outcome: Ending::Done,
-        }),
+    let (litmus, last) = read_conditioned(alloc, reader)?;
+    match answer_of(alloc, &litmus, &last, request) {
+        Ok(answer) => Ok(answer),
         Err(fault) => Err(refusal_of(alloc, fault)),
     }
 }

@@ -2,6 +2,10 @@
 #![tactic(auto)]
 
 mod allowed_report;
+mod condition;
+mod condition_refusal;
+mod condition_text;
+mod conditioned;
 mod fault;
 mod litmus;
 mod outcome;
@@ -9,8 +13,12 @@ mod outcome_text;
 mod place;
 mod rows;
 mod showing;
+mod verdict;
 
 pub use allowed_report::{AllowedRequest, allowed};
+pub use condition::{Condition, FinalCondition, Quantifier, Term};
+pub use conditioned::{Conditioned, read_conditioned};
+pub use litmus::Litmus;
 pub use outcome::{Held, Outcome, Replied};
 pub use outcome_text::{push_outcome, sense_words};
 pub use place::{Place, written_places};

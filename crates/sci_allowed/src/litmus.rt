@@ -1,24 +1,33 @@
 //! A script, and all outcomes that its runs can have.
 
-ghost use Rattle.std.specs.Prelude.{◌≡◌, length, map, All, IfErr, IfOk};
+ghost use Rattle.std.specs.Prelude.{◌≡◌, length, map, slice_get, All, IfErr, IfOk};
 ghost use Rattle.sci_text.specs.Script.{IsScript};
 ghost use Rattle.sci_drive.specs.ScriptLogs.{size_for};
 ghost use Rattle.sci_orders.specs.declared.fault.OrdersFault.TheVariants.{TooMany};
-ghost use Rattle.sci_orders.specs.Positions.{AreTooMany, position_of};
+ghost use Rattle.sci_orders.specs.Positions.{AreTooMany, own_of, position_of};
 ghost use Rattle.sci_allowed.specs.Allowed.{AreAllowed, AreSeenAt, HaveRuns, IsLitmus, seen_at, shares_of};
-ghost use Rattle.sci_allowed.specs.Outcome.{shown_of};
+ghost use Rattle.sci_allowed.specs.{Condition.{has_term, replies_word as replies_word_of}, Outcome.{shown_of}};
 
+use crate::condition::Term;
 use crate::outcome::{Outcome, outcome_of};
-use crate::place::{Place, written_places};
+use crate::place::{Place, is_written, written_places};
 use sci_orders::{Orders, OrdersFault, Standing};
 use sci_text::{Script, operations_by_node};
-use sci_words::{MAX_OPERATIONS, Op};
+use sci_words::{Act, MAX_OPERATIONS, Op};
 use std::alloc::{AllocError, Global};
+
+/// Whether what is done replies a word.
+fn replies_word(act: Act) -> bool
+    ensures { result ≡ replies_word_of act }
+{
+    !matches!(act, Act::Store(_))
+}
 
 /// A script that is looked at.
 #[derive(Drop)]
-pub(crate) struct Litmus {
-    pub(crate) script: Script,
+pub struct Litmus {
+    /// The script.
+    pub script: Script,
     /// Each node's operations, in their order.
     operations: Vec<Vec<Op>>,
     /// The words that it may write.
@@ -39,6 +48,35 @@ impl Litmus {
             operations,
             places,
         })
+    }
+
+    /// The operation of a node with this serial.
+    fn operation(&self, node: u8, serial: u32) -> Option<Op>
+        requires { IsLitmus self.now }
+        ensures { result ≡ slice_get (own_of (shares_of self.now.script) node) serial }
+    {
+        let own = self.operations.get(usize::from(node))?;
+        own.get(serial as usize).copied()
+    }
+
+    /// Whether the script has what a term names: the reply of an operation, or a word that some operation may write.
+    pub(crate) fn has(&self, term: Term) -> bool
+        requires { IsLitmus self.now }
+        ensures { result ≡ has_term self.now.script term }
+    {
+        match term {
+            Term::Replied(said) => match self.operation(said.node, said.serial) {
+                Some(op) => replies_word(op.act),
+                None => false,
+            },
+            Term::Held(said) => {
+                let place = Place {
+                    line: said.line,
+                    word: said.word,
+                };
+                is_written(place, self.script.operations())
+            }
+        }
     }
 
     /// Its orders, if at most this number of operations waits at a node.

@@ -19,7 +19,7 @@ pub struct Place {
 }
 
 /// Whether some of the operations may write the word at a place.
-fn is_written(place: Place, operations: &[(u8, Op)]) -> bool
+pub(crate) fn is_written(place: Place, operations: &[(u8, Op)]) -> bool
     ensures { result ≡ is_written_of operations.now place }
 {
     operations.iter().any(|(_, op)| op.is_maker() && op.line == place.line && op.word == place.word)

@@ -2,4 +2,5 @@ pub mod Outcomes
 pub mod Rows
 pub mod Trials
 pub mod RunAnswer
+pub mod SampleVerdict
 pub mod OutcomesAnswer

@@ -5,6 +5,7 @@ mod histogram;
 mod outcome;
 mod outcomes_report;
 mod run_report;
+mod sample_verdict;
 mod trials;
 
 pub use outcomes_report::{MAX_RUNS, OutcomesRequest, outcomes_of};

@@ -2,15 +2,16 @@
 
 ghost use Rattle.std.specs.Prelude.{◌≡◌, ◌++◌, false, IfOk, OnOk};
 ghost use Rattle.sci_text.specs.Tap.{has_failed};
-ghost use Rattle.sci_command.specs.{Answer.{HasAnswered}, declared.outcome.Outcome.{Outcome}};
-ghost use Rattle.sci_outcomes.specs.OutcomesAnswer.{IsGivenUpScript, IsOutcomesAnswer, count_text, outcomes_text as outcomes_text_of};
-ghost use Rattle.sci_outcomes.specs.{OutcomesAnswer.{row_text, seed_text, total_text}, RunAnswer.{IsRunRefusal}};
+ghost use Rattle.sci_command.specs.Answer.{HasAnswered};
+ghost use Rattle.sci_outcomes.specs.OutcomesAnswer.{IsOutcomesAnswer, IsOutcomesRefusal, count_text, outcomes_text as outcomes_text_of};
+ghost use Rattle.sci_outcomes.specs.OutcomesAnswer.{row_text, seed_text, total_text};
 
 use crate::histogram::Row;
 use crate::run_report::refusal_of;
+use crate::sample_verdict::push_sample_verdict;
 use crate::trials::{Trials, Turns, outcomes};
-use sci_allowed::{push_outcome, sense_words};
-use sci_command::{Answer, Answered, Outcome, push_labelled, read_script};
+use sci_allowed::{push_outcome, read_conditioned, sense_words};
+use sci_command::{Answer, Answered, push_labelled};
 use sci_drive::Issuing;
 use sci_text::{Tap, push_text};
 use std::alloc::{AllocError, Global};
@@ -103,9 +104,10 @@ fn outcomes_text(alloc: Global, trials: Trials, rows: &[Row]) -> Result<Vec<u8>,
 /// next seed or by one thread a node, and gives a line for each outcome: what each load and each lock operation replied, by
 /// node and then by serial; what each word that the script may write holds at the end; how many runs gave the outcome; the
 /// seed of the first of them, unless they are by threads; and whether the log of one of them is sequentially consistent in
-/// program order. The most frequent stands first, and those that are as frequent by their numbers. The last line says how many
-/// outcomes and runs there were. That the log of each run is lawful is a theorem, and isn't looked at. A script with a fault is
-/// refused, as are a reader that fails, too long an input and running out of memory, at line 0, and a run of more than 500,000
+/// program order. The most frequent stands first, and those that are as frequent by their numbers. The next line says how many
+/// outcomes and runs there were. If the text of the script ends in a condition, the last line says what the runs tell of it, and
+/// it is Unlawful if it isn't true of them. That the log of each run is lawful is a theorem, and isn't looked at. A script with
+/// a fault is refused, as are a reader that fails, too long an input and running out of memory, at line 0, and a run of more than 500,000
 /// events or 1,000,000,000 turns, as `too-many` at line 0. After a failed read nothing more is read.
 pub fn outcomes_of<T: Threads + Sync, R: Read>(
     rt: &T,
@@ -115,21 +117,19 @@ pub fn outcomes_of<T: Threads + Sync, R: Read>(
 ) -> Answered
     requires { has_failed reader.old ≡ false }
     ensures { HasAnswered R.remaining reader.old reader.new (IsOutcomesAnswer request)
-        (IsRunRefusal (IsGivenUpScript request)) result }
+        (IsOutcomesRefusal request) result }
 {
-    let script = read_script(alloc, reader)?;
+    let (litmus, last) = read_conditioned(alloc, reader)?;
     let trials = Trials {
         runs: request.runs.unwrap_or(RUNS),
         turns: request.turns.unwrap_or(Turns::Drawn { seed: SEED }),
         issuing: request.issuing,
     };
-    let rows = match outcomes(rt, alloc, &script, trials) {
+    let rows = match outcomes(rt, alloc, &litmus.script, trials) {
         Ok(rows) => rows,
         Err(fault) => return Err(refusal_of(fault, GIVEN_UP)),
     };
-    let text = outcomes_text(alloc, trials, &rows)?;
-    Ok(Answer {
-        text,
-        outcome: Outcome::Done,
-    })
+    let mut text = outcomes_text(alloc, trials, &rows)?;
+    let outcome = push_sample_verdict(&mut text, &last, &rows)?;
+    Ok(Answer { text, outcome })
 }

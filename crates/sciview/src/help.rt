@@ -101,6 +101,7 @@ usage: sciview outcomes [--runs R] [--seed S | --threads] [--in-order] [FILE]
 Of a script: how often each outcome of it comes in many runs: what each load and
 lock operation replied, the words at the end, how many runs gave it, the seed of
 the first of them, and whether one memory explains it in the order of the script.
+A condition in the script's last line is answered by Yes, No or Not seen.
 
   --runs R      this many runs, 1 to 1,000,000, and not 1,000
   --seed S      by the seeds from S on, and not from 1
@@ -114,7 +115,8 @@ usage: sciview allowed [--in-order] [--show K] [FILE]
 
 Of a script: each outcome that a run of it can have, whatever takes the turns:
 what each load and lock operation replied, the words at the end, and whether a
-run in the order of the script can have it.
+run in the order of the script can have it. A condition in the script's last line,
+as 'exists 0:1=0 and 1:1=0', is answered by Yes or No.
 
   --in-order    a node has one operation pending, and not up to four
   --show K      the schedule of a run with the outcome of line K, and no lines

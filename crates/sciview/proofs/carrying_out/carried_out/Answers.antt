@@ -12,7 +12,7 @@ use Rattle.sci_charts.specs.ChartAnswer.{IsChartAnswer}
 use Rattle.sci_reports.specs.{CheckAnswer.{IsCheckAnswer, IsLastFault}, ExplainAnswer.{IsExplainAnswer}}
 use Rattle.sci_reports.specs.OrderAnswer.{IsOrderAnswer}
 use Rattle.sci_traces.specs.{ListsAnswer.{IsListsAnswer}, PacketsAnswer.{IsPacketsAnswer}, TraceAnswer.{IsTraceAnswer}}
-use Rattle.sci_outcomes.specs.{OutcomesAnswer.{IsGivenUpScript, IsOutcomesAnswer}, RunAnswer.{IsLongRun, IsRunAnswer, IsRunRefusal}}
+use Rattle.sci_outcomes.specs.{OutcomesAnswer.{IsOutcomesAnswer, IsOutcomesRefusal}, RunAnswer.{IsLongRun, IsRunAnswer, IsRunRefusal}}
 use Rattle.sci_walks.specs.RandomAnswer.{IsRandomAnswer, IsWalkFault}
 use Rattle.sci_statistics.specs.StatsAnswer.{IsStatsAnswer, IsStatsFault}
 use Rattle.sciview.specs.CommandAnswer.{help_for}
@@ -93,8 +93,8 @@ returns-in-Run g c =
 pub returns-in-Outcomes : goal.returns-in-Outcomes
 returns-in-Outcomes g c =
     let shown = c.show-in-Outcomes in
-    let given_up = IsGivenUpScript c.in-Outcomes.request in
-    rw c.in-Outcomes.is (carried_out (IsOutcomesAnswer c.in-Outcomes.request) (IsRunRefusal given_up) c.outcomes_of.result shown.result.refusal
+    let request = c.in-Outcomes.request in
+    rw c.in-Outcomes.is (carried_out (IsOutcomesAnswer request) (IsOutcomesRefusal request) c.outcomes_of.result shown.result.refusal
     (λ text is. is) c.outcomes_of.ensures shown.ensures.refusal shown.ensures.written shown.ensures.again)
 
 pub returns-in-Allowed : goal.returns-in-Allowed
