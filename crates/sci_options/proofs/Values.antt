@@ -41,7 +41,7 @@ abbrev second : List (List ℕ) → List ℕ
 second [] = []
 second (word ∷ words) = head words
 
--- what is read is this value, from so many words
+-- what is read is this value, from this count of words
 pub just_read : (there value : Value) (n count : ℕ) → value ≡ there → count ≡ n
     → (let one : Option (Value × ℕ) = Some (there, n) in one ≡ Some (value, count))
 just_read there value n count is many =

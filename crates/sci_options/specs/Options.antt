@@ -59,7 +59,7 @@ Says (arguments.Place count) value word = (n : ℕ) × (value ≡ values.Place n
 Says (arguments.Number least greatest) value word = (n : ℕ) × (value ≡ values.Number n) × (word ≡ number n) × (least ≤ n) × (n ≤ greatest)
 Says argument value word = ⊥
 
--- words begin with a value for an argument, which takes so many of them: one, two, or as many as the argument has
+-- words begin with a value for an argument, which takes this count of them: one, two, or as many as the argument has
 abbrev pub FollowsInOne : Argument → Value → List (List ℕ) → ℕ → Type 0
 FollowsInOne argument value words count =
     (word : List ℕ) × (rest : List (List ℕ)) × (words ≡ word ∷ rest) × Says argument value word × (count ≡ 1)
@@ -89,7 +89,7 @@ abbrev pub IsJoined : List OptionRow → List ℕ → List ℕ → Setting → T
 IsJoined options word text setting = (argument : Argument) × (argument_of options setting.name ≡ Some argument)
     × (word ≡ option_word setting.name) × Says argument setting.value text
 
--- a word, and so many of those behind it, are an option of a table with its value: `--line 5`, or `--line=5`
+-- a word, and this count of those behind it, are an option of a table with its value: `--line 5`, or `--line=5`
 abbrev pub Begins : List OptionRow → List ℕ → List (List ℕ) → Setting → ℕ → Type 0
 Begins options word more setting count = IsParted options word more setting count
     ⊎ ((front : List ℕ) × (text : List ℕ) × (word ≡ front ++ (61 ∷ text)) × IsJoined options front text setting × (count ≡ 0))

@@ -12,7 +12,7 @@ use sci_text::whole_number;
 pub enum Argument {
     /// No word.
     Nothing,
-    /// A number below `count`, of one of so many things.
+    /// A number below `count`, of one of `count` things.
     Place { count: u8 },
     /// A number from `least` to `greatest`.
     Number { least: u64, greatest: u64 },
@@ -25,7 +25,7 @@ pub enum Argument {
 pub enum Value {
     /// Nothing but that the option is given.
     Nothing,
-    /// One of so many things.
+    /// The number of one of `count` things.
     Place(u8),
     /// A number.
     Number(u64),

@@ -17,6 +17,8 @@ use std::alloc::{AllocError, Global};
 /// The most standings to which a number of steps may lead.
 pub const MAX_STANDINGS: usize = 100_000;
 
+const _: () = prove!(MAX_STANDINGS == 100_000);
+
 /// The operations of a script, and how many of them may wait: what says in which orders they can be done.
 #[derive(Clone, Copy)]
 pub struct Orders<'a> {
