@@ -9,3 +9,4 @@ pub mod FirstCome
 pub mod ReachedLaws
 pub mod Schedules
 pub mod NetworkLaws
+pub mod Summaries

@@ -20,6 +20,7 @@ pub mod Work
 pub mod Sides
 pub mod Enabled
 pub mod Obstacles
+pub mod Dead
 pub mod Coherent
 pub mod GoingOn
 pub mod Draining

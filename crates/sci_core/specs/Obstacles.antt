@@ -1,5 +1,5 @@
 -- Why an event isn't enabled: the first thing that stands in its way, in the order of these cases.
-use Rattle.std.specs.Prelude.{ℕ, Bool, nat_lt, not, if◌then◌else◌, Option, Some, None, is_some, is_none, Result, Ok, Err, slice_get}
+use Rattle.std.specs.Prelude.{ℕ, List, codes, Bool, nat_lt, not, if◌then◌else◌, Option, Some, None, is_some, is_none, Result, Ok, Err, slice_get}
 use Rattle.sci_words.specs.declared.{limits.TheConstants.{WORDS_PER_LINE}, event.{AskKind.{AskKind}, Event.{Event}}}
 use Rattle.sci_words.specs.declared.operation.Op.{Op}
 use Rattle.sci_cache.specs.{declared.fault.AskFault.{AskFault}, Cache.{CacheOf, Letter, cache_asking}}
@@ -69,3 +69,20 @@ obstacle_here core (event.Accept from n) = take_obstacle core Accept from n
 -- In a reached state, and for operands that are words, there is none exactly if the event is enabled.
 abbrev pub obstacle_to : Core → Event → Option Obstacle
 obstacle_to core event = unless (nat_lt (node_of event) core.size.nodes) NoSuchNode (obstacle_here core event)
+
+-- the name of an obstacle
+unfoldable pub obstacle_name : Obstacle → List ℕ
+obstacle_name NoSuchNode = codes "no-such-node"
+obstacle_name NoSuchSender = codes "no-such-sender"
+obstacle_name NoSuchLine = codes "no-such-line"
+obstacle_name NoSuchWord = codes "no-such-word"
+obstacle_name AlreadyPending = codes "already-pending"
+obstacle_name NoIssueLeft = codes "no-issue-left"
+obstacle_name NothingPending = codes "nothing-pending"
+obstacle_name NotAllowed = codes "not-allowed"
+obstacle_name NotAsked = codes "not-asked"
+obstacle_name NoSlot = codes "no-slot"
+obstacle_name NothingUnderWay = codes "nothing-under-way"
+obstacle_name AnswerWaits = codes "answer-waits"
+obstacle_name SetbackComes = codes "setback-comes"
+obstacle_name NoAnswerWaits = codes "no-answer-waits"

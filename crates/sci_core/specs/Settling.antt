@@ -1,9 +1,10 @@
 -- Events that are made one after another, and the state where the machine has come to rest.
-use Rattle.std.specs.Prelude.{◌≡◌, ◌<◌, ◌≤◌, ℕ, ◌+◌, ◌*◌, Bool, true, false, List, [], ◌∷◌, length, is_some, count_by}
+use Rattle.std.specs.Prelude.{◌≡◌, ◌<◌, ◌≤◌, ℕ, ◌+◌, ◌*◌, Bool, true, false, List, [], ◌∷◌, length, Some, is_some, count_by}
 use Rattle.std.specs.List.{range_with_len, sum_by}
 use Rattle.sci_words.specs.declared.{event.Event.{Event}, stamped.Stamped.{Stamped}}
 use Rattle.sci_home.specs.declared.state.HomeState.TheVariants.{Home}
-use Rattle.sci_core.specs.{Core.{Core, IsEnabled, node_at, run_from, step}, Draining.{IsDrained}, Node.{IsAtRest}}
+use Rattle.sci_history.specs.declared.entry.Entry.{Entry}
+use Rattle.sci_core.specs.{Core.{Core, IsEnabled, node_at, run_from, step, stepping}, Draining.{IsDrained}, Node.{IsAtRest}, Work.{IsLogged}}
 use Rattle.sci_core.specs.Sharing.{home_at}
 use Rattle.sci_words.specs.declared.event.Event.TheVariants as event
 
@@ -14,6 +15,13 @@ abbrev pub settles : Event → Bool
 settles (event.Issue n op) = false
 settles (event.Refuse from n) = false
 settles _ = true
+
+-- every event but an Issue, a Refuse and a Perform
+abbrev pub exchanges : Event → Bool
+exchanges (event.Issue n op) = false
+exchanges (event.Refuse from n) = false
+exchanges (event.Perform n line) = false
+exchanges _ = true
 
 -- each of the events passes a test, and is enabled when it comes
 abbrev pub AreMade : (Event → Bool) → Core → List Event → Type 0
@@ -31,6 +39,22 @@ pub record Leads (may : Event → Bool) (old new : Core) (count : ℕ) : Type 0 
 pub record LeadsOn (may : Event → Bool) (old new : Core) : Type 0 where
   pub count : ℕ
   pub leads : Leads may old new count
+
+-- the same operations are pending
+pub record KeepsPending (old new : Core) : Type 0 where
+  pub size : new.size ≡ old.size
+  pub pending : (m : ℕ) → (node_at new m).pending ≡ (node_at old m).pending
+
+-- After such events that perform nothing, node n performs the operation that is pending on a line. They are at most 11 for each
+-- line with an entry that each node may have, and the four by which the node reads the line.
+pub record IsPerformedNext (old new : Core) (n line : ℕ) (entry : Entry) : Type 0 where
+  pub before : Core
+  pub count : ℕ
+  pub leads : Leads exchanges old before count
+  pub lines : count ≤ 11 * (old.size.nodes * old.size.lines) + 4
+  pub slots : count ≤ 11 * (old.size.nodes * old.size.slots) + 4
+  pub performs : stepping before (event.Perform n line) ≡ Some new
+  pub logged : IsLogged (node_at before n) (node_at new n) line entry
 
 -- ---- at rest
 

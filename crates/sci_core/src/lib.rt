@@ -4,6 +4,7 @@
 
 mod apply;
 mod asked;
+mod dead;
 mod drain;
 mod fault;
 mod lane;
@@ -22,6 +23,7 @@ mod state;
 mod taking;
 
 pub use apply::node_of;
+pub use dead::DeadEvents;
 pub use fault::ApplyFault;
 pub use lane::{Lane, LaneKind};
 pub use laws::{

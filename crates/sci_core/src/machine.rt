@@ -3,6 +3,7 @@
 use crate::fault::ApplyFault;
 use crate::lane::{Lane, LaneKind};
 use crate::node::Node;
+use crate::obstacle::Obstacle;
 use crate::sharing_list::Sharing;
 use crate::state::State;
 use sci_history::{Entry, Last, Logs};
@@ -30,12 +31,12 @@ impl Model for Machine {
 
 impl Machine {
     ghost use Rattle.std.specs.Prelude.{◌≡◌, ◌<◌, ◌≤◌, ℕ, Some, None, IfSome, IfOk, IfErr, IsErr, OnOk, OnErr, option_map, option_copied, slice_get};
-    ghost use Rattle.std.specs.Prelude.{length};
+    ghost use Rattle.std.specs.Prelude.{is_none, is_some, length};
     ghost use Rattle.sci_words.specs.declared.limits.TheConstants.{MAX_OPERATIONS};
     ghost use Rattle.sci_words.specs.declared.event.Event.TheVariants.{Issue, Perform};
     ghost use Rattle.sci_cache.specs.Cache.{letter_of};
-    ghost use Rattle.sci_core.specs.Core.{IsEnabled, core_of, lane_of, node_at, opening, stepping, run_from};
-    ghost use Rattle.sci_core.specs.{Core.{lane_place}, Network.{overtaken}};
+    ghost use Rattle.sci_core.specs.Core.{IsEnabled, core_of, lane_of, node_at, opening, step, stepping, run_from};
+    ghost use Rattle.sci_core.specs.{Core.{lane_place}, Dead.{obstacle_if_dead}, Network.{overtaken}};
     ghost use Rattle.sci_core.specs.{Node.{node_issuing, node_performing}, Fault.{IsFaultOf}, Size.{size_of}};
     ghost use Rattle.sci_core.specs.{Reached.{IsReached}, Stopped.{IsStoppedAt}, Coherent.{IsCoherent}};
     ghost use Rattle.sci_core.specs.{Done.{LastChanges, made_by}, Outcome.{logs_of}, Sharing.{last_at, last_of}};
@@ -70,6 +71,23 @@ impl Machine {
         ensures coherent { IsCoherent self.new }
     {
         self.state.apply(event)
+    }
+
+    /// Applies an event of a schedule, and gives what stands in its way if it isn't enabled: it changes nothing then.
+    /// Unchanged if memory is refused, as it can be for an Ask or a Reply alone.
+    pub fn step(&mut self, event: &Event) -> Result<Option<Obstacle>, AllocError>
+        ensures ok { OnOk result (self.new ≡ step self.old event.now) }
+        ensures obstacle { IfOk result (λ obstacle. obstacle ≡ obstacle_if_dead self.old event.now) }
+        ensures enabled { IfOk result (λ obstacle. is_none obstacle ≡ is_some (stepping self.old event.now)) }
+        ensures err { OnErr result (self.new ≡ self.old) }
+        ensures size { self.new.size ≡ self.old.size }
+        ensures coherent { IsCoherent self.new }
+    {
+        match self.apply(event) {
+            Ok(()) => Ok(None),
+            Err(ApplyFault::NotEnabled) => Ok(self.obstacle_to(event)),
+            Err(ApplyFault::Memory(refused)) => Err(refused),
+        }
     }
 
     /// Makes an event. Requires that it is enabled. Unchanged if memory is refused, as it can be for an Ask or a Reply alone.

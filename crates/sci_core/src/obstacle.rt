@@ -43,6 +43,35 @@ pub enum Obstacle {
     NoAnswerWaits,
 }
 
+impl Obstacle {
+    ghost use Rattle.std.specs.Prelude.{◌≡◌, ◌≤◌, length};
+    ghost use Rattle.sci_core.specs.Obstacles.{obstacle_name};
+
+    /// Its name, in small letters with hyphens.
+    #[tactic(auto, unfolding(crate::specs::Obstacles::obstacle_name))]
+    pub fn name(self) -> &'static str
+        ensures name { result.now ≡ obstacle_name self }
+        ensures short { length result.now ≤ 20 }
+    {
+        match self {
+            Obstacle::NoSuchNode => "no-such-node",
+            Obstacle::NoSuchSender => "no-such-sender",
+            Obstacle::NoSuchLine => "no-such-line",
+            Obstacle::NoSuchWord => "no-such-word",
+            Obstacle::AlreadyPending => "already-pending",
+            Obstacle::NoIssueLeft => "no-issue-left",
+            Obstacle::NothingPending => "nothing-pending",
+            Obstacle::NotAllowed => "not-allowed",
+            Obstacle::NotAsked => "not-asked",
+            Obstacle::NoSlot => "no-slot",
+            Obstacle::NothingUnderWay => "nothing-under-way",
+            Obstacle::AnswerWaits => "answer-waits",
+            Obstacle::SetbackComes => "setback-comes",
+            Obstacle::NoAnswerWaits => "no-answer-waits",
+        }
+    }
+}
+
 /// Whether a line without an entry asks this kind.
 fn begins(kind: AskKind) -> bool
     ensures { result ≡ is_some (asking Out kind) }

@@ -6,6 +6,7 @@ ghost use Rattle.sci_core.specs.Rounds.{is_wanted, parting as parting_of};
 
 use crate::machine::Machine;
 use sci_cache::Held;
+use sci_history::Entry;
 use sci_words::{AskKind, Event};
 use std::alloc::AllocError;
 
@@ -53,7 +54,7 @@ impl Machine {
     ghost use Rattle.sci_core.specs.{Reached.{IsReached}, Shape.{state_at}, Coherent.{IsCoherent}, Core.{node_at}};
     ghost use Rattle.sci_core.specs.{Draining.{IsDrained}, Node.{node_asking, pending_on}};
     ghost use Rattle.sci_core.specs.Rounds.{AreOut, IsNext, IsRound, rank};
-    ghost use Rattle.sci_core.specs.Settling.{IsSettled, IsWithin, Leads, LeadsOn, pending_count, settles};
+    ghost use Rattle.sci_core.specs.Settling.{IsPerformedNext, IsSettled, IsWithin, KeepsPending, Leads, LeadsOn, exchanges, pending_count, settles};
 
     /// A node asks about a line, and the request is served, answered and accepted. Requires that nothing
     /// is under way, that there is such a line, and that the node can ask. If memory is refused, the machine stands
@@ -64,9 +65,9 @@ impl Machine {
         requires line { line < self.old.size.lines }
         requires asks { IsSome (node_asking (node_at self.old node) line kind) }
         ensures round { IfOk result (λ _. IsRound self.old self.new node line kind) }
-        ensures made { IfOk result (λ _. Leads settles self.old self.new 4) }
+        ensures made { IfOk result (λ _. Leads exchanges self.old self.new 4) }
         ensures drained { IfOk result (λ _. IsDrained self.new) }
-        ensures refused { IsErr result → LeadsOn settles self.old self.new }
+        ensures refused { IsErr result → LeadsOn exchanges self.old self.new }
         ensures coherent { IsCoherent self.new }
     {
         // Read once, so that the prover knows that the state is reached.
@@ -149,10 +150,10 @@ impl Machine {
         requires { IsDrained self.old }
         ensures drained { IfOk result (λ count. IsDrained self.new) }
         ensures empty { IfOk result (λ count. AreOut self.new) }
-        ensures made { IfOk result (λ count. Leads settles self.old self.new count) }
+        ensures made { IfOk result (λ count. Leads exchanges self.old self.new count) }
         ensures few { IfOk result (λ count. count ≤ 4 * rank self.old) }
-        ensures pending { IfOk result (λ count. pending_count self.new ≡ pending_count self.old) }
-        ensures refused { IsErr result → LeadsOn settles self.old self.new }
+        ensures kept { IfOk result (λ count. KeepsPending self.old self.new) }
+        ensures refused { IsErr result → LeadsOn exchanges self.old self.new }
         ensures coherent { IsCoherent self.new }
     {
         // Read once, so that the prover knows that the state is reached.
@@ -208,6 +209,28 @@ impl Machine {
         self.make(&Event::Perform { node, line })?;
         let count = self.empty_lines()?;
         Ok(count + 5)
+    }
+
+    /// Performs the operation that is pending at a node on a line before any other, wherever packets are under way, and gives its
+    /// entry. All that is under way is brought to its end, each line to its home, and the node reads the line. Requires that such
+    /// an operation is pending. If memory is refused, the machine stands where the events made so far lead.
+    pub fn perform_next(&mut self, node: u8, line: u8) -> Result<Entry, AllocError>
+        requires node { node < self.old.size.nodes }
+        requires line { line < self.old.size.lines }
+        requires pending { IsSome (pending_on (node_at self.old node) line) }
+        ensures performed { IfOk result (IsPerformedNext self.old self.new node line) }
+        ensures refused { IsErr result → LeadsOn exchanges self.old self.new }
+        ensures coherent { IsCoherent self.new }
+    {
+        // Read once, so that the prover knows that the state is reached.
+        let _extent = self.extent();
+        self.drain()?;
+        self.empty_lines()?;
+        self.round(node, line, AskKind::Mread)?;
+        let Some(entry) = self.perform(node, line) else {
+            unreachable!()
+        };
+        Ok(entry)
     }
 
     /// Brings the machine to rest, and gives the number of events: none of them is an Issue or a Refuse, and each is

@@ -5,7 +5,7 @@ ghost use Rattle.sci_words.specs.declared.limits.TheConstants.{MAX_OPERATIONS};
 
 use sci_cache::Held;
 use sci_core::{ApplyFault, LaneKind, Machine, Obstacle, Pending};
-use sci_history::Last;
+use sci_history::{Entry, Last};
 use sci_home::Home;
 use sci_packets::Packet;
 use sci_text::{Schedule, logs_text};
@@ -59,6 +59,18 @@ impl Bounded {
     /// Brings the machine to rest, and gives how many events that took.
     pub fn settle(&mut self) -> Result<u32, Fail> {
         Ok(self.machine.settle()?)
+    }
+
+    /// Performs the operation that is pending at a node on a line before any other, and gives its entry.
+    pub fn perform_next(&mut self, node: u8, line: u8) -> Result<Entry, Fail> {
+        let extent = self.machine.extent();
+        if node >= extent.nodes || line >= extent.lines {
+            return Err(Fail::from("no such node or line"));
+        }
+        if self.machine.node(node).pending(line).is_none() {
+            return Err(Fail::from("nothing is pending"));
+        }
+        Ok(self.machine.perform_next(node, line)?)
     }
 
     /// Takes all packets that are under way, and gives how many events that took.

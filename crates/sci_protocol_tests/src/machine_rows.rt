@@ -35,6 +35,13 @@ const ROWS: &str = "
         log 2 2 1; last 0 @1 7 0 0 0 0 0 0 0
         0 0 store 0 0 7 = - @1
 
+    row any_pending_operation_is_performed_next
+        machine 2 2 1
+        // Node 0 has line 0 to write, and node 1 waits for it. The load of node 1 is performed before the store of node 0.
+        issue 0 store 0 0 7; ask 0 0 mread; serve 0 0; reply 0; issue 1 load 0 0; ask 1 0 fread; issue 1 store 1 0 5
+        next 1 0 = 0 @0; entries 0 = 0; entries 1 = 1; next 0 0 = - @1; next 1 1 = - @1; last 0 = @1 7
+        settle = 4
+
     row an_event_that_is_not_enabled_has_an_obstacle
         machine 2 2 1
         not perform 2 0 = NoSuchNode; not serve 2 0 = NoSuchSender; not ask 0 2 mread = NoSuchLine

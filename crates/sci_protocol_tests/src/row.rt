@@ -13,7 +13,8 @@
 //! - `entries NODE = COUNT` is how many operations a node has performed. `list LINE = [NODE, ..]`, `authority LINE = NODE`
 //!   and `last LINE = CONTENTS` are what the machine says of a line.
 //! - `overtake requests FROM TO` and `overtake answers FROM TO`: in this lane the second packet comes before the first.
-//! - `drain = COUNT` and `settle = COUNT` are how many events these take. No event comes after them in a row.
+//! - `drain = COUNT` and `settle = COUNT` are how many events these take, and `next NODE LINE = REPLY @VERSION` performs the
+//!   operation that is pending there before any other. No event comes after them in a row.
 //! - `log NODES NODES LINES`, the last command, is the text of the logs and the last contents, to the end of the row. Its
 //!   lines may stand on one, with `;` between them.
 //!
@@ -23,7 +24,7 @@
 use crate::reading::{event_of, extent_of, numbers};
 use crate::states::{home_text, state_text};
 use crate::twins::Twins;
-use crate::words::push_contents;
+use crate::words::{push_contents, reply_text};
 use sci_core::LaneKind;
 use std::alloc::Global;
 use std::test::*;
@@ -134,6 +135,11 @@ impl Row {
         match word {
             "not" => self.obstacle(rest),
             "drain" => Ok(format!(in self.alloc; "{}", self.twins.machine_mut().drain()?)?),
+            "next" => {
+                let (node, line) = numbers(rest)?;
+                let entry = self.twins.machine_mut().perform_next(node, line)?;
+                Ok(reply_text(self.alloc, entry.reply, entry.version)?)
+            }
             "settle" => Ok(format!(in self.alloc; "{}", self.twins.machine_mut().settle()?)?),
             "state" | "home" | "entries" | "list" | "authority" | "last" => self.seen(word, rest),
             _ => self.happens(said),

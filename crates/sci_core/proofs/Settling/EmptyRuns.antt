@@ -1,10 +1,10 @@
 -- Rounds that bring the lines to their homes, one after another.
-use Rattle.std.proofs.{Common.{◌≡◌, ℕ, ◌+◌, ◌*◌, ◌<◌, ◌≤◌, ◌∙◌, arith}, Math.Nat.{mul-le-mul_left}}
+use Rattle.std.proofs.{Common.{◌≡◌, ℕ, ◌+◌, ◌*◌, ◌<◌, ◌≤◌, Bool, ◌∙◌, arith}, Math.Nat.{mul-le-mul_left}}
 use Rattle.std.proofs.lemmas.{Bool.{cases_lt}, List.{get_or_past}}
-use Rattle.sci_words.specs.declared.event.AskKind.{AskKind}
+use Rattle.sci_words.specs.declared.event.{AskKind.{AskKind}, Event.{Event}}
 use Rattle.sci_cache.specs.State.{Out}
 use Rattle.sci_core.specs.{Core.{Core, node_at}, Draining.{IsDrained}, Reached.{IsReached}}
-use Rattle.sci_core.specs.{Rounds.{AreOut, IsNext, IsRound, rank}, Settling.{Leads, LeadsOn, pending_count, settles}}
+use Rattle.sci_core.specs.{Rounds.{AreOut, IsNext, IsRound, rank}, Settling.{KeepsPending, Leads, LeadsOn, exchanges, pending_count}}
 use Rattle.sci_core.specs.Shape.{state_at}
 use Rattle.sci_core.proofs.Settling.{Emptying.{next_lowers}, Leading.{leads_join, leads_on}}
 use Rattle.sci_core.proofs.Settling.{Ranks.{few_rounds, sum_over, sum_same}, Resting.{out_beyond}}
@@ -12,26 +12,28 @@ use Rattle.sci_core.proofs.WellFormed.WellFormedSteps.{reached_well}
 
 -- rounds so far
 pub record Emptied (old new : Core) (count : ℕ) : Type 0 where
-  pub leads : Leads settles old new count
+  pub leads : Leads exchanges old new count
   pub drained : IsDrained new
   pub few : count + 4 * rank new ≤ 4 * rank old
-  pub pending : pending_count new ≡ pending_count old
+  pub kept : KeepsPending old new
 
 -- what is pending stays
-pub pending_same : (core new : Core) → ((m : ℕ) → (node_at new m).pending ≡ (node_at core m).pending) → new.size ≡ core.size
-    → pending_count new ≡ pending_count core
-pending_same core new same size = grind (arith, sum_same, sum_over)
+pub pending_same : (core new : Core) → KeepsPending core new → pending_count new ≡ pending_count core
+pending_same core new kept = grind (arith, sum_same, sum_over)
 
 pub emptied_more : (old mid new : Core) (n line : ℕ) (ask : AskKind) (count : ℕ) → Emptied old mid count → IsReached mid → n < mid.size.nodes
-    → line < mid.size.lines → IsNext mid line n ask → IsRound mid new n line ask → Leads settles mid new 4 → IsDrained new → Emptied old new (count + 4)
+    → line < mid.size.lines → IsNext mid line n ask → IsRound mid new n line ask → Leads exchanges mid new 4 → IsDrained new → Emptied old new (count + 4)
 emptied_more old mid new n line ask count so reached lt inside next round leads drained =
     let less = (next_lowers mid n line ask reached so.drained lt inside next).lowers new round in
     let few = so.few in
     record {
-      leads = leads_join settles old mid new count 4 so.leads leads;
+      leads = leads_join exchanges old mid new count 4 so.leads leads;
       drained = drained;
       few = omega arith;
-      pending = pending_same mid new round.answered.pending round.answered.size ∙ so.pending;
+      kept = record {
+        size = round.answered.size ∙ so.kept.size;
+        pending = λ m. round.answered.pending m ∙ so.kept.pending m;
+      };
     }
 
 -- the rounds are few
@@ -43,5 +45,5 @@ pub all_out_beyond : (core : Core) → IsReached core → ((line n : ℕ) → li
 all_out_beyond core reached out line n = grind (arith, cases_lt, reached_well, get_or_past, out_beyond)
 
 -- memory was refused later
-pub refused_after : (old mid new : Core) (count : ℕ) → Leads settles old mid count → LeadsOn settles mid new → LeadsOn settles old new
-refused_after old mid new count leads on = leads_on settles old new (count + on.count) (leads_join settles old mid new count on.count leads on.leads)
+pub refused_after : (may : Event → Bool) (old mid new : Core) (count : ℕ) → Leads may old mid count → LeadsOn may mid new → LeadsOn may old new
+refused_after may old mid new count leads on = leads_on may old new (count + on.count) (leads_join may old mid new count on.count leads on.leads)

@@ -25,8 +25,8 @@ use Rattle.sci_core.specs.Core.{Core, IsEnabled, node_at, run_from, step, steppi
 use Rattle.sci_core.specs.Draining.{IsDrained, brings_on, weight}
 use Rattle.sci_core.specs.Node.{IsPendingOn, NodeOf, entry_of, no_node, node_accepting, node_asking, node_performing, node_serving, pending_on}
 use Rattle.sci_core.specs.{Reached.{IsReached}, Rounds.{AreOut, IsRound, entry_rank, rank}}
-use Rattle.sci_core.specs.Settling.{AreMade, IsSettled, IsWithin, Leads, LeadsOn, pending_count, settles}
-use Rattle.sci_core.specs.{Shape.{state_at}, Size.{Size}}
+use Rattle.sci_core.specs.Settling.{AreMade, IsPerformedNext, IsSettled, IsWithin, KeepsPending, Leads, LeadsOn, exchanges, pending_count, settles}
+use Rattle.sci_core.specs.{Shape.{state_at}, Size.{Size}, Work.{IsLogged}}
 use Rattle.sci_words.specs.declared.event.AskKind.TheVariants as kind
 use Rattle.sci_words.specs.declared.event.Event.TheVariants as event
 use Rattle.sci_packets.specs.declared.body.Body.TheVariants as body
@@ -57,12 +57,7 @@ move_pending core new (event.Accept from n) is steps m =
     ap (λ (x : Core). (node_at x m).pending) took.then_ ∙ one_pending core n took.next (ap (λ (p : NodeOf). p.pending) (sym as_.then_)) m
 move_pending core new _ is steps m = cc
 
--- moves keep the size, and what is pending
-pub record Kept (old new : Core) : Type 0 where
-  pub size : new.size ≡ old.size
-  pub pending : (m : ℕ) → (node_at new m).pending ≡ (node_at old m).pending
-
-moved_kept : (core : Core) (events : List Event) → IsReached core → AreMade brings_on core events → Kept core (run_from core events)
+moved_kept : (core : Core) (events : List Event) → IsReached core → AreMade brings_on core events → KeepsPending core (run_from core events)
 moved_kept core [] reached made = record { size = refl; pending = λ m. refl }
 moved_kept core (e ∷ events) reached made =
     let next = found (stepping core e) made.1 in
@@ -74,8 +69,8 @@ moved_kept core (e ∷ events) reached made =
     λ m. ap (λ (x : Core). (node_at x m).pending) is ∙ move_pending core next.0 e made.0 next.1 m in
     record { size = rest.size ∙ size; pending = λ m. rest.pending m ∙ pending m }
 
-pub drained_kept : (old new : Core) (count : ℕ) → IsReached old → Leads brings_on old new count → Kept old new
-drained_kept old new count reached leads = subst (Kept old) leads.then_ (moved_kept old leads.events reached leads.made)
+pub drained_kept : (old new : Core) (count : ℕ) → IsReached old → Leads brings_on old new count → KeepsPending old new
+drained_kept old new count reached leads = subst (KeepsPending old) leads.then_ (moved_kept old leads.events reached leads.made)
 
 brings_settles : (e : Event) → brings_on e ≡ true → settles e ≡ true
 brings_settles (event.Serve from n) is = refl
@@ -88,6 +83,31 @@ moves_settle old new count leads = leads_weaker brings_on settles old new count 
 
 pub moves_settle_on : (old new : Core) → LeadsOn brings_on old new → LeadsOn settles old new
 moves_settle_on old new on = leads_on settles old new on.count (moves_settle old new on.count on.leads)
+
+exchange_settles : (e : Event) → exchanges e ≡ true → settles e ≡ true
+exchange_settles (event.Ask n line kind) is = refl
+exchange_settles (event.Serve from n) is = refl
+exchange_settles (event.Reply n) is = refl
+exchange_settles (event.Accept from n) is = refl
+exchange_settles _ is = cc
+
+pub exchanges_settle : (old new : Core) (count : ℕ) → Leads exchanges old new count → Leads settles old new count
+exchanges_settle old new count leads = leads_weaker exchanges settles old new count exchange_settles leads
+
+pub exchanges_settle_on : (old new : Core) → LeadsOn exchanges old new → LeadsOn settles old new
+exchanges_settle_on old new on = leads_on settles old new on.count (exchanges_settle old new on.count on.leads)
+
+brings_exchanges : (e : Event) → brings_on e ≡ true → exchanges e ≡ true
+brings_exchanges (event.Serve from n) is = refl
+brings_exchanges (event.Reply n) is = refl
+brings_exchanges (event.Accept from n) is = refl
+brings_exchanges _ is = cc
+
+pub moves_exchange : (old new : Core) (count : ℕ) → Leads brings_on old new count → Leads exchanges old new count
+moves_exchange old new count leads = leads_weaker brings_on exchanges old new count brings_exchanges leads
+
+pub moves_exchange_on : (old new : Core) → LeadsOn brings_on old new → LeadsOn exchanges old new
+moves_exchange_on old new on = leads_on exchanges old new on.count (moves_exchange old new on.count on.leads)
 
 -- ---- the line is read
 
@@ -233,18 +253,21 @@ performs_one_read old core new n line reached none lt inside read steps =
     (subst (λ (s : Size). line < s.lines) (sym read.shift.size) inside) read.shift.here steps
 
 -- the events so far
-pub after_perform : (old mid new : Core) (n line : ℕ) → Leads settles old mid 4 → stepping mid (event.Perform n line) ≡ Some new → Leads settles old new 5
-after_perform old mid new n line leads steps = leads_more settles old mid new (event.Perform n line) 4 leads refl steps
+pub after_perform : (old mid new : Core) (n line : ℕ) → Leads exchanges old mid 4 → stepping mid (event.Perform n line) ≡ Some new → Leads settles old new 5
+after_perform old mid new n line leads steps =
+    leads_more settles old mid new (event.Perform n line) 4 (exchanges_settle old mid 4 leads) refl steps
 
-pub worked_one : (old mid after_ new : Core) (n line rest : ℕ) → Leads settles old mid 4 → stepping mid (event.Perform n line) ≡ Some after_
-    → Leads settles after_ new rest → Leads settles old new (rest + 5)
+pub worked_one : (old mid after_ new : Core) (n line rest : ℕ) → Leads exchanges old mid 4 → stepping mid (event.Perform n line) ≡ Some after_
+    → Leads exchanges after_ new rest → Leads settles old new (rest + 5)
 worked_one old mid after_ new n line rest leads steps last =
     let sum : 5 + rest ≡ rest + 5 = omega arith in
-    subst (Leads settles old new) sum (leads_join settles old after_ new 5 rest (after_perform old mid after_ n line leads steps) last)
+    subst (Leads settles old new) sum (leads_join settles old after_ new 5 rest (after_perform old mid after_ n line leads steps)
+    (exchanges_settle after_ new rest last))
 
 -- memory was refused, and the state stands
-pub stands_after : (old mid new : Core) (count : ℕ) → Leads settles old mid count → new ≡ mid → LeadsOn settles old new
-stands_after old mid new count leads same = leads_on settles old new count (subst (λ (x : Core). Leads settles old x count) (sym same) leads)
+pub stands_after : (old mid new : Core) (count : ℕ) → Leads exchanges old mid count → new ≡ mid → LeadsOn settles old new
+stands_after old mid new count leads same =
+    leads_on settles old new count (subst (λ (x : Core). Leads settles old x count) (sym same) (exchanges_settle old mid count leads))
 
 -- the read, the operation, and what is left: one round
 pub record Done (old new : Core) (rest : ℕ) : Type 0 where
@@ -252,13 +275,14 @@ pub record Done (old new : Core) (rest : ℕ) : Type 0 where
   pub pending : pending_count old ≡ pending_count new + 1
 
 pub done_so : (old mid after_ new : Core) (n line : ℕ) (rest : ℕ) → AreOut old → n < old.size.nodes → line < old.size.lines → Read old mid n line
-    → Performs_one mid after_ n line → rest ≤ 4 * rank after_ → pending_count new ≡ pending_count after_ → Done old new rest
-done_so old mid after_ new n line rest out lt inside read one few pending =
+    → Performs_one mid after_ n line → rest ≤ 4 * rank after_ → KeepsPending after_ new → Done old new rest
+done_so old mid after_ new n line rest out lt inside read one few rests =
     let none = none_left old out in
     let was = ap entry_rank (out line n) in
     let ranked = rank_shift old mid n line (Head None read.contents) lt inside read.shift in
     let same = one.rank in
-    let kept = pending_same old mid read.shift.pending read.shift.size in
+    let kept = pending_same old mid (record { size = read.shift.size; pending = read.shift.pending }) in
+    let pending = pending_same after_ new rests in
     let less = one.pending in
     record { few = omega arith; pending = omega arith }
 
@@ -272,13 +296,14 @@ pub record Worked (old new : Core) (count : ℕ) : Type 0 where
   pub lines : count + 9 * pending_count new ≤ 11 * (old.size.nodes * old.size.lines) + 9 * pending_count old
   pub slots : count + 9 * pending_count new ≤ 11 * (old.size.nodes * old.size.slots) + 9 * pending_count old
 
-pub worked_first : (old mid new : Core) (a b : ℕ) → IsReached old → IsReached mid → Leads brings_on old mid a → a ≡ weight old → Leads settles mid new b
-    → b ≤ 4 * rank mid → pending_count new ≡ pending_count mid → IsDrained new → AreOut new → Worked old new (a + b)
-worked_first old mid new a b reached next drains weighs_ empties few pending none out =
+pub worked_first : (old mid new : Core) (a b : ℕ) → IsReached old → IsReached mid → Leads brings_on old mid a → a ≡ weight old → Leads exchanges mid new b
+    → b ≤ 4 * rank mid → KeepsPending mid new → IsDrained new → AreOut new → Worked old new (a + b)
+worked_first old mid new a b reached next drains weighs_ empties few rests none out =
     let kept = drained_kept old mid a reached drains in
     let first = light old (reachable old reached) in
     let then_ = few_rounds mid next in
-    let same = pending_same old mid kept.pending kept.size in
+    let same = pending_same old mid kept in
+    let pending = pending_same mid new rests in
     let nodes : mid.size.nodes ≡ old.size.nodes = ap (λ (s : Size). s.nodes) kept.size in
     let by_lines : mid.size.nodes * mid.size.lines ≡ old.size.nodes * old.size.lines = ap (λ (s : Size). s.nodes * s.lines) kept.size in
     let by_slots : mid.size.nodes * mid.size.slots ≡ old.size.nodes * old.size.slots = ap (λ (s : Size). s.nodes * s.slots) kept.size in
@@ -287,7 +312,7 @@ worked_first old mid new a b reached next drains weighs_ empties few pending non
     let then_lines = then_.lines in
     let then_slots = then_.slots in
     record {
-      leads = leads_join settles old mid new a b (moves_settle old mid a drains) empties;
+      leads = leads_join settles old mid new a b (moves_settle old mid a drains) (exchanges_settle mid new b empties);
       drained = none;
       out = out;
       lines = omega arith;
@@ -332,3 +357,48 @@ settled_so core reached none out pending = record {
 
 pub within_so : (old new : Core) (count : ℕ) → Worked old new count → IsWithin old count
 within_so old new count so = grind arith
+
+-- ---- one operation before all others
+
+-- an event that is enabled leads on
+pub none_made : (next : Option Core) → next ≡ None → IsSome next → ⊥
+none_made None is some = cc
+none_made (Some core) is some = cc
+
+-- all lines are at home, and the operation is still pending
+pub record IsHomeFor (old home : Core) (n line : ℕ) : Type 0 where
+  pub below : n < home.size.nodes
+  pub inside : line < home.size.lines
+  pub asks : IsSome (node_asking (node_at home n) line kind.Mread)
+  pub pending : IsSome (pending_on (node_at home n) line)
+
+pub home_for : (old mid home : Core) (n line a : ℕ) → IsReached old → IsReached home → Leads brings_on old mid a → KeepsPending mid home → AreOut home
+    → n < old.size.nodes → line < old.size.lines → IsSome (pending_on (node_at old n) line) → IsHomeFor old home n line
+home_for old mid home n line a reached then_ drains rests out lt in_ some =
+    let kept = drained_kept old mid a reached drains in
+    let size : home.size ≡ old.size = rests.size ∙ kept.size in
+    let below : n < home.size.nodes = subst (λ (s : Size). n < s.nodes) (sym size) lt in
+    let inside : line < home.size.lines = subst (λ (s : Size). line < s.lines) (sym size) in_ in record {
+      below = below;
+      inside = inside;
+      asks = can_read home n line then_ out below inside;
+      pending = subst (λ (ps : List (Option Pending)). IsSome (slice_index_or ps line None)) (sym (rests.pending n ∙ kept.pending n)) some;
+    }
+
+-- the line is read, and the operation is performed
+pub performed_next : (old mid home read new : Core) (n line a b : ℕ) (entry : Entry) → IsReached old → Leads brings_on old mid a → Worked old home (a + b)
+    → Leads exchanges mid home b → KeepsPending mid home → Leads exchanges home read 4 → stepping read (event.Perform n line) ≡ Some new
+    → IsLogged (node_at read n) (node_at new n) line entry → IsPerformedNext old new n line entry
+performed_next old mid home read new n line a b entry reached drains worked empties rests reads steps logged =
+    let drained_pending = pending_same old mid (drained_kept old mid a reached drains) in
+    let home_pending = pending_same mid home rests in
+    let lines = worked.lines in
+    let slots = worked.slots in record {
+      before = read;
+      count = a + b + 4;
+      leads = leads_join exchanges old home read (a + b) 4 (leads_join exchanges old mid home a b (moves_exchange old mid a drains) empties) reads;
+      lines = omega arith;
+      slots = omega arith;
+      performs = steps;
+      logged = logged;
+    }

@@ -4,7 +4,7 @@ use Rattle.std.specs.Prelude.{IsSome}
 use Rattle.sci_words.specs.declared.event.{AskKind.{AskKind}, Event.{Event}}
 use Rattle.sci_cache.specs.Cache.{Letter}
 use Rattle.sci_core.specs.{Core.{Core, IsEnabled, node_at, stepping}, Draining.{IsDrained}, Node.{NodeOf, node_asking}}
-use Rattle.sci_core.specs.{Reached.{IsReached}, Rounds.{IsRound}, Settling.{Leads, LeadsOn, settles}}
+use Rattle.sci_core.specs.{Reached.{IsReached}, Rounds.{IsRound}, Settling.{Leads, LeadsOn, exchanges}}
 use Rattle.sci_core.proofs.Settling.{Drains.{drained, weighs_asked}, Leading.{leads_more, leads_on, leads_one}}
 use Rattle.sci_core.proofs.Settling.{Moves.{drained_weighs, move_weighs}, Rounds.{Rounds, rounds}}
 use Rattle.sci_core.proofs.{Basics.Options.{of_some}, WellFormed.Parts.{SendsWell, part_asking}}
@@ -77,23 +77,23 @@ accept_enabled_next core n line kind t a b c r m =
 
 -- ---- what the events lead to
 
-pub after_one : (core : Core) (n line : ℕ) (kind : AskKind) (a : Core) → stepping core (event.Ask n line kind) ≡ Some a → Leads settles core a 1
-after_one core n line kind a one = leads_one settles core a (event.Ask n line kind) refl one
+pub after_one : (core : Core) (n line : ℕ) (kind : AskKind) (a : Core) → stepping core (event.Ask n line kind) ≡ Some a → Leads exchanges core a 1
+after_one core n line kind a one = leads_one exchanges core a (event.Ask n line kind) refl one
 
 pub after_two : (core : Core) (n line : ℕ) (kind : AskKind) (t : ℕ) (a b : Core) → stepping core (event.Ask n line kind) ≡ Some a
-    → stepping a (event.Serve n t) ≡ Some b → Leads settles core b 2
-after_two core n line kind t a b one two = leads_more settles core a b (event.Serve n t) 1 (after_one core n line kind a one) refl two
+    → stepping a (event.Serve n t) ≡ Some b → Leads exchanges core b 2
+after_two core n line kind t a b one two = leads_more exchanges core a b (event.Serve n t) 1 (after_one core n line kind a one) refl two
 
-pub after_three : (core : Core) (n line : ℕ) (kind : AskKind) (t : ℕ) (a b c : Core) → Made core n line kind t a b c → Leads settles core c 3
-after_three core n line kind t a b c m = leads_more settles core b c (event.Reply t) 2 (after_two core n line kind t a b m.ask m.serve) refl m.reply
+pub after_three : (core : Core) (n line : ℕ) (kind : AskKind) (t : ℕ) (a b c : Core) → Made core n line kind t a b c → Leads exchanges core c 3
+after_three core n line kind t a b c m = leads_more exchanges core b c (event.Reply t) 2 (after_two core n line kind t a b m.ask m.serve) refl m.reply
 
 pub after_four : (core : Core) (n line : ℕ) (kind : AskKind) (t : ℕ) (a b c new : Core) → Made core n line kind t a b c
-    → stepping c (event.Accept t n) ≡ Some new → Leads settles core new 4
-after_four core n line kind t a b c new m four = leads_more settles core c new (event.Accept t n) 3 (after_three core n line kind t a b c m) refl four
+    → stepping c (event.Accept t n) ≡ Some new → Leads exchanges core new 4
+after_four core n line kind t a b c new m four = leads_more exchanges core c new (event.Accept t n) 3 (after_three core n line kind t a b c m) refl four
 
 -- memory was refused, and the state stands
-pub stands : (core mid new : Core) (count : ℕ) → Leads settles core mid count → new ≡ mid → LeadsOn settles core new
-stands core mid new count leads same = leads_on settles core new count (subst (λ (x : Core). Leads settles core x count) (sym same) leads)
+pub stands : (core mid new : Core) (count : ℕ) → Leads exchanges core mid count → new ≡ mid → LeadsOn exchanges core new
+stands core mid new count leads same = leads_on exchanges core new count (subst (λ (x : Core). Leads exchanges core x count) (sym same) leads)
 
 pub round_made : (core : Core) (n line : ℕ) (kind : AskKind) (t : ℕ) (a b c new : Core) → Rounds core n line kind t → Made core n line kind t a b c
     → stepping c (event.Accept t n) ≡ Some new → IsRound core new n line kind

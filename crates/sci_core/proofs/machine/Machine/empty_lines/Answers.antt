@@ -1,5 +1,6 @@
 -- Each round that is next can be asked, and lowers the number of rounds that are left.
 use Rattle.std.proofs.Common.{refl, arith}
+use Rattle.sci_core.specs.Settling.{exchanges}
 use Rattle.sci_core.proofs.Settling.Emptying.{next_lowers}
 use Rattle.sci_core.proofs.Settling.EmptyRuns.{all_out_beyond, emptied_more, few_events, refused_after}
 use Rattle.sci_core.proofs.ReachedLaws.{reached_coherent}
@@ -12,7 +13,7 @@ round-requires-clause-asks c =
 
 pub returns-in_err-round-clause-refused : goal.returns-in_err-round-clause-refused
 returns-in_err-round-clause-refused c =
-    λ _. refused_after c.args.self.now c.rounds.self c.round.new.self c.rounds.count c.rounds.invariant.leads (c.in_err-round.ensures.refused refl)
+    λ _. refused_after exchanges c.args.self.now c.rounds.self c.round.new.self c.rounds.count c.rounds.invariant.leads (c.in_err-round.ensures.refused refl)
 
 pub overflow_add-count : goal.overflow_add-count
 overflow_add-count c =

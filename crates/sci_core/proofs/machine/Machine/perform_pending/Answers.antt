@@ -1,8 +1,9 @@
 -- The line can be read, the operation can be performed, and one round is left.
 use Rattle.std.proofs.Common.{refl, arith}
+use Rattle.sci_core.specs.Settling.{settles}
 use Rattle.sci_core.proofs.Settling.EmptyRuns.{refused_after}
-use Rattle.sci_core.proofs.Settling.PendingRuns.{Done, after_perform, can_perform, can_read, done_so, has_read, performs_one_read, stands_after}
-use Rattle.sci_core.proofs.{Settling.PendingRuns.{worked_one}, machine.Machine.perform_pending.Goals.{In_ok-count}}
+use Rattle.sci_core.proofs.Settling.PendingRuns.{Done, after_perform, can_perform, can_read, done_so, exchanges_settle_on, has_read, performs_one_read}
+use Rattle.sci_core.proofs.{Settling.PendingRuns.{stands_after, worked_one}, machine.Machine.perform_pending.Goals.{In_ok-count}}
 use Rattle.sci_core.proofs.machine.Machine.perform_pending.Goals as goal
 
 pub round-requires-clause-asks : goal.round-requires-clause-asks
@@ -22,15 +23,18 @@ empty_lines-requires c =
     (has_read c.args.self.now c.round.new.self c.args.node c.args.line c.extent-extent.ensures.reached c.requires.drained c.requires.empty c.requires.line
     c.in_ok-round.ensures.round) c.in_ok-make.ensures.ok).drained
 
+pub returns-in_err-round-clause-refused : goal.returns-in_err-round-clause-refused
+returns-in_err-round-clause-refused c = λ _. exchanges_settle_on c.args.self.now c.round.new.self (c.in_err-round.ensures.refused refl)
+
 pub returns-in_err-make-clause-refused : goal.returns-in_err-make-clause-refused
 returns-in_err-make-clause-refused c =
     λ _. stands_after c.args.self.now c.round.new.self c.make.new.self 4 c.in_ok-round.ensures.made c.in_err-make.ensures.err
 
 pub returns-in_err-count-clause-refused : goal.returns-in_err-count-clause-refused
 returns-in_err-count-clause-refused c =
-    λ _. refused_after c.args.self.now c.make.new.self c.empty_lines.new.self 5
+    λ _. refused_after settles c.args.self.now c.make.new.self c.empty_lines.new.self 5
     (after_perform c.args.self.now c.round.new.self c.make.new.self c.args.node c.args.line c.in_ok-round.ensures.made c.in_ok-make.ensures.ok)
-    (c.in_err-count.ensures.refused refl)
+    (exchanges_settle_on c.make.new.self c.empty_lines.new.self (c.in_err-count.ensures.refused refl))
 
 done : (c : In_ok-count) → Done c.args.self.now c.empty_lines.new.self c.in_ok-count.count
 done c =
@@ -39,7 +43,7 @@ done c =
     done_so c.args.self.now c.round.new.self c.make.new.self c.empty_lines.new.self c.args.node c.args.line c.in_ok-count.count c.requires.empty
     c.requires.node c.requires.line read (performs_one_read c.args.self.now c.round.new.self c.make.new.self c.args.node c.args.line
     c.round.ensures.coherent.reached c.in_ok-round.ensures.drained c.requires.node c.requires.line read c.in_ok-make.ensures.ok) c.in_ok-count.ensures.few
-    c.in_ok-count.ensures.pending
+    c.in_ok-count.ensures.kept
 
 pub overflow_add-result : goal.overflow_add-result
 overflow_add-result c = let few = (done (goal.at.overflow_add-result c).In_ok-count).few in omega arith

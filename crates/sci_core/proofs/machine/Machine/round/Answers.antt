@@ -1,7 +1,7 @@
 -- Each of the four events is enabled when it comes, and they make a round.
 use Rattle.std.proofs.Common.{arith}
 use Rattle.sci_cache.specs.Cache.{letter_of}
-use Rattle.sci_core.specs.Settling.{settles}
+use Rattle.sci_core.specs.Settling.{exchanges}
 use Rattle.sci_core.proofs.Settling.Leading.{leads_none}
 use Rattle.sci_core.proofs.Settling.RoundSteps.{accept_enabled_next, after_four, after_one, after_three, after_two, ask_enabled, reply_enabled_next}
 use Rattle.sci_core.proofs.Settling.RoundSteps.{round_drained, round_made, rounds_told, serve_enabled_next, small_told, stands}
@@ -43,7 +43,7 @@ make-requires-4 c =
 
 pub returns-in_err-make-clause-refused : goal.returns-in_err-make-clause-refused
 returns-in_err-make-clause-refused c =
-    λ _. stands c.args.self.now c.args.self.now c.make.new.self 0 (leads_none settles c.args.self.now) c.in_err-make.ensures.err
+    λ _. stands c.args.self.now c.args.self.now c.make.new.self 0 (leads_none exchanges c.args.self.now) c.in_err-make.ensures.err
 
 pub returns-in_err-make-2-clause-refused : goal.returns-in_err-make-2-clause-refused
 returns-in_err-make-2-clause-refused c =

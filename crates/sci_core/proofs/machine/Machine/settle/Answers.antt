@@ -1,8 +1,9 @@
 -- Drained, emptied, and then one operation after another.
 use Rattle.std.proofs.Common.{◌+◌, ◌<◌, refl, arith}
-use Rattle.sci_core.specs.Settling.{pending_count}
+use Rattle.sci_core.specs.Settling.{pending_count, settles}
 use Rattle.sci_core.proofs.Settling.EmptyRuns.{refused_after}
-use Rattle.sci_core.proofs.Settling.PendingRuns.{few_worked, moves_settle, moves_settle_on, settled_so, within_so, worked_first, worked_more}
+use Rattle.sci_core.proofs.Settling.PendingRuns.{exchanges_settle_on, few_worked, moves_settle, moves_settle_on, settled_so, within_so}
+use Rattle.sci_core.proofs.Settling.PendingRuns.{worked_first, worked_more}
 use Rattle.sci_core.proofs.ReachedLaws.{reached_coherent}
 use Rattle.sci_core.proofs.machine.Machine.settle.Goals as goal
 
@@ -12,25 +13,26 @@ returns-in_err-drained-clause-refused c =
 
 pub returns-in_err-emptied-clause-refused : goal.returns-in_err-emptied-clause-refused
 returns-in_err-emptied-clause-refused c =
-    λ _. refused_after c.args.self.now c.drain.new.self c.empty_lines.new.self c.in_ok-drained.drained
-    (moves_settle c.args.self.now c.drain.new.self c.in_ok-drained.drained c.in_ok-drained.ensures.made) (c.in_err-emptied.ensures.refused refl)
+    λ _. refused_after settles c.args.self.now c.drain.new.self c.empty_lines.new.self c.in_ok-drained.drained
+    (moves_settle c.args.self.now c.drain.new.self c.in_ok-drained.drained c.in_ok-drained.ensures.made)
+    (exchanges_settle_on c.drain.new.self c.empty_lines.new.self (c.in_err-emptied.ensures.refused refl))
 
 pub overflow_add-count : goal.overflow_add-count
 overflow_add-count c =
     let few = few_worked c.args.self.now c.empty_lines.new.self (c.in_ok-drained.drained + c.in_ok-emptied.emptied) c.extent-extent.ensures.reached
     (worked_first c.args.self.now c.drain.new.self c.empty_lines.new.self c.in_ok-drained.drained c.in_ok-emptied.emptied c.extent-extent.ensures.reached
     c.drain.ensures.coherent.reached c.in_ok-drained.ensures.made c.in_ok-drained.ensures.weight c.in_ok-emptied.ensures.made c.in_ok-emptied.ensures.few
-    c.in_ok-emptied.ensures.pending c.in_ok-emptied.ensures.drained c.in_ok-emptied.ensures.empty) in omega arith
+    c.in_ok-emptied.ensures.kept c.in_ok-emptied.ensures.drained c.in_ok-emptied.ensures.empty) in omega arith
 
 pub operations-init : goal.operations-init
 operations-init c =
     worked_first c.args.self.now c.drain.new.self c.empty_lines.new.self c.in_ok-drained.drained c.in_ok-emptied.emptied c.extent-extent.ensures.reached
     c.drain.ensures.coherent.reached c.in_ok-drained.ensures.made c.in_ok-drained.ensures.weight c.in_ok-emptied.ensures.made c.in_ok-emptied.ensures.few
-    c.in_ok-emptied.ensures.pending c.in_ok-emptied.ensures.drained c.in_ok-emptied.ensures.empty
+    c.in_ok-emptied.ensures.kept c.in_ok-emptied.ensures.drained c.in_ok-emptied.ensures.empty
 
 pub returns-in_err-count-clause-refused : goal.returns-in_err-count-clause-refused
 returns-in_err-count-clause-refused c =
-    λ _. refused_after c.args.self.now c.operations.self c.perform_pending.new.self c.operations.count c.operations.invariant.leads
+    λ _. refused_after settles c.args.self.now c.operations.self c.perform_pending.new.self c.operations.count c.operations.invariant.leads
     (c.in_err-count.ensures.refused refl)
 
 pub overflow_add-count-in-Some : goal.overflow_add-count-in-Some
