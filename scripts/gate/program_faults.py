@@ -55,10 +55,11 @@ def unread(program, case):
 
 
 def unwritten(program, case, has_left):
-    """What is said if the output can't be written, for a reader that has left or not. A refusal is told in its place."""
-    if case.status == 2:
+    """What is said if the output can't be written, for a reader that has left or not. A refusal is told in its place, and so are
+    events that aren't enabled if the reader has left."""
+    if case.status == 2 or has_left:
         return case.errors
-    return b"" if has_left else told(program, case, b"standard output can't be written")
+    return told(program, case, b"standard output can't be written")
 
 
 def plain_cases(top, program):

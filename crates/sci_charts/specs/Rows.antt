@@ -5,7 +5,8 @@ use Rattle.sci_packets.specs.{declared.packet.Packet.{Packet}, Table.{IsRequest}
 use Rattle.sci_packets.specs.declared.body.Body.TheVariants.{Busy as BusyAnswer}
 use Rattle.sci_cache.specs.Cache.{Letter, letter_of}
 use Rattle.sci_core.specs.Core.{Core, step, stepping}
-use Rattle.sci_statistics.specs.{About.{line_about, letter_sent}, Beginning.{before}}
+use Rattle.sci_statistics.specs.About.{line_about, letter_sent}
+use Rattle.sci_command.specs.Beginning.{before}
 use Rattle.sci_text.specs.{Number.{number, field}, Schedule.{ScheduleValue, event_word, event_details, first_node}}
 use Rattle.sci_command.specs.{AskedLine.{is_asked}, PacketLine.{packet_line}}
 use Rattle.sci_charts.specs.declared.charting.{ChartRequest.{ChartRequest}, TextLines.{TextLines}}

@@ -1,15 +1,15 @@
 //! The command `chart`: a message sequence chart of a schedule.
 
 ghost use Rattle.std.specs.Prelude.{◌≡◌, ◌&&◌, false, IfOk};
-ghost use Rattle.sci_text.specs.Tap.{has_failed};
-ghost use Rattle.sci_command.specs.{Answer.{HasAnswered}, declared.outcome.Outcome.{Outcome}};
+ghost use Rattle.sci_text.specs.Tap.{has_failed, tapped};
+ghost use Rattle.sci_command.specs.{Answer.{HasAnswered, answer_in}, Beginning.{AreDeadIn}, Input.{IsReadAs}};
 ghost use Rattle.sci_command.specs.AskedLine.{IsAskedFault, is_asked};
 ghost use Rattle.sci_charts.specs.{ChartAnswer.{IsChart, IsChartAnswer}, Rows.{is_past, is_within}};
 
 use crate::drawing::Drawing;
 use crate::layout::FIRST_LINE;
-use sci_command::{Answer, Answered, Outcome, is_asked, read_asked};
-use sci_core::Machine;
+use sci_command::{Answer, Outcome, Replayed, is_asked, read_asked};
+use sci_core::{DeadEvents, Machine};
 use sci_text::{Schedule, Tap};
 use sci_words::MAX_OPERATIONS;
 use std::alloc::{AllocError, Global};
@@ -88,17 +88,21 @@ fn chart_of(
 /// operations (events that are not enabled change nothing), and gives a message sequence chart of them in SVG: Done. With a
 /// line it shows the events and the packets about that line alone, and else all. With lines of the schedule it shows the
 /// events on these alone: a packet that was sent before them comes in from above, and one that is taken after them goes on
-/// to the end. A schedule with a fault is refused, as are a reader that fails, too long an input and running out of memory,
+/// to the end. Beside it are the events of the schedule that weren't enabled. A schedule with a fault is refused, as are a reader that fails, too long an input and running out of memory,
 /// at line 0, and a line that the machine doesn't have, as `range` at line 0. After a failed read nothing more is read.
-pub fn chart<R: Read>(alloc: Global, request: ChartRequest, reader: &mut Tap<R>) -> Answered
+pub fn chart<R: Read>(alloc: Global, request: ChartRequest, reader: &mut Tap<R>) -> Replayed
     requires { has_failed reader.old ≡ false }
-    ensures { HasAnswered R.remaining reader.old reader.new
-        (IsChartAnswer request) (IsAskedFault request.line) result }
+    ensures answer { HasAnswered R.remaining reader.old reader.new
+        (IsChartAnswer request) (IsAskedFault request.line) (answer_in result) }
+    ensures dead { IfOk result (λ answered. IsReadAs (R.remaining (tapped reader.old))
+        (has_failed reader.new) (λ bytes. AreDeadIn bytes answered.1)) }
 {
     let schedule = read_asked(alloc, request.line, reader)?;
     let text = chart_of(alloc, &schedule, request)?;
-    Ok(Answer {
+    let dead = DeadEvents::of(alloc, schedule.extent(), schedule.events())?;
+    let answer = Answer {
         text,
         outcome: Outcome::Done,
-    })
+    };
+    Ok((answer, dead))
 }

@@ -4,7 +4,12 @@ use Rattle.std.specs.{Prelude.{IfOk, IfErr}, Io.KnownBytes.{Appends}}
 use Rattle.sci_text.specs.declared.{fault.TextFaultKind.{TextFaultKind}, tap.Tap.{Tap}}
 use Rattle.sci_text.specs.Tap.{has_failed, is_called_again, tapped}
 use Rattle.sci_command.specs.declared.{answer.Answer.{Answer}, outcome.Outcome.{Outcome, TheVariants.{Refused}}, refusal.Refusal.{Refusal}}
-use Rattle.sci_command.specs.Answer.{HasAnswered, IsAnswerAlone, IsAnswerBeside, IsAnswered, IsRefusedFor, IsShownOf, IsWrittenOf, refusal_of}
+use Rattle.sci_words.specs.declared.{event.Event.{Event}, extent.Extent.{Extent}, limits.TheConstants.{MAX_OPERATIONS}}
+use Rattle.sci_core.specs.{declared.dead.DeadEvents.{DeadEvents}, Core.{opening}, Dead.{dead_events, summary}, Size.{size_of}}
+use Rattle.sci_text.specs.Schedule.{ScheduleValue, IsSchedule, schedule_text}
+use Rattle.sci_command.specs.Answer.{HasAnswered, IsAnswerAlone, IsAnswerBeside, IsAnswered, IsRefusedFor, IsShownOf, IsWrittenOf}
+use Rattle.sci_command.specs.Answer.{answer_in, dead_in, refusal_of}
+use Rattle.sci_command.specs.{Beginning.{AreDeadBeside, AreDeadIn, dead_of}, Input.{IsReadAs}}
 use Rattle.sci_command.specs.{Refusal.{IsRefusalBy, line_refusal}, Writing.{HasCarriedOut, HasWritten, WritesFront}}
 
 -- a text that was written, or a front of it, is an answer if the text is
@@ -113,3 +118,19 @@ pub answered_by : (is_answer : List ℕ → Outcome → Type 0) (is_told : TextF
     → IsAnswered (λ input failed. is_answer) (λ kind input failed. is_told kind) known unread result
 answered_by is_answer is_told known unread (Ok answer) ok err = ok
 answered_by is_answer is_told known unread (Err refusal) ok err = err
+
+-- what standard error says of the events of a schedule is of the input, or nothing
+pub dead_beside : (known : Option (List ℕ)) (unread : Bool) (replayed : Result (Answer × Option DeadEvents) Refusal)
+    → IfOk replayed (λ answered. IsReadAs known unread (λ bytes. AreDeadIn bytes answered.1)) → (refusal : Option Refusal)
+    → refusal ≡ refusal_of (answer_in replayed) → (dead : Option DeadEvents) → dead ≡ dead_in replayed → AreDeadBeside known unread refusal dead
+dead_beside known unread (Ok answered) are refusal r dead d = rw (r, d) are
+dead_beside known unread (Err why) are refusal r dead d = rw r d
+
+-- the events that aren't enabled of a schedule that was read
+pub dead_as_read : (known : Option (List ℕ)) (unread : Bool) (s : ScheduleValue) → IsSchedule s → IsReadAs known unread (λ input. input ≡ schedule_text s)
+    → (extent : Extent) (events : List Event) (dead : Option DeadEvents) → extent.nodes ≡ s.nodes → extent.lines ≡ s.lines → extent.slots ≡ s.slots
+    → events ≡ s.events → dead ≡ summary (dead_events (opening (size_of extent MAX_OPERATIONS)) 0 events)
+    → IsReadAs known unread (λ bytes. AreDeadIn bytes dead)
+dead_as_read known unread s good read extent events dead nodes lines slots are is =
+    let dead_is : dead ≡ dead_of s = rw (nodes, lines, slots, are) at is in
+    (read.0, (read.1.0, read.1.1, record { schedule = s; good = good; read = read.1.2; are = dead_is }))

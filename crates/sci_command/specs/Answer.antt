@@ -1,5 +1,6 @@
 -- A command's answer, and what is written of it.
 use Rattle.std.specs.Prelude.{◌≡◌, ℕ, Bool, List, [], Option, None, Some, Result, Ok, Err}
+use Rattle.sci_core.specs.declared.dead.DeadEvents.{DeadEvents}
 use Rattle.sci_text.specs.declared.{fault.TextFaultKind.{TextFaultKind}, tap.Tap.{Tap}}
 use Rattle.sci_text.specs.Tap.{has_failed, is_called_again, tapped}
 use Rattle.sci_command.specs.declared.{answer.Answer.{Answer}, outcome.Outcome.{Outcome}, refusal.Refusal.{Refusal}}
@@ -20,6 +21,16 @@ IsShownOf (Err refusal) text outcome = (text ≡ []) × (outcome ≡ Refused)
 abbrev pub refusal_of : Result Answer Refusal → Option Refusal
 refusal_of (Ok answer) = None
 refusal_of (Err refusal) = Some refusal
+
+-- the answer of a command that goes through the events of a schedule
+abbrev pub answer_in : Result (Answer × Option DeadEvents) Refusal → Result Answer Refusal
+answer_in (Ok answered) = Ok answered.0
+answer_in (Err refusal) = Err refusal
+
+-- the events that weren't enabled then
+abbrev pub dead_in : Result (Answer × Option DeadEvents) Refusal → Option DeadEvents
+dead_in (Ok answered) = answered.1
+dead_in (Err refusal) = None
 
 -- What a command writes for the text that a reader gives, and how it ends: what is made of the bytes that were read, or the
 -- refusal of a fault that is reported.

@@ -8,3 +8,4 @@ pub mod PacketLine
 pub mod AskedLine
 pub mod Message
 pub mod Output
+pub mod Beginning

@@ -20,7 +20,7 @@ mod verdict;
 mod words;
 mod writing;
 
-pub use answer::{Answer, Answered, Ended, finish, show};
+pub use answer::{Answer, Answered, Ended, Replayed, finish, parted, show};
 pub use asked_line::{Asked, is_asked, read_asked};
 pub use outcome::Outcome;
 pub use output::Output;

@@ -1,13 +1,14 @@
 //! What is said on standard error of how a command ended.
 
-ghost use Rattle.std.specs.{Prelude.{◌≡◌, ◌≤◌, ◌++◌, ℕ, List, Option, Some, false, length}, Io.KnownBytes.{Appends}};
+ghost use Rattle.std.specs.{Prelude.{◌≡◌, ◌≤◌, ◌++◌, ℕ, List, None, Option, Some, false, length}, Io.KnownBytes.{Appends}};
 ghost use Rattle.sci_text.specs.Tap.{has_failed, is_called_again, tapped};
-ghost use Rattle.sci_command.specs.{Message.{kind_said, message, note_text, place_text, whole_words}};
+ghost use Rattle.sci_command.specs.{Message.{dead_text, kind_said, message, note_text, place_text, whole_words}};
 ghost use Rattle.sci_command.specs.Writing.{IsPrinted, WritesFront};
 
 use crate::answer::Ended;
 use crate::printer::{print_end, print_piece};
 use crate::refusal::{Note, Refusal, word_of_fault};
+use sci_core::DeadEvents;
 use sci_text::{LineEnd, Tap, TextFault, TextFaultKind};
 use std::alloc::Global;
 use std::io::Write;
@@ -58,6 +59,22 @@ fn kind_words(fault: TextFault) -> LineEnd
     words
 }
 
+/// What is said of events that weren't enabled, behind the name of a command.
+#[tactic(auto, unfolding(crate::specs::Message::dead_text))]
+fn dead_line(dead: DeadEvents) -> LineEnd
+    ensures { result ≡ dead_text dead }
+{
+    let mut line = LineEnd::new();
+    line.put_text("\n");
+    line.put_text(dead.obstacle.name());
+    line.put_text(": ");
+    line.put_field(u64::from(dead.place) + 2);
+    line.put_text(", the first in line");
+    line.put_field(u64::from(dead.count));
+    line.put_text(": events not enabled:");
+    line
+}
+
 impl Refusal {
     /// Puts what is said of a refusal, besides the place of its fault, behind a text of which a front is written and the rest
     /// waits.
@@ -80,7 +97,7 @@ impl Refusal {
         ensures printed { (start : Option (List ℕ)) (text : List ℕ) → IsPrinted start
             (E.contents (tapped errors.old)) (has_failed errors.old) waiting.old.items text
             → IsPrinted start (E.contents (tapped errors.new)) (has_failed errors.new)
-            waiting.new.items (text ++ message name.now (Some self.now) false) }
+            waiting.new.items (text ++ message name.now (Some self.now) None false) }
         ensures again { is_called_again errors.new ≡ is_called_again errors.old }
     {
         print_piece(errors, waiting, name.as_bytes());
@@ -91,6 +108,20 @@ impl Refusal {
 }
 
 impl Ended {
+    /// Puts what a command of this name says of events that weren't enabled behind a text, likewise.
+    fn print_dead<E: Write>(&self, errors: &mut Tap<E>, waiting: &mut Vec<u8>, name: &str)
+        ensures printed { (start : Option (List ℕ)) (text : List ℕ) → IsPrinted start
+            (E.contents (tapped errors.old)) (has_failed errors.old) waiting.old.items text
+            → IsPrinted start (E.contents (tapped errors.new)) (has_failed errors.new)
+            waiting.new.items (text ++ message name.now None self.now.dead false) }
+        ensures again { is_called_again errors.new ≡ is_called_again errors.old }
+    {
+        if let Some(dead) = self.dead {
+            print_piece(errors, waiting, name.as_bytes());
+            print_piece(errors, waiting, dead_line(dead).as_slice());
+        }
+    }
+
     /// Puts what is said of how a command of this name ended behind a text, likewise.
     fn print<E: Write>(
         &self,
@@ -102,7 +133,7 @@ impl Ended {
         ensures printed { (start : Option (List ℕ)) (text : List ℕ) → IsPrinted start
             (E.contents (tapped errors.old)) (has_failed errors.old) waiting.old.items text
             → IsPrinted start (E.contents (tapped errors.new)) (has_failed errors.new)
-            waiting.new.items (text ++ message name.now self.now.refusal is_broken) }
+            waiting.new.items (text ++ message name.now self.now.refusal self.now.dead is_broken) }
         ensures again { is_called_again errors.new ≡ is_called_again errors.old }
     {
         match &self.refusal {
@@ -111,19 +142,19 @@ impl Ended {
                 print_piece(errors, waiting, name.as_bytes());
                 print_piece(errors, waiting, b": standard output can't be written\n");
             }
-            None => {}
+            None => self.print_dead(errors, waiting, name),
         }
     }
 
     /// Says on standard error why the input of the command of this name was refused, or that its output couldn't be written,
-    /// if one of them is so. It takes no memory that could be refused.
+    /// or which events weren't enabled, if one of them is so. It takes no memory that could be refused.
     pub fn tell<E: Write>(&self, alloc: Global, errors: &mut Tap<E>, name: &str, is_broken: bool)
         requires { has_failed errors.old ≡ false }
         ensures front { WritesFront (E.contents (tapped errors.old)) (E.contents (tapped errors.new))
-            (message name.now self.now.refusal is_broken) }
+            (message name.now self.now.refusal self.now.dead is_broken) }
         ensures whole { has_failed errors.new ≡ false
             → Appends (E.contents (tapped errors.old)) (E.contents (tapped errors.new))
-            (message name.now self.now.refusal is_broken) }
+            (message name.now self.now.refusal self.now.dead is_broken) }
         ensures again { is_called_again errors.new ≡ is_called_again errors.old }
     {
         let mut waiting = Vec::new(alloc);

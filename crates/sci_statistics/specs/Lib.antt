@@ -5,5 +5,4 @@ pub mod Measures
 pub mod Figures
 pub mod Levels
 pub mod Waits
-pub mod Beginning
 pub mod StatsAnswer

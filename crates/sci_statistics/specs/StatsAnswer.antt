@@ -10,7 +10,8 @@ use Rattle.sci_statistics.specs.declared.waits.{NodeWaits.{NodeWaits}, WaitFigur
 use Rattle.sci_statistics.specs.declared.counting.StatsRequest.{StatsRequest}
 use Rattle.sci_statistics.specs.Figures.{at_node, event_figures, line_figures, node_figures, on_line}
 use Rattle.sci_statistics.specs.{Levels.{level_figures}, Measures.{has_sent, sends, sent_bytes}, Passages.{passages}}
-use Rattle.sci_statistics.specs.{Waits.{node_waits}, Beginning.{before}}
+use Rattle.sci_statistics.specs.Waits.{node_waits}
+use Rattle.sci_command.specs.Beginning.{before}
 use Rattle.sci_text.specs.{declared.fault.TextFaultKind.{TextFaultKind, TheVariants.{Range}}, Number.{number, field}}
 use Rattle.sci_text.specs.Schedule.{ScheduleValue, IsSchedule, schedule_text}
 use Rattle.sci_command.specs.{declared.outcome.Outcome.{Outcome}, Answer.{IsDoneBy}, Input.{IsReadAs}}

@@ -2,8 +2,8 @@
 
 ghost use Rattle.std.specs.{Prelude.{◌≡◌, ◌≤◌, ◌++◌, false, length, None, IfOk, IsSome, OnOk}, List.{flat_map}};
 ghost use Rattle.sci_words.specs.declared.limits.TheConstants.{MAX_EVENTS};
-ghost use Rattle.sci_command.specs.Answer.{HasAnswered};
-ghost use Rattle.sci_text.specs.Tap.{has_failed};
+ghost use Rattle.sci_command.specs.{Answer.{HasAnswered, answer_in}, Beginning.{AreDeadIn}, Input.{IsReadAs}};
+ghost use Rattle.sci_text.specs.Tap.{has_failed, tapped};
 ghost use Rattle.sci_statistics.specs.StatsAnswer.{HasNode, IsStatsAnswer, IsStatsFault, line_part, node_part, shown, stats_text};
 
 use crate::event_figures::EventFigures;
@@ -13,7 +13,8 @@ use crate::node_figures::NodeFigures;
 use crate::passage::Passage;
 use crate::waits::NodeWaits;
 use crate::walk::passages_of;
-use sci_command::{Answer, Answered, Asked, Outcome, read_asked};
+use sci_command::{Answer, Asked, Outcome, Replayed, read_asked};
+use sci_core::DeadEvents;
 use sci_text::{Schedule, Tap};
 use std::alloc::{AllocError, Global};
 use std::io::Read;
@@ -149,20 +150,25 @@ fn stats_of(
 /// Reads a schedule to its end, applies its events in text order to a new machine whose nodes may each issue 65,536
 /// operations (events that are not enabled change nothing), and gives figures, one on each line, as `NAME VALUE`: of all
 /// events and packets, of each line of memory and of each node. It is Done. If a line or a node is asked for, the figures of
-/// the other lines or nodes are left out. A schedule with a fault is refused, as are a reader that fails, too long an input
+/// the other lines or nodes are left out. Beside them are the events that weren't enabled. A schedule with a fault is refused, as are a reader that fails, too long an input
 /// and running out of memory, at line 0, and a line or a node that the machine doesn't have, as `range` at line 0. After a
 /// failed read nothing more is read.
-pub fn stats<R: Read>(alloc: Global, request: StatsRequest, reader: &mut Tap<R>) -> Answered
+pub fn stats<R: Read>(alloc: Global, request: StatsRequest, reader: &mut Tap<R>) -> Replayed
     requires { has_failed reader.old ≡ false }
-    ensures { HasAnswered R.remaining reader.old reader.new (IsStatsAnswer request) (IsStatsFault request) result }
+    ensures answer { HasAnswered R.remaining reader.old reader.new (IsStatsAnswer request)
+        (IsStatsFault request) (answer_in result) }
+    ensures dead { IfOk result (λ answered. IsReadAs (R.remaining (tapped reader.old))
+        (has_failed reader.new) (λ bytes. AreDeadIn bytes answered.1)) }
 {
     let schedule = read_asked(alloc, request.line, reader)?;
     if let Some(node) = node_lacking(&schedule, request.node) {
         return Err(Asked::Node.refused(alloc, node, schedule.extent().nodes));
     }
     let text = stats_of(alloc, request, &schedule)?;
-    Ok(Answer {
+    let dead = DeadEvents::of(alloc, schedule.extent(), schedule.events())?;
+    let answer = Answer {
         text,
         outcome: Outcome::Done,
-    })
+    };
+    Ok((answer, dead))
 }

@@ -4,11 +4,8 @@ use Rattle.json.specs.{Token.{Token, begin_object, end_object}, Print.{print}}
 use Rattle.sci_words.specs.{declared.event.Event.{Event}, Event.{kind_word}}
 use Rattle.sci_history.specs.declared.entry.Entry.{Entry}
 use Rattle.sci_cache.specs.Cache.{Letter}
-use Rattle.sci_core.specs.declared.obstacle.Obstacle.{Obstacle}
-use Rattle.sci_core.specs.declared.obstacle.Obstacle.TheVariants.{NoSuchNode, NoSuchSender, NoSuchLine, NoSuchWord, AlreadyPending, NoIssueLeft}
-use Rattle.sci_core.specs.declared.obstacle.Obstacle.TheVariants.{NothingPending, NotAllowed, NotAsked, NoSlot, NothingUnderWay, AnswerWaits, SetbackComes}
-use Rattle.sci_core.specs.{declared.obstacle.Obstacle.TheVariants.{NoAnswerWaits}, Core.{Core, node_of, stepping}}
-use Rattle.sci_core.specs.Obstacles.{obstacle_to}
+use Rattle.sci_core.specs.{declared.obstacle.Obstacle.{Obstacle}, Core.{Core, node_of, stepping}}
+use Rattle.sci_core.specs.Obstacles.{obstacle_name, obstacle_to}
 use Rattle.sci_text.specs.Schedule.{event_word}
 use Rattle.sci_traces.specs.JsonMembers.{number_member, object_member, optional_member, text_member, truth_member}
 use Rattle.sci_traces.specs.JsonParts.{entry_members, home_members, operation_members, packet_members, state_members}
@@ -66,23 +63,6 @@ standing_members when core n (Some line) = cache_member (cache_name when) core n
 unfoldable pub logged_member : Option Entry → List Token
 logged_member None = []
 logged_member (Some entry) = object_member (codes "entry") (entry_members entry)
-
--- the name of what stands in the way of an event
-unfoldable pub obstacle_name : Obstacle → List ℕ
-obstacle_name NoSuchNode = codes "no-such-node"
-obstacle_name NoSuchSender = codes "no-such-sender"
-obstacle_name NoSuchLine = codes "no-such-line"
-obstacle_name NoSuchWord = codes "no-such-word"
-obstacle_name AlreadyPending = codes "already-pending"
-obstacle_name NoIssueLeft = codes "no-issue-left"
-obstacle_name NothingPending = codes "nothing-pending"
-obstacle_name NotAllowed = codes "not-allowed"
-obstacle_name NotAsked = codes "not-asked"
-obstacle_name NoSlot = codes "no-slot"
-obstacle_name NothingUnderWay = codes "nothing-under-way"
-obstacle_name AnswerWaits = codes "answer-waits"
-obstacle_name SetbackComes = codes "setback-comes"
-obstacle_name NoAnswerWaits = codes "no-answer-waits"
 
 unfoldable pub obstacle_member : Option Obstacle → List Token
 obstacle_member None = []

@@ -6,7 +6,8 @@ use Rattle.sci_cache.specs.State.{state_name}
 use Rattle.sci_core.specs.{Core.{Core, step, stepping}, Shape.{IsAuthority}, Sharing.{last_at}}
 use Rattle.sci_core.specs.SharingList.{IsSharingList}
 use Rattle.sci_home.specs.Serving.{home_name}
-use Rattle.sci_statistics.specs.{About.{line_changed}, Beginning.{before}}
+use Rattle.sci_statistics.specs.About.{line_changed}
+use Rattle.sci_command.specs.Beginning.{before}
 use Rattle.sci_text.specs.{Number.{number, field}, Schedule.{ScheduleValue, IsSchedule, schedule_text}}
 use Rattle.sci_command.specs.{declared.outcome.Outcome.{Outcome}, Answer.{IsDoneBy}, PacketLine.{contents_text}}
 use Rattle.sci_command.specs.AskedLine.{HasLine, IsAskedFault, is_asked}

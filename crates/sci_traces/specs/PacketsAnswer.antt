@@ -5,7 +5,8 @@ use Rattle.sci_words.specs.declared.event.Event.{Event}
 use Rattle.sci_packets.specs.{declared.packet.Packet.{Packet}, Spelling.{spelling}}
 use Rattle.sci_cache.specs.Cache.{Letter, letter_of}
 use Rattle.sci_core.specs.Core.{Core, along}
-use Rattle.sci_statistics.specs.{About.{letter_sent}, Beginning.{before}}
+use Rattle.sci_statistics.specs.About.{letter_sent}
+use Rattle.sci_command.specs.Beginning.{before}
 use Rattle.sci_text.specs.{Schedule.{ScheduleValue, IsSchedule, schedule_text}, FirstFault.{IsTold}}
 use Rattle.sci_text.specs.ScheduleFault.{IsScheduleFault}
 use Rattle.sci_command.specs.{declared.outcome.Outcome.{Outcome}, Answer.{IsDoneBy}}

@@ -5,7 +5,8 @@ use Rattle.sci_history.specs.declared.entry.Entry.{Entry}
 use Rattle.sci_cache.specs.Cache.{Letter}
 use Rattle.sci_core.specs.{declared.obstacle.Obstacle.{Obstacle}, Core.{Core, node_of, step, stepping}}
 use Rattle.sci_core.specs.Obstacles.{obstacle_to}
-use Rattle.sci_statistics.specs.{About.{letter_sent, letter_taken, line_about, line_changed}, Beginning.{before}}
+use Rattle.sci_statistics.specs.About.{letter_sent, letter_taken, line_about, line_changed}
+use Rattle.sci_command.specs.Beginning.{before}
 use Rattle.sci_text.specs.{Number.{number, field}, Log.{issue_text, outcome_text}}
 use Rattle.sci_text.specs.Schedule.{ScheduleValue, IsSchedule, event_line, schedule_text}
 use Rattle.sci_command.specs.{declared.outcome.Outcome.{Outcome, TheVariants.{Done, Unlawful}}, Answer.{IsAnswerBy}}

@@ -5,7 +5,7 @@ ghost use Rattle.sci_cache.specs.Cache.{letter_of};
 ghost use Rattle.sci_core.specs.Core.{step, stepping};
 ghost use Rattle.sci_traces.specs.{JsonMembers.{Adds}, declared.json_event.When.{When}};
 ghost use Rattle.sci_traces.specs.JsonEvent.{cache_member, cache_name, home_member, home_name, json_line, line_member, logged_member, moved_members};
-ghost use Rattle.sci_traces.specs.JsonEvent.{obstacle_name as name_of_obstacle, outcome_members, packet_member, part_members, standing_members};
+ghost use Rattle.sci_traces.specs.JsonEvent.{outcome_members, packet_member, part_members, standing_members};
 ghost use Rattle.sci_traces.specs.JsonEvent.{naming_members, taking_members};
 
 use crate::event_words::entry_of;
@@ -13,7 +13,7 @@ use crate::json_members::{write_number, write_text, write_truth};
 use crate::json_parts::{write_entry, write_home, write_operation, write_packet, write_state};
 use crate::node_states::{held_at, home_at};
 use json::Writer;
-use sci_core::{Machine, Obstacle, node_of};
+use sci_core::{Machine, node_of};
 use sci_history::Entry;
 use sci_packets::Packet;
 use sci_statistics::{line_changed, sent, taken};
@@ -187,29 +187,6 @@ fn write_logged(out: &mut Writer, entry: Option<Entry>) -> Result<(), AllocError
     out.end_object()
 }
 
-/// The name of what stands in the way of an event.
-#[tactic(auto, unfolding(crate::specs::JsonEvent::obstacle_name))]
-fn obstacle_name(obstacle: Obstacle) -> &'static str
-    ensures { result.now ≡ name_of_obstacle obstacle }
-{
-    match obstacle {
-        Obstacle::NoSuchNode => "no-such-node",
-        Obstacle::NoSuchSender => "no-such-sender",
-        Obstacle::NoSuchLine => "no-such-line",
-        Obstacle::NoSuchWord => "no-such-word",
-        Obstacle::AlreadyPending => "already-pending",
-        Obstacle::NoIssueLeft => "no-issue-left",
-        Obstacle::NothingPending => "nothing-pending",
-        Obstacle::NotAllowed => "not-allowed",
-        Obstacle::NotAsked => "not-asked",
-        Obstacle::NoSlot => "no-slot",
-        Obstacle::NothingUnderWay => "nothing-under-way",
-        Obstacle::AnswerWaits => "answer-waits",
-        Obstacle::SetbackComes => "setback-comes",
-        Obstacle::NoAnswerWaits => "no-answer-waits",
-    }
-}
-
 /// Writes the packets that an event sends and takes.
 #[tactic(auto, unfolding(crate::specs::JsonEvent::moved_members))]
 fn write_packets(out: &mut Writer, machine: &Machine, event: &Event) -> Result<(), AllocError>
@@ -231,7 +208,7 @@ fn write_outcome(out: &mut Writer, machine: &mut Machine, event: &Event) -> Resu
     let obstacle = machine.obstacle_to(event);
     write_truth(out, "enabled", obstacle.is_none())?;
     if let Some(obstacle) = obstacle {
-        write_text(out, "obstacle", obstacle_name(obstacle))?;
+        write_text(out, "obstacle", obstacle.name())?;
         write_line(out, event, line)?;
         write_standing(out, When::Before, At { machine, node }, line)?;
         return Ok(false);

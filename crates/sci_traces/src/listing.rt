@@ -4,7 +4,8 @@ ghost use Rattle.std.specs.Prelude.{◌≡◌, ◌≤◌, ◌+◌, ◌++◌, ◌
 ghost use Rattle.std.specs.List.{flat_map};
 ghost use Rattle.sci_words.specs.declared.limits.TheConstants.{MAX_TEXT_LINE_BYTES};
 ghost use Rattle.sci_core.specs.Core.{step, stepping};
-ghost use Rattle.sci_statistics.specs.{About.{line_changed as line_changed_of}, Beginning.{before}};
+ghost use Rattle.sci_statistics.specs.About.{line_changed as line_changed_of};
+ghost use Rattle.sci_command.specs.Beginning.{before};
 ghost use Rattle.sci_text.specs.Tap.{has_failed};
 ghost use Rattle.sci_command.specs.{Answer.{HasAnswered}, declared.outcome.Outcome.{Outcome}, AskedLine.{IsAskedFault}};
 ghost use Rattle.sci_traces.specs.ListsAnswer.{AreListed, IsListLine, IsListed, IsListsAnswer, authority_text, front_text, home_name_text, last_text};

@@ -4,7 +4,8 @@ ghost use Rattle.std.specs.{Prelude.{◌≡◌, ◌++◌, false, IfOk, OnOk, opt
 ghost use Rattle.sci_packets.specs.Spelling.{spelling};
 ghost use Rattle.sci_cache.specs.Cache.{letter_of};
 ghost use Rattle.sci_core.specs.Core.{step};
-ghost use Rattle.sci_statistics.specs.{About.{letter_sent}, Beginning.{before}};
+ghost use Rattle.sci_statistics.specs.About.{letter_sent};
+ghost use Rattle.sci_command.specs.Beginning.{before};
 ghost use Rattle.sci_text.specs.{FirstFault.{IsTold}, ScheduleFault.{IsScheduleFault}, Tap.{has_failed}};
 ghost use Rattle.sci_command.specs.{Answer.{HasAnswered}, declared.outcome.Outcome.{Outcome}};
 ghost use Rattle.sci_traces.specs.PacketsAnswer.{AreSpelled, IsPacketsAnswer, letters_sent};

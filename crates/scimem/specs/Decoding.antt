@@ -68,6 +68,6 @@ abbrev pub IsAnswer : Option (List ℕ) → Bool → List ℕ → Outcome → Ty
 IsAnswer known failed text outcome =
     IsReadAs known failed (λ bytes. IsDecoded bytes text outcome) ⊎ (IsInputRefusal known failed text × (outcome ≡ Refused))
 
--- the same of a command that is refused exactly if there is a refusal to tell of
+-- the same of a command that is refused exactly if there is a refusal
 abbrev pub IsDecodedBeside : Option Refusal → Option (List ℕ) → Bool → List ℕ → Outcome → Type 0
 IsDecodedBeside refusal known failed text outcome = IsAnswer known failed text outcome × (IsSome refusal ↔ (outcome ≡ Refused))

@@ -1,6 +1,6 @@
 //! The command `decode`: a line for each packet.
 
-ghost use Rattle.std.specs.Prelude.{◌≡◌, ◌↔◌, ◌≤◌, ℕ, List, [], false, length, IsSome};
+ghost use Rattle.std.specs.Prelude.{◌≡◌, ◌↔◌, ◌≤◌, ℕ, List, [], None, false, length, IsSome};
 ghost use Rattle.sci_text.specs.Tap.{has_failed, is_called_again, tapped};
 ghost use Rattle.sci_command.specs.{declared.outcome.Outcome.{Outcome}, Writing.{HasCarriedOut, IsPrinted}};
 ghost use Rattle.scimem.specs.Decoding.{IsDecoded, IsDecodedBeside, refusal, fault_word};
@@ -106,8 +106,9 @@ pub fn decode_bytes<R: Read, W: Write>(
 ) -> Ended
     requires reader { has_failed reader.old ≡ false }
     requires writer { has_failed writer.old ≡ false }
-    ensures { HasCarriedOut R.remaining W.contents reader.old reader.new writer.old writer.new
+    ensures answer { HasCarriedOut R.remaining W.contents reader.old reader.new writer.old writer.new
         result.outcome (IsDecodedBeside result.refusal) }
+    ensures dead { result.dead ≡ None }
 {
     match read_input(alloc, reader) {
         Ok(input) => {
@@ -116,6 +117,7 @@ pub fn decode_bytes<R: Read, W: Write>(
             Ended {
                 outcome: print_end(writer, &waiting, outcome),
                 refusal: no_packet(outcome),
+                dead: None,
             }
         }
         Err(fault) => {
@@ -123,6 +125,7 @@ pub fn decode_bytes<R: Read, W: Write>(
             Ended {
                 outcome: write_answer(writer, line.as_slice(), Outcome::Refused),
                 refusal: Some(Refusal::from(fault)),
+                dead: None,
             }
         }
     }

@@ -1,6 +1,8 @@
 -- What each command writes for its input, and how it ends.
 use Rattle.std.specs.Prelude.{◌≡◌, ℕ, Bool, List, Option, Some, None}
-use Rattle.sci_command.specs.declared.outcome.Outcome.{Outcome, TheVariants.{Done}}
+use Rattle.sci_core.specs.declared.dead.DeadEvents.{DeadEvents}
+use Rattle.sci_command.specs.declared.{outcome.Outcome.{Outcome, TheVariants.{Done}}, refusal.Refusal.{Refusal}}
+use Rattle.sci_command.specs.Beginning.{AreDeadBeside}
 use Rattle.sciview.specs.declared.{choice.Command.{Command}, verb.Verb.{Verb}, help.TheConstants.{HELP, VERSION}}
 use Rattle.sciview.specs.declared.help.TheConstants.{ALLOWED, CHART, CHECK, EXPLAIN, JUDGE, LISTS, ORDER, OUTCOMES, PACKETS, RANDOM, RUN, STATS, TRACE}
 use Rattle.sciview.specs.declared.verb.Verb.TheVariants.{Allowed, Chart, Check, Explain, Judge, Lists, Order, Outcomes, Packets, Random, Run, Stats, Trace}
@@ -52,3 +54,10 @@ IsAnswerTo (commands.Outcomes request) = IsOutcomesAnswer request
 IsAnswerTo (commands.Allowed request) = IsAllowedAnswer request
 IsAnswerTo (commands.Help verb) = λ input failed text outcome. (text ≡ help_for verb) × (outcome ≡ Done)
 IsAnswerTo commands.Version = λ input failed text outcome. (text ≡ VERSION.now) × (outcome ≡ Done)
+
+-- the events that weren't enabled of which standard error says so: those of the schedules of `stats` and `chart`, and of no other
+-- command
+abbrev pub AreDeadOf : Command → Option (List ℕ) → Bool → Option Refusal → Option DeadEvents → Type 0
+AreDeadOf (commands.Stats request) known failed refusal dead = AreDeadBeside known failed refusal dead
+AreDeadOf (commands.Chart request) known failed refusal dead = AreDeadBeside known failed refusal dead
+AreDeadOf command known failed refusal dead = dead ≡ None

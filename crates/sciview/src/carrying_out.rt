@@ -3,14 +3,14 @@
 ghost use Rattle.std.specs.Prelude.{◌≡◌, false, None};
 ghost use Rattle.sci_text.specs.Tap.{has_failed, is_called_again, tapped};
 ghost use Rattle.sci_command.specs.{Answer.{IsAnswerAlone}, Writing.{HasCarriedOut, HasWritten}, declared.outcome.Outcome.{Outcome}};
-ghost use Rattle.sciview.specs.CommandAnswer.{IsAnswerTo};
+ghost use Rattle.sciview.specs.CommandAnswer.{AreDeadOf, IsAnswerTo};
 
 use crate::choice::Command;
 use crate::help::{VERSION, help_of};
 use sci_allowed::allowed;
 use sci_axe::judge_trace;
 use sci_charts::chart;
-use sci_command::{Ended, Outcome, show, write_answer};
+use sci_command::{Ended, Outcome, parted, show, write_answer};
 use sci_outcomes::{outcomes_of, run};
 use sci_reports::{check, explain, order};
 use sci_statistics::stats;
@@ -29,11 +29,13 @@ fn show_words<W: Write>(writer: &mut Tap<W>, words: &str) -> Ended
         (λ text outcome. (outcome ≡ Outcome.Refused → ⊥)
         × ((text ≡ words.now) × (outcome ≡ Outcome.Done))) }
     ensures refusal { result.refusal ≡ None }
+    ensures dead { result.dead ≡ None }
     ensures again { is_called_again writer.new ≡ is_called_again writer.old }
 {
     Ended {
         outcome: write_answer(writer, words.as_bytes(), Outcome::Done),
         refusal: None,
+        dead: None,
     }
 }
 
@@ -48,8 +50,10 @@ pub fn carried_out<T: Threads + Sync, R: Read, W: Write>(
 ) -> Ended
     requires reader { has_failed reader.old ≡ false }
     requires writer { has_failed writer.old ≡ false }
-    ensures { HasCarriedOut R.remaining W.contents reader.old reader.new writer.old writer.new
+    ensures answer { HasCarriedOut R.remaining W.contents reader.old reader.new writer.old writer.new
         result.outcome (IsAnswerAlone (IsAnswerTo command) result.refusal) }
+    ensures dead { AreDeadOf command (R.remaining (tapped reader.old)) (has_failed reader.new)
+        result.refusal result.dead }
 {
     match command {
         Command::Order(request) => show(writer, order(alloc, request, reader)),
@@ -59,8 +63,14 @@ pub fn carried_out<T: Threads + Sync, R: Read, W: Write>(
         Command::Packets => show(writer, packets(alloc, reader)),
         Command::Trace(request) => show(writer, trace(alloc, request, reader)),
         Command::Lists { line } => show(writer, lists(alloc, line, reader)),
-        Command::Stats(request) => show(writer, stats(alloc, request, reader)),
-        Command::Chart(request) => show(writer, chart(alloc, request, reader)),
+        Command::Stats(request) => {
+            let (answered, dead) = parted(stats(alloc, request, reader));
+            show(writer, answered).beside(dead)
+        }
+        Command::Chart(request) => {
+            let (answered, dead) = parted(chart(alloc, request, reader));
+            show(writer, answered).beside(dead)
+        }
         Command::Random { walk, dead } => { show(writer, random_schedule(alloc, &walk, dead)) }
         Command::Run(request) => show(writer, run(alloc, request, reader)),
         Command::Outcomes(request) => { show(writer, outcomes_of(rt, alloc, request, reader)) }

@@ -2,7 +2,7 @@ use Rattle.std.proofs.Common.{◌≡◌, ◌+◌, ◌<◌, ◌≤◌, ◌++◌, 
 use Rattle.std.proofs.lemmas.Result.{IfOk-weaker}
 use Rattle.std.specs.Global.{Vec}
 use Rattle.sci_words.specs.declared.{event.Event.{Event, TheVariants.{Issue}}, operation.Act.TheVariants.{Load}}
-use Rattle.sci_statistics.specs.Beginning.{before}
+use Rattle.sci_command.specs.Beginning.{before}
 use Rattle.sci_charts.specs.{declared.charting.ChartRequest.{ChartRequest}, Rows.{Place, shown_places}}
 use Rattle.sci_charts.specs.{Drawing.{Adds, chart_end}, ChartAnswer.{IsChart}}
 use Rattle.sci_charts.proofs.Drawn.{behind_first, behind_more, draws_all, draws_up_to, framed}

@@ -8,7 +8,7 @@ returns-in-Some-clause-members c =
     c.obstacle_to-obstacle.result c.in-Some.obstacle _ _ _ _
     c.in-Some.is c.obstacle_to-obstacle.ensures.obstacle c.obstacle_to-obstacle.ensures.enabled c.is_none.ensures c.node_of-node.ensures
     c.line_changed-line.ensures
-    c.in_ok-write_truth.ensures c.in_ok-write_text.ensures c.obstacle_name.ensures c.in_ok-write_line.ensures
+    c.in_ok-write_truth.ensures c.in_ok-write_text.ensures c.name.ensures.name c.in_ok-write_line.ensures
     c.in_ok-write_standing.ensures
 
 pub returns-clause-members : goal.returns-clause-members

@@ -2,7 +2,7 @@ use Rattle.std.proofs.Common.{arith, ◌≡◌, ◌+◌, ◌<◌, ◌≤◌, ℕ
 use Rattle.sci_core.specs.Core.{stepping}
 use Rattle.sci_traces.specs.ListsAnswer.{IsListed}
 use Rattle.sci_words.specs.declared.{event.Event.{Event, TheVariants.{Issue}}, operation.Act.TheVariants.{Load}}
-use Rattle.sci_statistics.specs.Beginning.{before}
+use Rattle.sci_command.specs.Beginning.{before}
 use Rattle.sci_traces.proofs.Listed.{lists_more, lists_all}
 use Rattle.sci_traces.proofs.listing.lists_of.Goals as goal
 

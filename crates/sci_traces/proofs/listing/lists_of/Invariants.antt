@@ -1,5 +1,5 @@
 use Rattle.std.proofs.Common.{◌≡◌, ◌+◌, drop}
-use Rattle.sci_statistics.specs.Beginning.{before}
+use Rattle.sci_command.specs.Beginning.{before}
 use Rattle.sci_traces.proofs.Listed.{IsListedTo}
 use Rattle.sci_traces.proofs.listing.lists_of.Given as goal
 

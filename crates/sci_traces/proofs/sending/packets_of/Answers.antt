@@ -1,6 +1,6 @@
 use Rattle.std.proofs.Common.{arith, ◌<◌, length}
 use Rattle.sci_words.specs.declared.{event.Event.{Event, TheVariants.{Issue}}, operation.Act.TheVariants.{Load}}
-use Rattle.sci_statistics.specs.Beginning.{before}
+use Rattle.sci_command.specs.Beginning.{before}
 use Rattle.sci_traces.specs.PacketsAnswer.{letters_sent}
 use Rattle.sci_traces.proofs.Sent.{sends_more}
 use Rattle.sci_traces.proofs.sending.packets_of.Goals as goal

@@ -1,5 +1,5 @@
 use Rattle.std.proofs.Common.{drop}
-use Rattle.sci_statistics.specs.Beginning.{before}
+use Rattle.sci_command.specs.Beginning.{before}
 use Rattle.sci_traces.specs.PacketsAnswer.{letters_sent}
 use Rattle.sci_traces.proofs.Sent.{HasSent}
 use Rattle.sci_traces.proofs.sending.packets_of.Given as goal

@@ -1,5 +1,5 @@
 use Rattle.std.proofs.Common.{◌≡◌, ◌+◌, drop}
-use Rattle.sci_statistics.specs.Beginning.{before}
+use Rattle.sci_command.specs.Beginning.{before}
 use Rattle.sci_traces.specs.TraceAnswer.{trace_text, trace_outcome}
 use Rattle.sci_traces.proofs.Traced.{IsTracedTo}
 use Rattle.sci_traces.proofs.tracing.traced.Given as goal

@@ -6,8 +6,8 @@ use Rattle.scimem.specs.Decoding.{IsDecodedBeside}
 use Rattle.scimem.proofs.UnreadInputs.{refused}
 use Rattle.scimem.proofs.decode.decode_bytes.Goals as goal
 
-pub returns-in-Ok : goal.returns-in-Ok
-returns-in-Ok g c =
+pub returns-in-Ok-clause-answer : goal.returns-in-Ok-clause-answer
+returns-in-Ok-clause-answer g c =
     let known = g.R.Read.remaining (tapped c.args.reader.now) in
     let unread = has_failed c.read_input.new.reader in
     let start = g.W.Write.contents (tapped c.args.writer.now) in
@@ -25,8 +25,8 @@ returns-in-Ok g c =
       wrote_no_more = ended.again ∙ c.print_packets-outcome.ensures.again;
     }
 
-pub returns-in-Err : goal.returns-in-Err
-returns-in-Err g c =
+pub returns-in-Err-clause-answer : goal.returns-in-Err-clause-answer
+returns-in-Err-clause-answer g c =
     let known = g.R.Read.remaining (tapped c.args.reader.now) in
     let unread = has_failed c.read_input.new.reader in
     let written = c.write_answer.ensures in record {

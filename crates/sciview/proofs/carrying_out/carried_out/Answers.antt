@@ -3,8 +3,8 @@ use Rattle.std.proofs.Common.{◌≡◌, ℕ, List, Bool, Option, None, refl}
 use Rattle.sci_text.specs.{LogFault.{IsLogFault}, ScheduleFault.{IsScheduleFault}, FirstFault.{IsTold}}
 use Rattle.sci_text.specs.Tap.{has_failed, tapped}
 use Rattle.sci_command.specs.declared.{outcome.Outcome.{Outcome, TheVariants.{Done, Refused}}, refusal.Refusal.{Refusal}}
-use Rattle.sci_command.specs.{Answer.{IsAnswerAlone}, AskedLine.{IsAskedFault}, Writing.{HasWritten}}
-use Rattle.sci_command.proofs.Finished.{answered_by, carried_out}
+use Rattle.sci_command.specs.{Answer.{IsAnswerAlone, answer_in}, AskedLine.{IsAskedFault}, Writing.{HasWritten}}
+use Rattle.sci_command.proofs.Finished.{answered_by, carried_out, dead_beside}
 use Rattle.sciview.specs.declared.help.TheConstants.{VERSION}
 use Rattle.sci_allowed.specs.AllowedAnswer.{IsAllowedAnswer, IsAllowedRefusal}
 use Rattle.sci_axe.specs.{JudgeAnswer.{IsJudgeAnswer}, Trace.{IsTraceFault}}
@@ -25,87 +25,107 @@ words_shown : (words : List ℕ) {old new : Option (List ℕ)} {failed : Bool} {
     → HasWritten old new failed outcome (IsAnswerAlone (λ input read text ends. (text ≡ words) × (ends ≡ Done)) refusal known unread)
 words_shown words known unread refusal none written = rw none written
 
-pub returns-in-Order : goal.returns-in-Order
-returns-in-Order g c =
+pub returns-in-Order-clause-answer : goal.returns-in-Order-clause-answer
+returns-in-Order-clause-answer g c =
     let shown = c.show in
     rw c.in-Order.is (carried_out (IsOrderAnswer c.in-Order.request) (IsTold IsLogFault) c.order.result shown.result.refusal (λ text is. is) c.order.ensures
     shown.ensures.refusal shown.ensures.written shown.ensures.again)
 
-pub returns-in-Explain : goal.returns-in-Explain
-returns-in-Explain g c =
+pub returns-in-Explain-clause-answer : goal.returns-in-Explain-clause-answer
+returns-in-Explain-clause-answer g c =
     let shown = c.show-in-Explain in
     rw c.in-Explain.is (carried_out IsExplainAnswer (IsTold IsLogFault) c.explain.result shown.result.refusal (λ text is. is) c.explain.ensures
     shown.ensures.refusal shown.ensures.written shown.ensures.again)
 
-pub returns-in-Check : goal.returns-in-Check
-returns-in-Check g c =
+pub returns-in-Check-clause-answer : goal.returns-in-Check-clause-answer
+returns-in-Check-clause-answer g c =
     let shown = c.show-in-Check in
     rw c.in-Check.is (carried_out IsCheckAnswer (IsTold IsLastFault) c.check.result shown.result.refusal (λ text is. is) c.check.ensures
     shown.ensures.refusal shown.ensures.written shown.ensures.again)
 
-pub returns-in-Judge : goal.returns-in-Judge
-returns-in-Judge g c =
+pub returns-in-Judge-clause-answer : goal.returns-in-Judge-clause-answer
+returns-in-Judge-clause-answer g c =
     let shown = c.show-in-Judge in
     rw c.in-Judge.is (carried_out (IsJudgeAnswer c.in-Judge.request) (IsTold IsTraceFault) c.judge_trace.result shown.result.refusal (λ text is. is)
     c.judge_trace.ensures shown.ensures.refusal shown.ensures.written shown.ensures.again)
 
-pub returns-in-Packets : goal.returns-in-Packets
-returns-in-Packets g c =
+pub returns-in-Packets-clause-answer : goal.returns-in-Packets-clause-answer
+returns-in-Packets-clause-answer g c =
     let shown = c.show-in-Packets in
     rw c.in-Packets.is (carried_out IsPacketsAnswer (IsTold IsScheduleFault) c.packets.result shown.result.refusal (λ text is. is) c.packets.ensures
     shown.ensures.refusal shown.ensures.written shown.ensures.again)
 
-pub returns-in-Trace : goal.returns-in-Trace
-returns-in-Trace g c =
+pub returns-in-Trace-clause-answer : goal.returns-in-Trace-clause-answer
+returns-in-Trace-clause-answer g c =
     let shown = c.show-in-Trace in
     rw c.in-Trace.is (carried_out (IsTraceAnswer c.in-Trace.request) (IsAskedFault c.in-Trace.request.line) c.trace.result
     shown.result.refusal (λ text is. is) c.trace.ensures
     shown.ensures.refusal shown.ensures.written shown.ensures.again)
 
-pub returns-in-Lists : goal.returns-in-Lists
-returns-in-Lists g c =
+pub returns-in-Lists-clause-answer : goal.returns-in-Lists-clause-answer
+returns-in-Lists-clause-answer g c =
     let shown = c.show-in-Lists in
     rw c.in-Lists.is (carried_out (IsListsAnswer c.in-Lists.line) (IsAskedFault c.in-Lists.line) c.lists.result
     shown.result.refusal (λ text is. is) c.lists.ensures
     shown.ensures.refusal shown.ensures.written shown.ensures.again)
 
-pub returns-in-Stats : goal.returns-in-Stats
-returns-in-Stats g c =
+pub returns-in-Stats-clause-answer : goal.returns-in-Stats-clause-answer
+returns-in-Stats-clause-answer g c =
     let shown = c.show-in-Stats in
-    rw c.in-Stats.is (carried_out (IsStatsAnswer c.in-Stats.request) (IsStatsFault c.in-Stats.request) c.stats.result
-    shown.result.refusal (λ text is. is) c.stats.ensures
-    shown.ensures.refusal shown.ensures.written shown.ensures.again)
+    let parted = c.parted-answered.ensures in
+    let beside = c.beside.ensures in
+    rw (c.in-Stats.is, beside.outcome, beside.refusal) (carried_out (IsStatsAnswer c.in-Stats.request) (IsStatsFault c.in-Stats.request)
+    (answer_in c.stats.result) shown.result.refusal (λ text is. is) c.stats.ensures.answer (rw parted.answer at shown.ensures.refusal)
+    (rw parted.answer at shown.ensures.written) shown.ensures.again)
 
-pub returns-in-Chart : goal.returns-in-Chart
-returns-in-Chart g c =
+pub returns-in-Stats-clause-dead : goal.returns-in-Stats-clause-dead
+returns-in-Stats-clause-dead g c =
+    let parted = c.parted-answered.ensures in
+    let beside = c.beside.ensures in
+    let refusal = rw parted.answer at c.show-in-Stats.ensures.refusal in
+    rw (c.in-Stats.is, beside.refusal, beside.dead)
+    (dead_beside _ _ c.stats.result c.stats.ensures.dead c.show-in-Stats.result.refusal refusal c.parted-answered.result.1 parted.dead)
+
+pub returns-in-Chart-clause-answer : goal.returns-in-Chart-clause-answer
+returns-in-Chart-clause-answer g c =
     let shown = c.show-in-Chart in
-    rw c.in-Chart.is (carried_out (IsChartAnswer c.in-Chart.request) (IsAskedFault c.in-Chart.request.line) c.chart.result
-    shown.result.refusal (λ text is. is) c.chart.ensures
-    shown.ensures.refusal shown.ensures.written shown.ensures.again)
+    let parted = c.parted-answered-in-Chart.ensures in
+    let beside = c.beside-in-Chart.ensures in
+    rw (c.in-Chart.is, beside.outcome, beside.refusal) (carried_out (IsChartAnswer c.in-Chart.request) (IsAskedFault c.in-Chart.request.line)
+    (answer_in c.chart.result) shown.result.refusal (λ text is. is) c.chart.ensures.answer (rw parted.answer at shown.ensures.refusal)
+    (rw parted.answer at shown.ensures.written) shown.ensures.again)
 
-pub returns-in-Run : goal.returns-in-Run
-returns-in-Run g c =
+pub returns-in-Chart-clause-dead : goal.returns-in-Chart-clause-dead
+returns-in-Chart-clause-dead g c =
+    let parted = c.parted-answered-in-Chart.ensures in
+    let beside = c.beside-in-Chart.ensures in
+    let refusal = rw parted.answer at c.show-in-Chart.ensures.refusal in
+    rw (c.in-Chart.is, beside.refusal, beside.dead)
+    (dead_beside _ _ c.chart.result c.chart.ensures.dead c.show-in-Chart.result.refusal refusal c.parted-answered-in-Chart.result.1 parted.dead)
+
+pub returns-in-Run-clause-answer : goal.returns-in-Run-clause-answer
+returns-in-Run-clause-answer g c =
     let shown = c.show-in-Run in
     let long = IsLongRun c.in-Run.request in
     rw c.in-Run.is (carried_out (IsRunAnswer c.in-Run.request) (IsRunRefusal long) c.run.result shown.result.refusal (λ text is. is) c.run.ensures
     shown.ensures.refusal shown.ensures.written shown.ensures.again)
 
-pub returns-in-Outcomes : goal.returns-in-Outcomes
-returns-in-Outcomes g c =
+pub returns-in-Outcomes-clause-answer : goal.returns-in-Outcomes-clause-answer
+returns-in-Outcomes-clause-answer g c =
     let shown = c.show-in-Outcomes in
     let request = c.in-Outcomes.request in
     rw c.in-Outcomes.is (carried_out (IsOutcomesAnswer request) (IsOutcomesRefusal request) c.outcomes_of.result shown.result.refusal
     (λ text is. is) c.outcomes_of.ensures shown.ensures.refusal shown.ensures.written shown.ensures.again)
 
-pub returns-in-Allowed : goal.returns-in-Allowed
-returns-in-Allowed g c =
+pub returns-in-Allowed-clause-answer : goal.returns-in-Allowed-clause-answer
+returns-in-Allowed-clause-answer g c =
     let shown = c.show-in-Allowed in
     let request = c.in-Allowed.request in
     rw c.in-Allowed.is (carried_out (IsAllowedAnswer request) (IsAllowedRefusal request) c.allowed.result shown.result.refusal (λ text is. is)
     c.allowed.ensures shown.ensures.refusal shown.ensures.written shown.ensures.again)
 
-pub returns-in-Random : goal.returns-in-Random
-returns-in-Random g c =
+pub returns-in-Random-clause-answer : goal.returns-in-Random-clause-answer
+returns-in-Random-clause-answer g c =
     let walk = c.in-Random.walk in
     let dead = c.in-Random.dead in
     let drawn = c.random_schedule in
@@ -116,8 +136,8 @@ returns-in-Random g c =
     (answered_by _ _ (g.R.Read.remaining (tapped reader)) (has_failed reader) drawn.result drawn.ensures.answer drawn.ensures.fault, refl)
     shown.ensures.refusal shown.ensures.written shown.ensures.again)
 
-pub returns-in-Help : goal.returns-in-Help
-returns-in-Help g c =
+pub returns-in-Help-clause-answer : goal.returns-in-Help-clause-answer
+returns-in-Help-clause-answer g c =
     let shown = c.show_words in
     let help = c.help_of.ensures in
     rw c.in-Help.is (record {
@@ -126,8 +146,8 @@ returns-in-Help g c =
       wrote_no_more = shown.ensures.again;
     })
 
-pub returns-in-Version : goal.returns-in-Version
-returns-in-Version g c =
+pub returns-in-Version-clause-answer : goal.returns-in-Version-clause-answer
+returns-in-Version-clause-answer g c =
     let shown = c.show_words-in-Version in
     rw c.in-Version.is (record {
       answers = words_shown VERSION.now _ _ shown.result.refusal shown.ensures.refusal shown.ensures.written;
