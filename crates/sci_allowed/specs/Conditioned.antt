@@ -35,7 +35,7 @@ pub record IsLastLineAt (bytes : List ℕ) (at : ℕ) : Type 0 where
 abbrev pub IsQuantified : List ℕ → Type 0
 IsQuantified bytes = (quantifier : Quantifier) × (rest : List ℕ) × (bytes ≡ quantifier_word quantifier ++ rest)
 
--- so many bytes stand in front of the last line, if that begins with a quantifier; else all
+-- this many bytes stand in front of the last line, if that begins with a quantifier; else all
 abbrev pub IsFrontLength : List ℕ → ℕ → Type 0
 IsFrontLength bytes n = (IsLastLineAt bytes n × IsQuantified (drop n bytes))
     ⊎ ((n ≡ length bytes) × ((at : ℕ) → IsLastLineAt bytes at → IsQuantified (drop at bytes) → ⊥))
