@@ -1,11 +1,11 @@
 //! Entries of logs.
 
 ghost use Rattle.std.specs.Prelude.{◌≡◌, MatchOption};
-ghost use Rattle.sci_c_values.specs.{Entry.{SaysEntry, SaysReply, entry_struct}, Saying.{SaysNone}};
+ghost use Rattle.sci_c_values.specs.{Entry.{SaysEntry, SaysReplyTo, entry_struct}, Saying.{SaysNone}};
 
 use crate::operation::{SciOp, op_in, op_out};
 use sci_history::Entry;
-use sci_words::Reply;
+use sci_words::{Act, Reply};
 
 /// An entry of a log. `has_word` is 1 if the operation answered `word`, and 0 for a store.
 #[repr(C)]
@@ -20,13 +20,19 @@ pub struct SciEntry {
     pub version: u64,
 }
 
-fn reply_in(entry: &SciEntry) -> Option<Reply>
-    ensures { MatchOption result (SaysNone (SaysReply entry.now)) (SaysReply entry.now) }
+/// The reply that the struct says, or None if it says none that an operation of this act can have.
+fn reply_in(entry: &SciEntry, act: Act) -> Option<Reply>
+    ensures { MatchOption result (SaysNone (SaysReplyTo act entry.now)) (SaysReplyTo act entry.now) }
 {
-    match entry.has_word {
-        0 => Some(Reply::Stored),
-        1 => Some(Reply::Got(entry.word)),
-        _ => None,
+    match act {
+        Act::Store(_) => match entry.has_word {
+            0 => Some(Reply::Stored),
+            _ => None,
+        },
+        Act::Load | Act::Lock(_) => match entry.has_word {
+            1 => Some(Reply::Got(entry.word)),
+            _ => None,
+        },
     }
 }
 
@@ -34,11 +40,12 @@ fn reply_in(entry: &SciEntry) -> Option<Reply>
 pub fn entry_in(entry: &SciEntry) -> Option<Entry>
     ensures { MatchOption result (SaysNone (SaysEntry entry.now)) (SaysEntry entry.now) }
 {
+    let op = op_in(&entry.op)?;
     Some(Entry {
         node: entry.node,
         serial: entry.serial,
-        op: op_in(&entry.op)?,
-        reply: reply_in(entry)?,
+        op,
+        reply: reply_in(entry, op.act)?,
         version: entry.version,
     })
 }
