@@ -9,7 +9,8 @@
 **   - No pointer is NULL, not even to an empty buffer. Each is aligned as its type asks, and leads to as much memory as the
 **     type or the length beside it says. No two arguments of a call overlap.
 **   - An object (sci_machine, sci_node, sci_logs) is all zero before its first use: SCI_INIT, or static memory. Only this
-**     library changes it. It is not copied: two copies would both own what it keeps. When it goes out of use it is closed.
+**     library changes it. It may be moved, byte by byte, if the old place is not used again: two copies would both own what it
+**     keeps. When it goes out of use it is closed.
 **   - One thread at a time uses an object, also in a call that takes it as const. Two objects share nothing.
 **   - No function is called from a signal handler, or in the child of a fork of a process with threads.
 **   - malloc, realloc and free come from one allocator, which aligns a block to 16 bytes.
@@ -17,8 +18,10 @@
 ** All else is looked at. Any number may be passed in any field, and what can't be done is answered by a status.
 **
 ** STATUSES. Unless a function says otherwise, a call that answers another status than SCI_OK leaves the object and all that
-** its other arguments lead to as they were. Where more than one status would fit, SCI_MISUSE comes first and SCI_NO_MEMORY last.
-** What is const stays the same in any case.
+** its other arguments lead to as they were. What is const stays the same in any case. Where more than one status would fit,
+** they come in this order: SCI_MISUSE, the faults of a packet's bytes, SCI_RANGE, SCI_NOT_ENABLED, SCI_FULL, SCI_NO_MEMORY. The
+** functions that read a struct of a packet have an order of their own. sci_logs_write, sci_logs_order and sci_machine_sharing need
+** memory to know how much room they want, so SCI_FULL comes last there. sci_logs_read answers what it meets first.
 */
 #ifndef SCI_H
 #define SCI_H
@@ -37,7 +40,7 @@ extern "C" {
 /* What a call answers. The numbers are of a fixed width, which those of an enum are not. */
 typedef uint32_t sci_status;
 
-enum {
+enum sci_status_number {
     SCI_OK = 0,              /* Done. */
     SCI_NO_MEMORY = 1,       /* malloc or realloc refused memory. The call can be made again. */
     SCI_NOT_ENABLED = 2,     /* The event is not enabled, or what was asked for is not there. */
@@ -52,7 +55,7 @@ enum {
 };
 
 /* Limits. */
-enum {
+enum sci_limit {
     SCI_MAX_NODES = 16,
     SCI_MAX_LINES = 64,
     SCI_MAX_SLOTS = 8,
@@ -66,7 +69,7 @@ enum {
 /* ---- values */
 
 /* What an operation does, in sci_op.act. */
-enum {
+enum sci_act {
     SCI_LOAD = 0,
     SCI_STORE = 1,        /* stores datum */
     SCI_MASK_SWAP = 2,    /* takes the bits of datum where arg has a one */
@@ -87,7 +90,7 @@ typedef struct sci_op {
 } sci_op;
 
 /* What an event is, in sci_event.kind. */
-enum {
+enum sci_event_kind {
     SCI_ISSUE = 0,   /* the processor of node issues op */
     SCI_PERFORM = 1, /* the pending operation of node on line is performed */
     SCI_ASK = 2,     /* node sends a request of the kind ask about line */
@@ -98,7 +101,7 @@ enum {
 };
 
 /* The kinds of requests, in sci_event.ask. */
-enum {
+enum sci_ask_kind {
     SCI_MREAD = 0,
     SCI_FREAD = 1,
     SCI_CREAD = 2,
@@ -151,8 +154,124 @@ typedef struct sci_entry {
     uint64_t version; /* that a load read, or that the operation made */
 } sci_entry;
 
+/* The commands of packets, in sci_packet.command. The requests are below 0x100, the answers above. */
+enum sci_command {
+    SCI_CMD_MREAD = 0x001,
+    SCI_CMD_CREAD = 0x002,
+    SCI_CMD_PURGE = 0x003,
+    SCI_CMD_ROLL = 0x004,
+    SCI_CMD_WBACK = 0x005,
+    SCI_CMD_SETBACK = 0x006,
+    SCI_CMD_FREAD = 0x007,
+    SCI_CMD_CLAIM = 0x008,
+    SCI_CMD_CLEAR = 0x009,
+    SCI_CMD_MDATA = 0x101,
+    SCI_CMD_MGONE = 0x102,
+    SCI_CMD_CDATA = 0x103,
+    SCI_CMD_PURGED = 0x104,
+    SCI_CMD_ROLLED = 0x105,
+    SCI_CMD_WBOK = 0x106,
+    SCI_CMD_WBNO = 0x107,
+    SCI_CMD_TOLD = 0x108,
+    SCI_CMD_BUSY = 0x109,
+    SCI_CMD_FDATA = 0x10A
+};
+
+/* The states of a line in a node's cache, in sci_held.state (docs/PROTOCOL.md). */
+enum sci_state {
+    SCI_OUT = 0, /* no entry */
+    SCI_ASKING = 1,
+    SCI_JOINING = 2,
+    SCI_FRESH_JOINING = 3,
+    SCI_HEAD = 4,
+    SCI_FRESH_HEAD = 5,
+    SCI_BELOW = 6,
+    SCI_PURGING = 7,
+    SCI_CLAIMING = 8,
+    SCI_CLEARING = 9,
+    SCI_RETURNING = 10,
+    SCI_ROLLING = 11,
+    SCI_TELLING = 12,
+    SCI_FADING = 13
+};
+
+/* What a node's cache has of a line. */
+typedef struct sci_held {
+    uint8_t state;
+    uint8_t waits;        /* 1 if a request about the line is under way, and its answer is awaited */
+    uint8_t has_contents; /* 1 if the state has contents; else they are 0 */
+    uint8_t reserved;     /* 0 */
+    uint16_t forward;     /* the next entry, or the old head that is joined; SCI_NO_NODE if there is none */
+    uint16_t backward;    /* the entry before, or SCI_NO_NODE */
+    sci_stamped contents;
+} sci_held;
+
+/* The states of a line's home, in sci_home.state. */
+enum sci_home_state { SCI_HOME = 0, SCI_FRESH = 1, SCI_GONE = 2 };
+
+/* What the home of a line knows. */
+typedef struct sci_home {
+    uint8_t state;
+    uint8_t has_contents; /* 1 if nobody may have written since; else the contents are 0 */
+    uint16_t head;        /* the head of the list, or SCI_NO_NODE */
+    uint32_t reserved;    /* 0 */
+    sci_stamped contents;
+} sci_home;
+
+/* The lanes from one node to another. */
+enum sci_lane { SCI_REQUESTS = 0, SCI_ANSWERS = 1 };
+
+/* Why an event is not enabled: the first of these, in the order in which they are looked for. */
+enum sci_obstacle {
+    SCI_NO_OBSTACLE = 0,        /* it is enabled */
+    SCI_NO_SUCH_NODE = 1,
+    SCI_NO_SUCH_SENDER = 2,     /* a Serve, a Refuse or an Accept */
+    SCI_NO_SUCH_LINE = 3,       /* an Issue or an Ask */
+    SCI_NO_SUCH_WORD = 4,       /* an Issue */
+    SCI_ALREADY_PENDING = 5,    /* an Issue: an operation of the node is pending on the line */
+    SCI_NO_ISSUE_LEFT = 6,      /* an Issue: the node has issued as many operations as it may */
+    SCI_NOTHING_PENDING = 7,    /* a Perform */
+    SCI_NOT_ALLOWED = 8,        /* a Perform: the line's state doesn't allow the operation */
+    SCI_NOT_ASKED = 9,          /* an Ask: the line's state doesn't ask this kind */
+    SCI_NO_SLOT = 10,           /* an Ask: the line has no entry, and every version slot is taken */
+    SCI_NOTHING_UNDER_WAY = 11, /* a Serve, a Refuse or an Accept */
+    SCI_ANSWER_WAITS = 12,      /* a Serve or a Refuse: an answer of the node has to be sent first */
+    SCI_SETBACK_COMES = 13,     /* a Refuse: a setback isn't refused */
+    SCI_NO_ANSWER_WAITS = 14    /* a Reply */
+};
+
+/* What a step did: the packet that it sent or took, and the entry that it logged. What there is not is 0. */
+typedef struct sci_seen {
+    uint32_t has_packet;
+    uint32_t has_entry;
+    sci_packet packet;
+    sci_entry entry;
+} sci_seen;
+
+/* What a node does next, in sci_want.kind. */
+enum sci_want_kind {
+    SCI_WANT_NOTHING = 0,
+    SCI_WANT_PERFORM = 1, /* the operation that is pending on line: sci_node_perform */
+    SCI_WANT_ASK = 2      /* a request of the kind ask about line: sci_node_ask */
+};
+
+/* What a node does next. A field that the kind doesn't have is 0. */
+typedef struct sci_want {
+    uint8_t kind;
+    uint8_t line;
+    uint8_t ask;
+    uint8_t reserved; /* 0 */
+} sci_want;
+
+/* What a node does with a request that has come. */
+enum sci_decision {
+    SCI_KEEP = 0,      /* it stays where it is, and is looked at again in a later turn */
+    SCI_TO_REFUSE = 1, /* sci_node_refuse */
+    SCI_TO_SERVE = 2   /* sci_node_serve */
+};
+
 /* The kinds of verdicts, in sci_verdict.kind. */
-enum {
+enum sci_verdict_kind {
     SCI_LAWFUL = 0,
     SCI_VERSION_TWICE = 1,   /* two operations made the same version */
     SCI_VERSION_MISSING = 2, /* a version is 0 or too high */
@@ -162,7 +281,7 @@ enum {
 };
 
 /* What a look for one order finds. */
-enum {
+enum sci_order_kind {
     SCI_ORDER = 0,   /* there is one */
     SCI_CYCLE = 1,   /* there is none, as a cycle of entries shows */
     SCI_UNLAWFUL = 2 /* the logs aren't lawful */
@@ -178,7 +297,7 @@ typedef struct sci_verdict {
 } sci_verdict;
 
 /* The kinds of faults of a text, in sci_text_fault.kind. */
-enum { SCI_TEXT_SYNTAX = 1, SCI_TEXT_RANGE = 2, SCI_TEXT_TOO_MANY = 3 };
+enum sci_text_kind { SCI_TEXT_SYNTAX = 1, SCI_TEXT_RANGE = 2, SCI_TEXT_TOO_MANY = 3 };
 
 /* The first fault of a text. line counts from 1. */
 typedef struct sci_text_fault {
@@ -218,8 +337,21 @@ uint32_t sci_version(void);
 ** the library has them. */
 void sci_layout(uint64_t sizes[8]);
 
+/* The same of sci_held, sci_home, sci_seen and sci_want. */
+void sci_layout_more(uint64_t sizes[4]);
+
 /* A short text in English, also for a number that is no status. It is static. */
 const char *sci_status_text(sci_status status);
+
+/* Names: of a status ("SCI_RANGE"), and as the programs print them, of a packet's command ("mread"), of a state of a cache
+** ("FreshHead") and of a home ("GONE"), of an obstacle ("no-slot") and of a verdict ("wrong-reply"). "?" stands for a number
+** that has none. They are static. */
+const char *sci_status_name(sci_status status);
+const char *sci_command_name(uint32_t command);
+const char *sci_state_name(uint32_t state);
+const char *sci_home_state_name(uint32_t state);
+const char *sci_obstacle_name(uint32_t obstacle);
+const char *sci_verdict_name(uint32_t kind);
 
 /* ---- packets */
 
@@ -236,9 +368,11 @@ sci_status sci_packet_decode(const uint8_t *bytes, size_t length, sci_packet *pa
 ** (sci_packets::encode).
 **
 **   SCI_OK               bytes and used are written.
-**   SCI_RANGE            line is 2^42 or more, has_contents is above 1, or it is 1 and the command carries none.
+**   SCI_RANGE            line is 2^42 or more, or has_contents is above 1.
+**   SCI_UNKNOWN_COMMAND, SCI_BAD_IDENTIFIER
+**                        The first fault of its words, in this order.
 **   SCI_SHORT            The command carries contents, and has_contents is 0.
-**   SCI_UNKNOWN_COMMAND, SCI_BAD_IDENTIFIER */
+**   SCI_RANGE            has_contents is 1, and the command carries none. */
 sci_status sci_packet_encode(const sci_packet *packet, uint8_t bytes[SCI_PACKET_BYTES], size_t *used);
 
 /* The same for words: each eight bytes are one word, the highest byte first. A packet has 2 words, or 11 with contents
@@ -257,7 +391,7 @@ sci_status sci_packet_to_words(const sci_packet *packet, uint64_t words[SCI_PACK
 **   SCI_NO_MEMORY */
 sci_status sci_machine_open(sci_machine *machine, uint8_t nodes, uint8_t lines, uint8_t slots, uint32_t limit);
 
-/* Lets the machine go, and leaves the object empty. An empty object stays as it is.
+/* Lets the machine go, and leaves the object empty: all zero. An empty object stays empty.
 **
 **   SCI_OK
 **   SCI_MISUSE      The object keeps something else. */
@@ -271,6 +405,75 @@ sci_status sci_machine_close(sci_machine *machine);
 **   SCI_NO_MEMORY   Only for SCI_ASK and SCI_REPLY. The event is enabled.
 **   SCI_MISUSE      The object keeps no machine. */
 sci_status sci_machine_step(sci_machine *machine, const sci_event *event);
+
+/* Applies an event as sci_machine_step does, and gives the packet that it sent or took, and the entry that it logged
+** (Machine::apply). The statuses are those of sci_machine_step. */
+sci_status sci_machine_step_seen(sci_machine *machine, const sci_event *event, sci_seen *seen);
+
+/* Gives why an event is not enabled: a number of enum sci_obstacle (Machine::obstacle_to).
+**
+**   SCI_OK          obstacle is SCI_NO_OBSTACLE exactly if the event is enabled.
+**   SCI_RANGE       There is no such event: kind, act or ask is outside its table.
+**   SCI_MISUSE      The object keeps no machine. */
+sci_status sci_machine_obstacle(const sci_machine *machine, const sci_event *event, uint32_t *obstacle);
+
+/* Puts a copy of the machine into an empty object (Machine::try_clone).
+**
+**   SCI_OK          copy keeps it, until sci_machine_close. The two share nothing.
+**   SCI_MISUSE      machine keeps no machine, or copy isn't empty.
+**   SCI_NO_MEMORY */
+sci_status sci_machine_clone(const sci_machine *machine, sci_machine *copy);
+
+/* Reads what the cache of a node has of a line (Node::held).
+**
+**   SCI_OK
+**   SCI_RANGE       The machine has no such node or line.
+**   SCI_MISUSE      The object keeps no machine. */
+sci_status sci_machine_held(const sci_machine *machine, uint8_t node, uint8_t line, sci_held *held);
+
+/* Reads what the home of a line knows, if it is at this node (Node::home). The home of line l is at node l modulo the number of
+** nodes.
+**
+**   SCI_OK
+**   SCI_RANGE       The machine has no such node or line.
+**   SCI_NOT_ENABLED The home is at another node.
+**   SCI_MISUSE      The object keeps no machine. */
+sci_status sci_machine_home(const sci_machine *machine, uint8_t node, uint8_t line, sci_home *home);
+
+/* Gives the operation that is pending on a line at a node, and its serial, as sci_node_pending does (Node::pending).
+**
+**   SCI_OK
+**   SCI_RANGE       The machine has no such node.
+**   SCI_NOT_ENABLED None is pending there.
+**   SCI_MISUSE      The object keeps no machine. */
+sci_status sci_machine_pending(const sci_machine *machine, uint8_t node, uint8_t line, sci_op *op, uint32_t *serial);
+
+/* Reads the answer that waits at a node to be sent (Node::waiting).
+**
+**   SCI_OK
+**   SCI_RANGE       The machine has no such node.
+**   SCI_NOT_ENABLED No answer waits.
+**   SCI_MISUSE      The object keeps no machine. */
+sci_status sci_machine_answer(const sci_machine *machine, uint8_t node, sci_packet *packet);
+
+/* Reads the packet at a place of a lane from a node to a node. The oldest is at place 0. lane is SCI_REQUESTS or SCI_ANSWERS
+** (Machine::lane).
+**
+**   SCI_OK
+**   SCI_RANGE       There is no such lane.
+**   SCI_NOT_ENABLED The lane has no more packets.
+**   SCI_MISUSE      The object keeps no machine. */
+sci_status sci_machine_packet(const sci_machine *machine, uint32_t lane, uint8_t from, uint8_t to, size_t place, sci_packet *packet);
+
+/* Writes the sharing list of a line over the first bytes, and how many nodes it has: from the home's head along the links of its
+** members, each node once (Machine::sharing_list). SCI_MAX_NODES bytes are enough.
+**
+**   SCI_OK          nodes and used are written.
+**   SCI_RANGE       The machine has no such line.
+**   SCI_FULL        The list is longer than room. used says how long; nodes is as it was.
+**   SCI_NO_MEMORY
+**   SCI_MISUSE      The object keeps no machine. */
+sci_status sci_machine_sharing(const sci_machine *machine, uint8_t line, uint8_t *nodes, size_t room, size_t *used);
 
 /* Brings the machine to rest: every pending operation is performed, no cache has an entry, and each line's home has it
 ** alone. events is the number of events that it took (Machine::settle).
@@ -308,7 +511,12 @@ sci_status sci_machine_logs(const sci_machine *machine, sci_logs *logs);
 ** most once: a request by sci_node_serve or sci_node_refuse, an answer by sci_node_accept. Packets may come in any order. Nothing
 ** goes on about a line of a node whose packet is never given. A call that answers another status than SCI_OK has not taken the
 ** packet. At most min(lines, slots) answers are under way to a node, and nodes * min(lines, slots) packets in all. After
-** sci_node_open no call takes memory. */
+** sci_node_open no call takes memory.
+**
+** What a node does next, and which requests it keeps for later, is its policy's to say: sci_node_next and sci_node_decide. A policy
+** of one's own may do other events, and the logs are lawful with any. But one that serves each request at once can go on for ever
+** without an operation, in lock step with fixed delays for one: a node claims a line, another's cread comes while it waits, the
+** claim is answered wbno, and the node claims again. */
 
 /* Puts the controller of node me in a machine of this size into an empty object. Its processor may issue limit operations
 ** (sci_core::Node::new).
@@ -319,7 +527,7 @@ sci_status sci_machine_logs(const sci_machine *machine, sci_logs *logs);
 **   SCI_NO_MEMORY */
 sci_status sci_node_open(sci_node *node, uint8_t me, uint8_t nodes, uint8_t lines, uint8_t slots, uint32_t limit);
 
-/* Lets the node go, and leaves the object empty. An empty object stays as it is.
+/* Lets the node go, and leaves the object empty: all zero. An empty object stays empty.
 **
 **   SCI_OK
 **   SCI_MISUSE      The object keeps something else. */
@@ -357,14 +565,15 @@ sci_status sci_node_ask(sci_node *node, uint8_t line, uint8_t ask, uint8_t packe
 **   SCI_MISUSE      The object keeps no node. */
 sci_status sci_node_take_answer(sci_node *node, uint8_t packet[SCI_PACKET_BYTES], size_t *used);
 
-/* Serves the request that the bytes begin with: its answer waits then (sci_packets::decode and Node::serve).
+/* Serves the request that the bytes begin with: its answer waits then (sci_packets::decode and Node::serve). The policy notes who
+** sent it (Policy::served).
 **
 **   SCI_OK
-**   SCI_NOT_ENABLED An answer waits already.
-**   SCI_RANGE       It is no request, not for this node, about a line that the machine hasn't, or for the home of a line that is
-**                   at another node.
 **   SCI_SHORT, SCI_UNKNOWN_COMMAND, SCI_BAD_OFFSET, SCI_BAD_IDENTIFIER
 **                   The bytes begin with no packet.
+**   SCI_RANGE       It is no request, not for this node, about a line that the machine hasn't, or for the home of a line that is
+**                   at another node; or the machine has no node of the number of its source or of its identifier.
+**   SCI_NOT_ENABLED An answer waits already.
 **   SCI_MISUSE      The object keeps no node. */
 sci_status sci_node_serve(sci_node *node, const uint8_t *packet, size_t length);
 
@@ -375,12 +584,61 @@ sci_status sci_node_refuse(sci_node *node, const uint8_t *packet, size_t length)
 /* Accepts the answer that the bytes begin with (Node::accept).
 **
 **   SCI_OK
-**   SCI_NOT_ENABLED The node doesn't await it.
-**   SCI_RANGE       It is not for this node, or about a line that the machine hasn't.
 **   SCI_SHORT, SCI_UNKNOWN_COMMAND, SCI_BAD_OFFSET, SCI_BAD_IDENTIFIER
 **                   The bytes begin with no packet.
+**   SCI_RANGE       It is not for this node, or about a line that the machine hasn't; or the machine has no node of the number of
+**                   its source or of its identifier.
+**   SCI_NOT_ENABLED The node doesn't await it, or asked another node. A line that is Rolling or Fading doesn't know whom it asked.
 **   SCI_MISUSE      The object keeps no node. */
 sci_status sci_node_accept(sci_node *node, const uint8_t *packet, size_t length);
+
+/* Counts a turn of the node. A turn is what a node does at one time: it sends the answer that waits, accepts the answers that have
+** come, looks at the requests that have come, and does what it wants. In one turn of 64 sci_node_decide keeps fewer requests
+** (Policy::begin_turn).
+**
+**   SCI_OK
+**   SCI_MISUSE      The object keeps no node. */
+sci_status sci_node_begin_turn(sci_node *node);
+
+/* Gives what the node does next. It is enabled: the call that it names answers SCI_OK (Policy::next). The node stays as it is; the
+** policy counts that it was asked, and remembers a purge that it wants.
+**
+**   SCI_OK
+**   SCI_MISUSE      The object keeps no node. */
+sci_status sci_node_next(sci_node *node, sci_want *want);
+
+/* Gives what the node does with the request that the bytes begin with: a number of enum sci_decision (Policy::decide). A setback
+** is always served. The statuses are those of sci_node_serve, but for SCI_NOT_ENABLED. */
+sci_status sci_node_decide(const sci_node *node, const uint8_t *packet, size_t length, uint32_t *decision);
+
+/* Gives the node whose requests are looked at first in a turn: the one after the sender that was served or refused last
+** (Policy::first_sender).
+**
+**   SCI_OK
+**   SCI_MISUSE      The object keeps no node. */
+sci_status sci_node_first_sender(const sci_node *node, uint8_t *from);
+
+/* Reads what the node's cache has of a line (Node::held).
+**
+**   SCI_OK
+**   SCI_RANGE       The machine has no such line.
+**   SCI_MISUSE      The object keeps no node. */
+sci_status sci_node_held(const sci_node *node, uint8_t line, sci_held *held);
+
+/* Reads what the home of a line knows, if it is at this node (Node::home).
+**
+**   SCI_OK
+**   SCI_RANGE       The machine has no such line.
+**   SCI_NOT_ENABLED The home is at another node.
+**   SCI_MISUSE      The object keeps no node. */
+sci_status sci_node_home_state(const sci_node *node, uint8_t line, sci_home *home);
+
+/* Reads the answer that waits, and leaves it there (Node::waiting).
+**
+**   SCI_OK
+**   SCI_NOT_ENABLED No answer waits.
+**   SCI_MISUSE      The object keeps no node. */
+sci_status sci_node_answer(const sci_node *node, sci_packet *packet);
 
 /* Gives the operation that is pending on a line, and its serial. An operand that its act doesn't have is 0 (Node::pending).
 **
@@ -415,7 +673,7 @@ sci_status sci_node_is_at_rest(const sci_node *node, uint32_t *at_rest);
 **   SCI_NO_MEMORY */
 sci_status sci_logs_open(sci_logs *logs, uint8_t nodes, uint8_t lines);
 
-/* Lets the logs go, and leaves the object empty. An empty object stays as it is.
+/* Lets the logs go, and leaves the object empty: all zero. An empty object stays empty.
 **
 **   SCI_OK
 **   SCI_MISUSE      The object keeps something else. */
@@ -424,7 +682,8 @@ sci_status sci_logs_close(sci_logs *logs);
 /* Ends the log of the entry's node with the entry (Logs::push).
 **
 **   SCI_OK
-**   SCI_RANGE       The logs have no such node or line, the word is above 7, or act or has_word is outside its table.
+**   SCI_RANGE       The logs have no such node or line, the word is above 7, act is outside its table, or has_word is not 0 for
+**                   a store and 1 for any other operation.
 **   SCI_FULL        The entry is in range, and the node's log has 65,536 entries.
 **   SCI_NO_MEMORY
 **   SCI_MISUSE      The object keeps no logs. */
@@ -478,6 +737,13 @@ sci_status sci_logs_audit(const sci_logs *logs, sci_verdict *verdict);
 **   SCI_NO_MEMORY
 **   SCI_MISUSE      The object keeps no logs. */
 sci_status sci_logs_order(const sci_logs *logs, uint32_t *kind, sci_entry *entries, size_t room, size_t *used);
+
+/* Gives the kind alone that sci_logs_order would find, which needs no room (sci_history::sequential_order).
+**
+**   SCI_OK
+**   SCI_NO_MEMORY
+**   SCI_MISUSE      The object keeps no logs. */
+sci_status sci_logs_order_kind(const sci_logs *logs, uint32_t *kind);
 
 /* Puts the logs whose text the bytes are into an empty object (sci_text::logs_of).
 **

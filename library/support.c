@@ -51,3 +51,53 @@ const char *sci_status_text(sci_status status) {
     };
     return status < sizeof texts / sizeof texts[0] ? texts[status] : "no such status";
 }
+
+/* The name at a place of a table, or "?". */
+#define NAME(table, place) ((place) < sizeof(table) / sizeof(table)[0] ? (table)[place] : "?")
+
+const char *sci_status_name(sci_status status) {
+    static const char *const names[] = {
+        "SCI_OK",    "SCI_NO_MEMORY", "SCI_NOT_ENABLED",     "SCI_RANGE",      "SCI_MISUSE",         "SCI_FULL",
+        "SCI_SHORT", "SCI_UNKNOWN_COMMAND", "SCI_BAD_OFFSET", "SCI_BAD_IDENTIFIER", "SCI_TEXT",
+    };
+    return NAME(names, status);
+}
+
+const char *sci_command_name(uint32_t command) {
+    static const char *const requests[] = {
+        "mread", "cread", "purge", "roll", "wback", "setback", "fread", "claim", "clear",
+    };
+    static const char *const answers[] = {
+        "mdata", "mgone", "cdata", "purged", "rolled", "wbok", "wbno", "told", "busy", "fdata",
+    };
+    return command > SCI_CMD_CLEAR ? NAME(answers, command - SCI_CMD_MDATA) : NAME(requests, command - SCI_CMD_MREAD);
+}
+
+const char *sci_state_name(uint32_t state) {
+    static const char *const names[] = {
+        "Out",      "Asking",   "Joining",   "FreshJoining", "Head",    "FreshHead", "Below",
+        "Purging",  "Claiming", "Clearing",  "Returning",    "Rolling", "Telling",   "Fading",
+    };
+    return NAME(names, state);
+}
+
+const char *sci_home_state_name(uint32_t state) {
+    static const char *const names[] = { "HOME", "FRESH", "GONE" };
+    return NAME(names, state);
+}
+
+const char *sci_obstacle_name(uint32_t obstacle) {
+    static const char *const names[] = {
+        "enabled",         "no-such-node",  "no-such-sender", "no-such-line",      "no-such-word",
+        "already-pending", "no-issue-left", "nothing-pending", "not-allowed",      "not-asked",
+        "no-slot",         "nothing-under-way", "answer-waits", "setback-comes",   "no-answer-waits",
+    };
+    return NAME(names, obstacle);
+}
+
+const char *sci_verdict_name(uint32_t kind) {
+    static const char *const names[] = {
+        "lawful", "version-twice", "version-missing", "wrong-reply", "out-of-order", "last-differs",
+    };
+    return NAME(names, kind);
+}

@@ -16,6 +16,9 @@ LOAD, STORE, MASK_SWAP, COMPARE_SWAP, FETCH_ADD, BOUNDED_ADD, WRAP_ADD = range(7
 ISSUE, PERFORM, ASK, SERVE, REFUSE, REPLY, ACCEPT = range(7)
 MREAD, FREAD, CREAD, CLAIM, CLEAR, PURGE, ROLL, WBACK, SETBACK = range(9)
 ORDER, CYCLE, UNLAWFUL = range(3)
+KEEP, TO_REFUSE, TO_SERVE = range(3)
+WANT_NOTHING, WANT_PERFORM, WANT_ASK = range(3)
+REQUESTS, ANSWERS = range(2)
 LAWFUL, VERSION_TWICE, VERSION_MISSING, WRONG_REPLY, OUT_OF_ORDER, LAST_DIFFERS = range(6)
 PACKET_BYTES, PACKET_WORDS, MAX_NODES = 88, 11, 16
 
@@ -97,6 +100,31 @@ class Entry(Struct):
                 ("version", c_uint64)]
 
 
+class Held(Struct):
+    """What a node's cache has of a line."""
+
+    _fields_ = [("state", c_uint8), ("waits", c_uint8), ("has_contents", c_uint8), ("reserved", c_uint8), ("forward", c_uint16),
+                ("backward", c_uint16), ("contents", Stamped)]
+
+
+class Home(Struct):
+    """What the home of a line knows."""
+
+    _fields_ = [("state", c_uint8), ("has_contents", c_uint8), ("head", c_uint16), ("reserved", c_uint32), ("contents", Stamped)]
+
+
+class Seen(Struct):
+    """What a step did."""
+
+    _fields_ = [("has_packet", c_uint32), ("has_entry", c_uint32), ("packet", Packet), ("entry", Entry)]
+
+
+class Want(Struct):
+    """What a node does next."""
+
+    _fields_ = [("kind", c_uint8), ("line", c_uint8), ("ask", c_uint8), ("reserved", c_uint8)]
+
+
 class Verdict(Struct):
     """What an audit finds. It is true if the logs are lawful."""
 
@@ -129,6 +157,15 @@ SIGNATURES = {
     "machine_open": (OBJECT, c_uint8, c_uint8, c_uint8, c_uint32),
     "machine_close": (OBJECT,),
     "machine_step": (OBJECT, POINTER(Event)),
+    "machine_step_seen": (OBJECT, POINTER(Event), POINTER(Seen)),
+    "machine_obstacle": (OBJECT, POINTER(Event), POINTER(c_uint32)),
+    "machine_clone": (OBJECT, OBJECT),
+    "machine_held": (OBJECT, c_uint8, c_uint8, POINTER(Held)),
+    "machine_home": (OBJECT, c_uint8, c_uint8, POINTER(Home)),
+    "machine_pending": (OBJECT, c_uint8, c_uint8, POINTER(Op), POINTER(c_uint32)),
+    "machine_answer": (OBJECT, c_uint8, POINTER(Packet)),
+    "machine_packet": (OBJECT, c_uint32, c_uint8, c_uint8, c_size_t, POINTER(Packet)),
+    "machine_sharing": (OBJECT, c_uint8, POINTER(c_uint8), c_size_t, SIZE),
     "machine_settle": (OBJECT, POINTER(c_uint32)),
     "machine_last": (OBJECT, c_uint8, POINTER(Stamped)),
     "machine_authority": (OBJECT, c_uint8, POINTER(c_uint8)),
@@ -142,6 +179,13 @@ SIGNATURES = {
     "node_serve": (OBJECT, BYTES, c_size_t),
     "node_refuse": (OBJECT, BYTES, c_size_t),
     "node_accept": (OBJECT, BYTES, c_size_t),
+    "node_begin_turn": (OBJECT,),
+    "node_next": (OBJECT, POINTER(Want)),
+    "node_decide": (OBJECT, BYTES, c_size_t, POINTER(c_uint32)),
+    "node_first_sender": (OBJECT, POINTER(c_uint8)),
+    "node_held": (OBJECT, c_uint8, POINTER(Held)),
+    "node_home_state": (OBJECT, c_uint8, POINTER(Home)),
+    "node_answer": (OBJECT, POINTER(Packet)),
     "node_pending": (OBJECT, c_uint8, POINTER(Op), POINTER(c_uint32)),
     "node_home": (OBJECT, c_uint8, POINTER(Stamped)),
     "node_is_at_rest": (OBJECT, POINTER(c_uint32)),
@@ -155,9 +199,13 @@ SIGNATURES = {
     "logs_entry": (OBJECT, c_uint8, c_size_t, POINTER(Entry)),
     "logs_audit": (OBJECT, POINTER(Verdict)),
     "logs_order": (OBJECT, POINTER(c_uint32), POINTER(Entry), c_size_t, SIZE),
+    "logs_order_kind": (OBJECT, POINTER(c_uint32)),
     "logs_read": (OBJECT, BYTES, c_size_t, POINTER(TextFault)),
     "logs_write": (OBJECT, POINTER(c_uint8), c_size_t, SIZE),
 }
+
+
+NAMES = ("status", "command", "state", "home_state", "obstacle", "verdict")
 
 
 def library():
@@ -167,12 +215,17 @@ def library():
         function = getattr(found, f"sci_{name}")
         function.argtypes, function.restype = arguments, c_uint32
     found.sci_status_text.argtypes, found.sci_status_text.restype = (c_uint32,), BYTES
-    found.sci_layout.restype = None
-    sizes = (c_uint64 * 8)()
+    for name in NAMES:
+        function = getattr(found, f"sci_{name}_name")
+        function.argtypes, function.restype = (c_uint32,), BYTES
+    found.sci_layout.restype = found.sci_layout_more.restype = None
+    sizes, more = (c_uint64 * 8)(), (c_uint64 * 4)()
     found.sci_layout(sizes)
-    here = [ctypes.sizeof(struct) for struct in (Op, Event, Packet, Stamped, Entry, Verdict, TextFault, Object)]
-    if list(sizes) != here:
-        raise ImportError(f"the library has structs of {list(sizes)} bytes, and this module of {here}")
+    found.sci_layout_more(more)
+    structs = (Op, Event, Packet, Stamped, Entry, Verdict, TextFault, Object, Held, Home, Seen, Want)
+    here = [ctypes.sizeof(struct) for struct in structs]
+    if [*sizes, *more] != here:
+        raise ImportError(f"the library has structs of {[*sizes, *more]} bytes, and this module of {here}")
     return found
 
 
@@ -191,6 +244,11 @@ def call(name, *arguments):
         raise MemoryError(f"sci_{name}")
     if status:
         raise ERRORS.get(status, Error)(f"sci_{name}: {LIBRARY.sci_status_text(status).decode()}")
+
+
+def name(what, number):
+    """The name of the number of a status, command, state, home_state, obstacle or verdict."""
+    return getattr(LIBRARY, f"sci_{what}_name")(number).decode()
 
 
 def decoded(data):
@@ -316,6 +374,12 @@ class Logs(Owner):
         self._call("order", byref(kind), entries, len(entries), byref(used))
         return kind.value, entries[: used.value]
 
+    def order_kind(self):
+        """What a look for one order finds: ORDER, CYCLE or UNLAWFUL."""
+        kind = c_uint32()
+        self._call("order_kind", byref(kind))
+        return kind.value
+
 
 class Machine(Owner):
     """A machine: all nodes, and the packets between them."""
@@ -336,6 +400,66 @@ class Machine(Owner):
         if status not in (0, 2):
             raise ERRORS.get(status, MemoryError)("sci_machine_step")
         return status == 0
+
+    def step_seen(self, event):
+        """Applies an event, and gives what it did."""
+        seen = Seen()
+        self._call("step_seen", event, seen)
+        return seen
+
+    def obstacle(self, event):
+        """The number of what stands in the way of an event, or 0."""
+        obstacle = c_uint32()
+        self._call("obstacle", event, byref(obstacle))
+        return obstacle.value
+
+    def clone(self):
+        """A copy of the machine."""
+        copy = Machine.__new__(Machine)
+        Owner.__init__(copy)
+        self._call("clone", copy.object)
+        return copy
+
+    def held(self, node, line):
+        """What the cache of a node has of a line."""
+        held = Held()
+        self._call("held", node, line, held)
+        return held
+
+    def home(self, node, line):
+        """What the home of a line at a node knows, or None if it is at another node."""
+        home = Home()
+        try:
+            self._call("home", node, line, home)
+        except NotEnabled:
+            return None
+        return home
+
+    def pending(self, node, line):
+        """The operation that is pending on a line at a node and its serial, or None."""
+        op, serial = Op(), c_uint32()
+        try:
+            self._call("pending", node, line, op, byref(serial))
+        except NotEnabled:
+            return None
+        return op, serial.value
+
+    def packets(self, lane, source, target):
+        """The packets of a lane, oldest first."""
+        found = []
+        while True:
+            packet = Packet()
+            try:
+                self._call("packet", lane, source, target, len(found), packet)
+            except NotEnabled:
+                return found
+            found.append(packet)
+
+    def sharing(self, line):
+        """The sharing list of a line."""
+        nodes, used = (c_uint8 * MAX_NODES)(), c_size_t()
+        self._call("sharing", line, nodes, MAX_NODES, byref(used))
+        return nodes[: used.value]
 
     def settle(self):
         """Brings the machine to rest, and says by how many events."""
@@ -410,6 +534,37 @@ class Node(Owner):
     def accept(self, packet):
         """Accepts an answer."""
         self._call("accept", packet, len(packet))
+
+    def begin_turn(self):
+        """Counts a turn."""
+        self._call("begin_turn")
+
+    def next(self):
+        """What the node does next."""
+        want = Want()
+        self._call("next", want)
+        return want
+
+    def decide(self, packet):
+        """What the node does with a request: KEEP, TO_REFUSE or TO_SERVE."""
+        decision = c_uint32()
+        self._call("decide", packet, len(packet), byref(decision))
+        return decision.value
+
+    def held(self, line):
+        """What the cache has of a line."""
+        held = Held()
+        self._call("held", line, held)
+        return held
+
+    def home_state(self, line):
+        """What the home of a line knows, or None if it is at another node."""
+        home = Home()
+        try:
+            self._call("home_state", line, home)
+        except NotEnabled:
+            return None
+        return home
 
     def pending(self, line):
         """The operation that is pending on a line and its serial, or None."""

@@ -50,6 +50,27 @@ AT(sci_verdict, serial, 16);
 SIZE(sci_text_fault, 16);
 AT(sci_text_fault, line, 0);
 AT(sci_text_fault, kind, 8);
+SIZE(sci_held, 80);
+AT(sci_held, state, 0);
+AT(sci_held, waits, 1);
+AT(sci_held, has_contents, 2);
+AT(sci_held, forward, 4);
+AT(sci_held, backward, 6);
+AT(sci_held, contents, 8);
+SIZE(sci_home, 80);
+AT(sci_home, state, 0);
+AT(sci_home, has_contents, 1);
+AT(sci_home, head, 2);
+AT(sci_home, contents, 8);
+SIZE(sci_seen, 152);
+AT(sci_seen, has_packet, 0);
+AT(sci_seen, has_entry, 4);
+AT(sci_seen, packet, 8);
+AT(sci_seen, entry, 104);
+SIZE(sci_want, 4);
+AT(sci_want, kind, 0);
+AT(sci_want, line, 1);
+AT(sci_want, ask, 2);
 SIZE(sci_machine, 16);
 AT(sci_machine, at, 0);
 AT(sci_machine, live, 8);
@@ -57,13 +78,14 @@ SIZE(sci_node, 16);
 SIZE(sci_logs, 16);
 
 int main(void) {
-    const uint64_t here[8] = {
-        sizeof(sci_op),    sizeof(sci_event),   sizeof(sci_packet),     sizeof(sci_stamped),
-        sizeof(sci_entry), sizeof(sci_verdict), sizeof(sci_text_fault), sizeof(sci_machine),
+    const uint64_t here[12] = {
+        sizeof(sci_op),         sizeof(sci_event),   sizeof(sci_packet), sizeof(sci_stamped), sizeof(sci_entry), sizeof(sci_verdict),
+        sizeof(sci_text_fault), sizeof(sci_machine), sizeof(sci_held),   sizeof(sci_home),    sizeof(sci_seen),  sizeof(sci_want),
     };
-    uint64_t there[8] = { 0, 0, 0, 0, 0, 0, 0, 0 };
+    uint64_t there[12] = { 0, 0, 0, 0, 0, 0, 0, 0, 0, 0, 0, 0 };
     sci_layout(there);
-    for (int i = 0; i < 8; i++) {
+    sci_layout_more(there + 8);
+    for (int i = 0; i < 12; i++) {
         if (here[i] != there[i]) {
             printf("struct %d has %llu bytes here and %llu there\n", i, (unsigned long long)here[i], (unsigned long long)there[i]);
             return 1;

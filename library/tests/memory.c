@@ -44,12 +44,12 @@ static const sci_op store = { SCI_STORE, 0, 3, 0, 0, 42 };
 /* One run, in which the allocation of that number is refused. Says whether there was one. */
 static int run(long refused) {
     const uint8_t kinds[] = { SCI_ISSUE, SCI_ASK, SCI_SERVE, SCI_REPLY, SCI_ACCEPT, SCI_PERFORM };
-    sci_machine machine = SCI_INIT;
+    sci_machine machine = SCI_INIT, copy = SCI_INIT;
     sci_logs logs = SCI_INIT, read = SCI_INIT;
     sci_verdict verdict = { 9, 9, 9, 9, 9 };
     sci_text_fault fault = { 0, 0, 0 };
     sci_entry entries[4];
-    uint8_t text[4096];
+    uint8_t text[4096], list[SCI_MAX_NODES];
     uint32_t kind = 9;
     size_t used = 0;
     uint32_t events = 0;
@@ -81,10 +81,13 @@ static int run(long refused) {
         const sci_event event = { kinds[i], node, (uint8_t)(1 - node), 0, SCI_MREAD, store };
         MAKE(sci_machine_step(&machine, &event), machine);
     }
+    MAKE(sci_machine_clone(&machine, &copy), copy);
+    MAKE(sci_machine_sharing(&machine, 0, list, sizeof list, &used), machine);
     MAKE(sci_machine_settle(&machine, &events), machine);
     MAKE(sci_machine_logs(&machine, &logs), logs);
     MAKE(sci_logs_audit(&logs, &verdict), logs);
     MAKE(sci_logs_order(&logs, &kind, entries, 4, &used), logs);
+    MAKE(sci_logs_order_kind(&logs, &kind), logs);
     MAKE(sci_logs_write(&logs, text, sizeof text, &used), logs);
     MAKE(sci_logs_read(&read, text, used, &fault), read);
     for (uint32_t serial = 1; serial < 20; serial++) {
@@ -95,7 +98,7 @@ static int run(long refused) {
     if (verdict.kind != SCI_LAWFUL || kind != SCI_ORDER || events == 0) {
         exit(5);
     }
-    if (sci_machine_close(&machine) || sci_logs_close(&logs) || sci_logs_close(&read) || live != 0) {
+    if (sci_machine_close(&machine) || sci_machine_close(&copy) || sci_logs_close(&logs) || sci_logs_close(&read) || live != 0) {
         printf("%ld blocks are left\n", live);
         exit(6);
     }

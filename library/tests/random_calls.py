@@ -157,6 +157,7 @@ def machine_run(tally, draw, calls):
             tally.same("the order of a log", ordered(text), shown(tally, text))
         kind, order = logs.order()
         tally.same("an order", (kind, sorted(order, key=sci.Entry.values)), (sci.ORDER, sorted(entries, key=sci.Entry.values)))
+        tally.same("the kind of order", logs.order_kind(), kind)
         for node in range(size[0]):
             tally.same("the order of a node", [it for it in order if it.node == node], list(logs.of(node)))
         for _ in range(8):
@@ -206,13 +207,29 @@ def wired_run(tally, draw, calls):
     with sci.Machine(*size, 65536) as machine:
         for _ in range(calls // 2):
             event = random_event(draw, *size[:2])
+            before = len(wires.sent)
             try:
                 wires.make(event)
                 made = True
             except sci.NotEnabled:
                 made = False
-            differ += made != machine.try_step(event)
-    tally.same("events that are enabled", differ, 0)
+            differ += made != (machine.obstacle(event) == 0)
+            if made:
+                seen = machine.step_seen(event)
+                sent = [sci.decoded(packet)[0] for packet in wires.sent[before:]]
+                differ += bool(sent) and [seen.packet] != sent
+                differ += seen.has_entry != (event.kind == sci.PERFORM)
+            else:
+                differ += machine.try_step(event)
+        for node, line in ((node, line) for node in range(size[0]) for line in range(size[1])):
+            here = wires.nodes[node]
+            differ += here.held(line) != machine.held(node, line) or here.home_state(line) != machine.home(node, line)
+            differ += here.pending(line) != machine.pending(node, line)
+        for (kind, source, target), lane in wires.lanes.items():
+            differ += machine.packets(kind, source, target) != [sci.decoded(packet)[0] for packet in lane]
+        copy = machine.clone()
+        tally.same("a copy", copy.logs().write(), machine.logs().write())
+    tally.same("events that are enabled, and what they do", differ, 0)
     data = b"".join(wires.sent)
     tally.same("packets", tally.ran("decode", data).count(b"\n"), len(wires.sent))
     again = b"".join(sci.encoded(sci.decoded(packet)[0]) for packet in wires.sent)

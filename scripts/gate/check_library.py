@@ -4,6 +4,8 @@
 - the header compiles by itself as C11 and as C++17, without a warning;
 - the header declares the functions that the library has, no more and no less (nm), and each has the parameters of its export in
   crates/sci_c; the numbers of statuses and the fields of structs are those of crates/sci_c_values;
+- the numbers of states, obstacles, commands and kinds of requests are those of the crates, and so are their names in
+  library/support.c;
 - the tests of library/tests run, with each allocation refused in turn, and under valgrind;
 - the examples of examples/c write what stands in library/tests/examples.txt;
 - random calls from Python do what the text programs do.
@@ -26,7 +28,7 @@ CALLS = "200000"
 C = ["-std=c11", "-Wall", "-Wextra", "-Wpedantic", "-Werror", "-O2"]
 CXX = ["-std=c++17", "-Wall", "-Wextra", "-Wpedantic", "-Werror", "-O2"]
 # What stands in the header and not in the crates.
-HELPERS = {"sci_status_text"}
+HELPERS = {"sci_status_text", *(f"sci_{it}_name" for it in ("status", "command", "state", "home_state", "obstacle", "verdict"))}
 # The types of C that a type of Rattle is.
 TYPES = {"u8": "uint8_t", "u16": "uint16_t", "u32": "uint32_t", "u64": "uint64_t", "usize": "size_t"}
 
@@ -158,6 +160,51 @@ def check_structs(tally):
     tally.count("statuses", wrong)
 
 
+def numbers(crate, variant, number=r"(\w+)"):
+    """The numbers that a match of a crate gives the variants of an enum, by the names that they have in the header."""
+    found = re.findall(rf"{variant}::(\w+)(?:\(_\)| \{{ \.\. \}})?\)? => {number},", rattle(crate))
+    return {re.sub(r"(?<!^)([A-Z])", r"_\1", name).upper(): int(value, 0) for name, value in found if value[0].isdigit()}
+
+
+def texts(crate, variant):
+    """The texts that a match of a crate gives the variants of an enum."""
+    found = re.findall(rf'{variant}::(\w+)(?:\(_\)| \{{ \.\. \}})? => "([^"]+)",', rattle(crate))
+    return {re.sub(r"(?<!^)([A-Z])", r"_\1", name).upper(): text for name, text in found}
+
+
+def enum(name):
+    """The numbers of an enum of the header."""
+    body = re.search(rf"enum {name} \{{(.*?)\}};", header(), re.DOTALL)[1]
+    return {it: int(number, 0) for it, number in re.findall(r"SCI_(\w+) = (\w+)", body)}
+
+
+def table(function):
+    """The names that a function of support.c has, in their order."""
+    body = re.search(rf"const char \*{function}\(.*?\n\}}", read(f"{TOP}/library/support.c"), re.DOTALL)[0]
+    return [it for it in re.findall(r'"([^"]*)"', body) if it != "?"]
+
+
+def check_names(tally):
+    """The numbers of enums, and the names that belong to them."""
+    commands = re.findall(r"(0x\w+) => Some\(Command::(\w+)\)", rattle("sci_packets"))
+    commands = {f"CMD_{name.upper()}": int(number, 0) for number, name in commands}
+    by_number = {
+        "state": (numbers("sci_c_values", "Held"), texts("sci_cache", "Held")),
+        "home_state": (numbers("sci_c_values", "HomeState"), texts("sci_home", "HomeState")),
+        "obstacle": ({"NO_OBSTACLE": 0, **numbers("sci_c_values", "Obstacle")}, {"NO_OBSTACLE": "enabled", **texts("sci_core", "Obstacle")}),
+        "command": (commands, {f"CMD_{name}": text for name, text in texts("sci_packets", "Command").items()}),
+    }
+    for what, (of_crate, names) in by_number.items():
+        tally.count(f"numbers of {what}", enum(f"sci_{what}") != of_crate and f"{of_crate} in the crate")
+        wanted = [names[it] for it in sorted(of_crate, key=of_crate.get)]
+        tally.count(f"names of {what}", table(f"sci_{what}_name") != wanted and f"{wanted} in the crate")
+    tally.count("kinds of requests", enum("sci_ask_kind") != numbers("sci_c_values", "AskKind") and "others in the crate")
+    statuses = sorted(enum("sci_status_number").items(), key=lambda it: it[1])
+    tally.count("names of status", table("sci_status_name") != [f"SCI_{name}" for name, _ in statuses] and "others in the header")
+    verdicts = ["lawful", *re.findall(r'"fault \d ([a-z-]+)"', rattle("sci_command"))]
+    tally.count("names of verdict", table("sci_verdict_name") != verdicts and f"{verdicts} in the crate")
+
+
 def check_symbols(tally):
     if not shutil.which("nm"):
         print("nm is missing: the symbols of the library are left out")
@@ -227,6 +274,7 @@ def main():
         return 1
     check_signatures(tally)
     check_structs(tally)
+    check_names(tally)
     check_symbols(tally)
     with tempfile.TemporaryDirectory(prefix="library-") as room:
         check_programs(tally, cc, room)

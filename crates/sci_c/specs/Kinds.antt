@@ -1,16 +1,16 @@
 -- What an object keeps.
 use Rattle.std.specs.Prelude.{◌≡◌, Option, Some, None}
 use Rattle.sci_core.specs.{Core.{Core}, Node.{NodeOf}}
-use Rattle.sci_c.specs.{Journal.{JournalOf}, declared.thing.Thing.{Thing}}
+use Rattle.sci_c.specs.{Journal.{JournalOf}, declared.{controller.Controller.{Controller}, thing.Thing.{Thing}}}
 use Rattle.sci_c.specs.declared.thing.Thing.TheVariants.{Machine, Node, Logs}
 
--- the machine, the node or the logs, if that is what it keeps
+-- the machine, the node with its policy or the logs, if that is what it keeps
 abbrev pub machine_in : Option Thing → Option Core
 machine_in (Some (Machine machine)) = Some machine
 machine_in _ = None
 
-abbrev pub node_in : Option Thing → Option NodeOf
-node_in (Some (Node node)) = Some node
+abbrev pub node_in : Option Thing → Option Controller
+node_in (Some (Node controller)) = Some controller
 node_in _ = None
 
 abbrev pub logs_in : Option Thing → Option JournalOf
@@ -30,3 +30,8 @@ pub record Goes {A : Type 0} (kind : Option Thing → Option A) (old new : Optio
   pub was : kind old ≡ Some before
   pub is_now : kind new ≡ Some after
   pub goes : leads before after
+
+-- this leads from a node to the other, and the policy stays
+pub record OnNode (leads : NodeOf → NodeOf → Type 0) (before after : Controller) : Type 0 where
+  pub node : leads before.node after.node
+  pub policy : after.policy ≡ before.policy

@@ -1,14 +1,19 @@
 -- What the C interface says.
+pub mod Asked
 pub mod Calls
+pub mod Cloning
 pub mod Closing
+pub mod Deciding
 pub mod Journal
 pub mod Kinds
 pub mod Lending
 pub mod Logs
+pub mod Looking
 pub mod Machine
 pub mod Node
 pub mod Object
 pub mod Order
 pub mod Packet
+pub mod Seeing
 pub mod Taking
 pub mod Written

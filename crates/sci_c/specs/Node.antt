@@ -1,17 +1,26 @@
 -- What the calls for nodes answer.
-use Rattle.std.specs.Prelude.{◌≡◌, ℕ, List, Some, None, ◌<◌, ◌%◌, slice_get}
+use Rattle.std.specs.Prelude.{◌≡◌, ℕ, List, Option, Some, None, ◌<◌, ◌%◌, slice_get}
 use Rattle.sci_words.specs.declared.{event.{AskKind.{AskKind}, TheConstants.AskKind.{ALL}}, operation.Op.{Op}}
 use Rattle.sci_words.specs.declared.stamped.Stamped.{Stamped}
 use Rattle.sci_packets.specs.{declared.packet.Packet.{Packet}, Spelling.{spelling}}
 use Rattle.sci_history.specs.declared.entry.Entry.{Entry}
 use Rattle.sci_cache.specs.Cache.{letter_of}
 use Rattle.sci_core.specs.declared.pending.Pending.{Pending}
-use Rattle.sci_core.specs.Node.{NodeOf, node_issuing, node_performing, node_asking, node_replying, pending_on, home_of, lines_of}
+use Rattle.sci_core.specs.Node.{NodeOf, node_issuing, node_performing, node_asking, node_replying, opening_node, pending_on, home_of, lines_of}
 use Rattle.sci_home.specs.Serving.{current_of}
 use Rattle.sci_c_values.specs.declared.{entry.SciEntry.{SciEntry}, operation.SciOp.{SciOp}}
 use Rattle.sci_c_values.specs.{declared.stamped.SciStamped.{SciStamped}, Entry.{entry_struct}}
 use Rattle.sci_c_values.specs.{Operation.{SaysOp, op_struct}, Stamped.{stamped_struct}}
-use Rattle.sci_c.specs.Written.{StandOver}
+use Rattle.sci_core.specs.Size.{Size}
+use Rattle.sci_policy.specs.Policy.{opening_policy}
+use Rattle.sci_c.specs.{declared.{controller.Controller.{Controller}, thing.Thing.{Thing}}, Kinds.{node_in}, Written.{StandOver}}
+
+-- the node of a machine of this size in which no line was touched, and a policy that has nothing to remember
+pub record IsOpeningNode (me : ℕ) (size : Size) (new : Option Thing) : Type 0 where
+  pub controller : Controller
+  pub is_in : node_in new ≡ Some controller
+  pub node : controller.node ≡ opening_node me size
+  pub policy : controller.policy ≡ opening_policy
 
 -- the operation that the struct says is pending, with this serial
 pub record IsIssue (c : SciOp) (serial : ℕ) (before after : NodeOf) : Type 0 where

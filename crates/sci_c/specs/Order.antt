@@ -43,6 +43,18 @@ pub record NeedsRoom (old : List SciEntry) (used : ℕ) (journal : JournalOf) : 
   pub more : length old < used
   pub found : IsOrderOf used journal ⊎ IsCycleOf used journal
 
+-- a cycle of entries shows that there is no order
+pub record HasCycle (journal : JournalOf) : Type 0 where
+  pub steps : List Step
+  pub is_cycle : IsCycle journal.logs steps
+
+-- what the kind of answer says of these logs
+pub record IsOrderKind (kind : ℕ) (journal : JournalOf) : Type 0 where
+  pub kinds : kind ≤ UNLAWFUL
+  pub ordered : (kind ≡ ORDER) ↔ (Lawful journal.logs journal.last × IsSequentiallyConsistent journal.logs journal.last)
+  pub cycle : kind ≡ CYCLE → HasCycle journal
+  pub unlawful : kind ≡ UNLAWFUL → Lawful journal.logs journal.last → ⊥
+
 -- what each status of a look for an order of these logs says
 pub record IsOrdering (old new : List SciEntry) (kind used status : ℕ) (journal : JournalOf) : Type 0 where
   pub order : status ≡ SCI_OK → kind ≡ ORDER → IsOrderIn old new used journal

@@ -1,6 +1,7 @@
 //! Opening and closing of objects.
 
 ghost use Rattle.std.specs.Prelude.{◌≡◌, ◌≢◌, ◌↔◌, ◌⊎◌, Some, None, IsSome, false};
+ghost use denote.RawPtr.{null_ptr};
 ghost use Rattle.sci_c_values.specs.declared.status.TheConstants.{SCI_MISUSE, SCI_NO_MEMORY, SCI_OK};
 
 use crate::handle::SciObject;
@@ -24,19 +25,23 @@ pub(crate) fn opened(alloc: Global, object: &mut SciObject, thing: Thing) -> u32
     }
 }
 
-/// Lets the thing go if it is of the kind that is wanted, and leaves the object empty, as it may be already.
+/// Lets the thing go if it is of the kind that is wanted, and leaves the object empty and without a pointer, as it may be
+/// already.
 pub(crate) fn closed(alloc: Global, object: &mut SciObject, is_of_kind: bool) -> u32
     ensures done { result ≡ SCI_OK → object.new.value ≡ None }
+    ensures no_pointer { result ≡ SCI_OK → object.new.at ≡ null_ptr }
     ensures misuse { (result ≡ SCI_MISUSE) ↔ (IsSome object.old.value × (is_of_kind ≡ false)) }
     ensures status { (result ≡ SCI_OK) ⊎ (result ≡ SCI_MISUSE) }
     ensures same { result ≢ SCI_OK → object.new.value ≡ object.old.value }
 {
     if object.live() == 0 {
+        object.forget();
         return SCI_OK;
     }
     if !is_of_kind {
         return SCI_MISUSE;
     }
     drop(object.take(alloc));
+    object.forget();
     SCI_OK
 }

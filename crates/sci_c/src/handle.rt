@@ -4,12 +4,14 @@ ghost use Rattle.std.specs.Prelude.{◌≡◌, Option, Some, None};
 ghost use types.Logic.{sem};
 ghost use Rattle.sci_c.specs.declared.thing.Thing.{Thing};
 
+use crate::controller::Controller;
 use crate::journal::Journal;
 use crate::loose::{Loose, loosened};
 use crate::thing::Thing;
-use sci_core::{Machine, Node};
+use sci_core::Machine;
 use std::alloc::Global;
 use std::marker::Model;
+use std::ptr::null_mut;
 
 /// What the pointer leads to, of which C sees nothing.
 #[repr(C)]
@@ -32,9 +34,10 @@ impl Model for SciObject {
 }
 
 impl SciObject {
+    ghost use denote.RawPtr.{null_ptr};
     ghost use Rattle.std.specs.{Borrow.{Lends, LendsIf}, Prelude.{IsSome, MatchOption, option_map}};
-    ghost use Rattle.sci_core.specs.contracts.{machine.Machine.{the_row as machine_row}, node.Node.{the_row as node_row}};
-    ghost use Rattle.sci_c.specs.contracts.{handle.SciObject.{the_row}, journal.Journal.{the_row as journal_row}, thing.Thing.{the_row as thing_row}};
+    ghost use Rattle.sci_core.specs.contracts.machine.Machine.{the_row as machine_row};
+    ghost use Rattle.sci_c.specs.contracts.{controller.Controller.{the_row as node_row}, handle.SciObject.{the_row}, journal.Journal.{the_row as journal_row}, thing.Thing.{the_row as thing_row}};
     ghost use Rattle.sci_c.specs.{Kinds.{logs_in, machine_in, node_in}, Lending.{LendsKept, with_thing}, Object.{live_of}};
     ghost use Rattle.sci_c.specs.declared.thing.Thing.TheVariants as thing;
 
@@ -73,6 +76,15 @@ impl SciObject {
         unsafe { Box::from_raw(alloc, self.at as *mut Thing) }
     }
 
+    /// Leaves no pointer in an empty object. Requires that it is empty.
+    pub(crate) fn forget(&mut self)
+        requires { self.old.value ≡ None }
+        ensures at { self.new.at ≡ null_ptr }
+        ensures empty { self.new.value ≡ None }
+    {
+        self.at = null_mut();
+    }
+
     /// The machine, if it keeps one.
     pub(crate) fn machine(&mut self) -> Option<&mut Machine>
         ensures* writes_back { sem 𝓛 (LendsKept machine_row thing.Machine self.entry result) }
@@ -84,13 +96,13 @@ impl SciObject {
         }
     }
 
-    /// The node, if it keeps one.
-    pub(crate) fn node(&mut self) -> Option<&mut Node>
+    /// The node with its policy, if it keeps one.
+    pub(crate) fn node(&mut self) -> Option<&mut Controller>
         ensures* writes_back { sem 𝓛 (LendsKept node_row thing.Node self.entry result) }
-        ensures value { node_in self.old.value ≡ option_map (λ node. node.now) result }
+        ensures value { node_in self.old.value ≡ option_map (λ controller. controller.now) result }
     {
         match self.thing()? {
-            Thing::Node(node) => Some(node),
+            Thing::Node(controller) => Some(controller),
             _ => None,
         }
     }

@@ -1,16 +1,22 @@
 //! The C interface: packets, machines, nodes and logs for programs that are not written in Rattle.
 #![tactic(auto)]
 
+mod cloning;
 mod closing;
+mod controller;
+mod deciding;
 mod handle;
 mod journal;
+pub mod laws;
 mod library;
 mod logs;
+mod looking;
 mod loose;
 mod machine;
 mod node;
 mod ordering;
 mod packet;
+mod seeing;
 mod taking;
 mod texts;
 mod thing;

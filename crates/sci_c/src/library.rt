@@ -3,7 +3,10 @@
 ghost use Rattle.std.specs.Prelude.{◌≡◌, ◌∷◌, []};
 
 use crate::handle::SciObject;
-use sci_c_values::{SciEntry, SciEvent, SciOp, SciPacket, SciStamped, SciTextFault, SciVerdict};
+use sci_c_values::{
+    SciEntry, SciEvent, SciHeld, SciHome, SciOp, SciPacket, SciSeen, SciStamped, SciTextFault,
+    SciVerdict, SciWant,
+};
 use std::mem::size_of;
 
 /// 65,536 times the major number of the version, and the minor number.
@@ -24,6 +27,14 @@ const VERDICT: usize = size_of::<SciVerdict>();
 const TEXT_FAULT: usize = size_of::<SciTextFault>();
 
 const OBJECT: usize = size_of::<SciObject>();
+
+const HELD: usize = size_of::<SciHeld>();
+
+const HOME: usize = size_of::<SciHome>();
+
+const SEEN: usize = size_of::<SciSeen>();
+
+const WANT: usize = size_of::<SciWant>();
 
 /// The version of the library.
 #[unsafe(no_mangle)]
@@ -48,4 +59,12 @@ pub extern "C" fn sci_layout(sizes: &mut [u64; 8])
         TEXT_FAULT as u64,
         OBJECT as u64,
     ];
+}
+
+/// Writes the sizes of the structs for looks and for what a policy decides.
+#[unsafe(no_mangle)]
+pub extern "C" fn sci_layout_more(sizes: &mut [u64; 4])
+    ensures { sizes.new ≡ 80 ∷ 80 ∷ 152 ∷ 4 ∷ [] }
+{
+    *sizes = [HELD as u64, HOME as u64, SEEN as u64, WANT as u64];
 }

@@ -1,5 +1,6 @@
 //! Logs with last contents.
 
+ghost use denote.RawPtr.{null_ptr};
 ghost use Rattle.std.specs.Prelude.{◌≡◌, ◌≢◌, ◌<◌, ◌≤◌, ◌⊎◌, ◌∷◌, [], Some, length};
 ghost use Rattle.sci_words.specs.declared.limits.TheConstants.{MAX_NODES};
 ghost use Rattle.sci_history.specs.Placed.{log_of};
@@ -42,7 +43,8 @@ pub extern "C" fn sci_logs_open(alloc: Global, object: &mut SciObject, nodes: u8
 /// Lets logs go, and leaves the object empty.
 #[unsafe(no_mangle)]
 pub extern "C" fn sci_logs_close(alloc: Global, object: &mut SciObject) -> u32
-    ensures { IsClosed logs_in object.old.value result object.new.value }
+    ensures closed { IsClosed logs_in object.old.value result object.new.value }
+    ensures no_pointer { result ≡ SCI_OK → object.new.at ≡ null_ptr }
 {
     let is_of_kind = object.logs().is_some();
     closed(alloc, object, is_of_kind)

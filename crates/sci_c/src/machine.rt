@@ -1,5 +1,6 @@
 //! Machines.
 
+ghost use denote.RawPtr.{null_ptr};
 ghost use Rattle.std.specs.Prelude.{◌≡◌, ◌≢◌, ◌≤◌, ◌↔◌, ◌⊎◌, ◌∷◌, [], None, IsSome};
 ghost use Rattle.sci_core.specs.Size.{IsMachineSize};
 ghost use Rattle.sci_c_values.specs.declared.status.TheConstants.{SCI_MISUSE, SCI_NOT_ENABLED, SCI_NO_MEMORY, SCI_OK, SCI_RANGE};
@@ -74,7 +75,8 @@ pub extern "C" fn sci_machine_step(object: &mut SciObject, event: &SciEvent) -> 
 /// Lets a machine go, and leaves the object empty.
 #[unsafe(no_mangle)]
 pub extern "C" fn sci_machine_close(alloc: Global, object: &mut SciObject) -> u32
-    ensures { IsClosed machine_in object.old.value result object.new.value }
+    ensures closed { IsClosed machine_in object.old.value result object.new.value }
+    ensures no_pointer { result ≡ SCI_OK → object.new.at ≡ null_ptr }
 {
     let is_of_kind = object.machine().is_some();
     closed(alloc, object, is_of_kind)

@@ -1,16 +1,18 @@
 //! Nodes: the controller that a simulator has at each processor.
 
+ghost use denote.RawPtr.{null_ptr};
 ghost use Rattle.std.specs.Prelude.{◌≡◌, ◌≢◌, ◌≤◌, ◌<◌, ◌↔◌, ◌∷◌, [], Some, None, ◌%◌, IfSome, slice_get};
 ghost use Rattle.sci_home.specs.Serving.{current_of};
-ghost use Rattle.sci_core.specs.Node.{IsAtRest, home_of, lines_of, node_performing, node_replying, opening_node, pending_on};
+ghost use Rattle.sci_core.specs.Node.{IsAtRest, home_of, lines_of, node_performing, node_replying, pending_on};
 ghost use Rattle.sci_core.specs.Size.{IsMachineSize};
 ghost use Rattle.sci_c_values.specs.declared.status.TheConstants.{SCI_NOT_ENABLED, SCI_OK, SCI_RANGE};
 ghost use Rattle.sci_c_values.specs.{Operation.{SaysOp}, Saying.{SaysNone}};
 ghost use Rattle.sci_words.specs.declared.event.TheConstants.AskKind.{ALL};
-ghost use Rattle.sci_c.specs.{Calls.{IsChange, IsLook}, Closing.{IsClosed, IsOpened}, Kinds.{Goes, On, node_in}, Machine.{size}};
-ghost use Rattle.sci_c.specs.Node.{HasNoContents, IsAsk, IsHomeContents, IsIssue, IsNoAsk, IsNoIssue, IsPendingOf, IsPerformed, IsReply};
+ghost use Rattle.sci_c.specs.{Calls.{IsChange, IsLook}, Closing.{IsClosed, IsOpened}, Kinds.{Goes, On, OnNode, node_in}, Machine.{size}};
+ghost use Rattle.sci_c.specs.Node.{HasNoContents, IsAsk, IsHomeContents, IsIssue, IsNoAsk, IsNoIssue, IsOpeningNode, IsPendingOf, IsPerformed, IsReply};
 
 use crate::closing::{closed, opened};
+use crate::controller::Controller;
 use crate::handle::SciObject;
 use crate::thing::Thing;
 use sci_c_values::{
@@ -19,6 +21,7 @@ use sci_c_values::{
 };
 use sci_core::Node;
 use sci_packets::encode;
+use sci_policy::Policy;
 use sci_words::{AskKind, Extent, MAX_OPERATIONS, Stamped};
 use std::alloc::Global;
 
@@ -34,7 +37,7 @@ pub extern "C" fn sci_node_open(
     limit: u32,
 ) -> u32
     ensures { IsOpened ((me < nodes) × IsMachineSize (size nodes lines slots limit))
-        (λ new. node_in new ≡ Some (opening_node me (size nodes lines slots limit)))
+        (IsOpeningNode me (size nodes lines slots limit))
         object.old.value result object.new.value }
 {
     if object.live() != 0 {
@@ -49,13 +52,15 @@ pub extern "C" fn sci_node_open(
     let Ok(node) = Node::new(alloc, me, extent, limit) else {
         return SCI_NO_MEMORY;
     };
-    opened(alloc, object, Thing::Node(node))
+    let policy = Policy::new();
+    opened(alloc, object, Thing::Node(Controller { node, policy }))
 }
 
 /// Lets a node's controller go, and leaves the object empty.
 #[unsafe(no_mangle)]
 pub extern "C" fn sci_node_close(alloc: Global, object: &mut SciObject) -> u32
-    ensures { IsClosed node_in object.old.value result object.new.value }
+    ensures closed { IsClosed node_in object.old.value result object.new.value }
+    ensures no_pointer { result ≡ SCI_OK → object.new.at ≡ null_ptr }
 {
     let is_of_kind = object.node().is_some();
     closed(alloc, object, is_of_kind)
@@ -64,19 +69,20 @@ pub extern "C" fn sci_node_close(alloc: Global, object: &mut SciObject) -> u32
 /// Issues an operation, and gives its serial.
 #[unsafe(no_mangle)]
 pub extern "C" fn sci_node_issue(object: &mut SciObject, op: &SciOp, serial: &mut u32) -> u32
-    ensures done { result ≡ SCI_OK → Goes node_in object.old.value object.new.value (IsIssue op.now serial.new) }
-    ensures refused { result ≡ SCI_NOT_ENABLED → On node_in object.old.value (IsNoIssue op.now) }
+    ensures done { result ≡ SCI_OK → Goes node_in object.old.value object.new.value
+        (OnNode (IsIssue op.now serial.new)) }
+    ensures refused { result ≡ SCI_NOT_ENABLED → On node_in object.old.value (λ c. IsNoIssue op.now c.node) }
     ensures range { result ≡ SCI_RANGE → SaysNone (SaysOp op.now) }
     ensures change { IsChange node_in (SCI_NOT_ENABLED ∷ SCI_RANGE ∷ []) object.old.value result object.new.value }
     ensures same_serial { result ≢ SCI_OK → serial.new ≡ serial.old }
 {
-    let Some(node) = object.node() else {
+    let Some(controller) = object.node() else {
         return SCI_MISUSE;
     };
     let Some(said) = op_in(op) else {
         return SCI_RANGE;
     };
-    match node.issue(said) {
+    match controller.node.issue(said) {
         Some(number) => {
             *serial = number;
             SCI_OK
@@ -88,16 +94,17 @@ pub extern "C" fn sci_node_issue(object: &mut SciObject, op: &SciOp, serial: &mu
 /// Performs the operation that is pending on a line, and gives its entry.
 #[unsafe(no_mangle)]
 pub extern "C" fn sci_node_perform(object: &mut SciObject, line: u8, entry: &mut SciEntry) -> u32
-    ensures done { result ≡ SCI_OK → Goes node_in object.old.value object.new.value (IsPerformed line entry.new) }
+    ensures done { result ≡ SCI_OK → Goes node_in object.old.value object.new.value
+        (OnNode (IsPerformed line entry.new)) }
     ensures refused { result ≡ SCI_NOT_ENABLED → On node_in object.old.value
-        (λ node. node_performing node line ≡ None) }
+        (λ c. node_performing c.node line ≡ None) }
     ensures change { IsChange node_in (SCI_NOT_ENABLED ∷ []) object.old.value result object.new.value }
     ensures same_entry { result ≢ SCI_OK → entry.new ≡ entry.old }
 {
-    let Some(node) = object.node() else {
+    let Some(controller) = object.node() else {
         return SCI_MISUSE;
     };
-    match node.perform(line) {
+    match controller.node.perform(line) {
         Some(done) => {
             *entry = entry_out(&done);
             SCI_OK
@@ -116,20 +123,20 @@ pub extern "C" fn sci_node_ask(
     used: &mut usize,
 ) -> u32
     ensures done { result ≡ SCI_OK → Goes node_in object.old.value object.new.value
-        (IsAsk line ask bytes.old bytes.new used.new) }
-    ensures refused { result ≡ SCI_NOT_ENABLED → On node_in object.old.value (IsNoAsk line ask) }
+        (OnNode (IsAsk line ask bytes.old bytes.new used.new)) }
+    ensures refused { result ≡ SCI_NOT_ENABLED → On node_in object.old.value (λ c. IsNoAsk line ask c.node) }
     ensures range { result ≡ SCI_RANGE → slice_get ALL ask ≡ None }
     ensures change { IsChange node_in (SCI_NOT_ENABLED ∷ SCI_RANGE ∷ []) object.old.value result object.new.value }
     ensures same_bytes { result ≢ SCI_OK → bytes.new ≡ bytes.old }
     ensures same_used { result ≢ SCI_OK → used.new ≡ used.old }
 {
-    let Some(node) = object.node() else {
+    let Some(controller) = object.node() else {
         return SCI_MISUSE;
     };
     let Some(kind) = AskKind::with_number(ask) else {
         return SCI_RANGE;
     };
-    match node.ask(line, kind) {
+    match controller.node.ask(line, kind) {
         Some(packet) => {
             *used = encode(&packet, bytes);
             SCI_OK
@@ -146,16 +153,16 @@ pub extern "C" fn sci_node_take_answer(
     used: &mut usize,
 ) -> u32
     ensures done { result ≡ SCI_OK → Goes node_in object.old.value object.new.value
-        (IsReply bytes.old bytes.new used.new) }
-    ensures refused { result ≡ SCI_NOT_ENABLED → On node_in object.old.value (λ node. node_replying node ≡ None) }
+        (OnNode (IsReply bytes.old bytes.new used.new)) }
+    ensures refused { result ≡ SCI_NOT_ENABLED → On node_in object.old.value (λ c. node_replying c.node ≡ None) }
     ensures change { IsChange node_in (SCI_NOT_ENABLED ∷ []) object.old.value result object.new.value }
     ensures same_bytes { result ≢ SCI_OK → bytes.new ≡ bytes.old }
     ensures same_used { result ≢ SCI_OK → used.new ≡ used.old }
 {
-    let Some(node) = object.node() else {
+    let Some(controller) = object.node() else {
         return SCI_MISUSE;
     };
-    match node.take_answer() {
+    match controller.node.take_answer() {
         Some(packet) => {
             *used = encode(&packet, bytes);
             SCI_OK
@@ -172,16 +179,16 @@ pub extern "C" fn sci_node_pending(
     op: &mut SciOp,
     serial: &mut u32,
 ) -> u32
-    ensures found { result ≡ SCI_OK → On node_in object.old.value (IsPendingOf line serial.new op.new) }
-    ensures none { result ≡ SCI_NOT_ENABLED → On node_in object.old.value (λ node. pending_on node line ≡ None) }
+    ensures found { result ≡ SCI_OK → On node_in object.old.value (λ c. IsPendingOf line serial.new op.new c.node) }
+    ensures none { result ≡ SCI_NOT_ENABLED → On node_in object.old.value (λ c. pending_on c.node line ≡ None) }
     ensures same_op { result ≢ SCI_OK → op.new ≡ op.old }
     ensures same_serial { result ≢ SCI_OK → serial.new ≡ serial.old }
     ensures kept { IsLook node_in (SCI_NOT_ENABLED ∷ []) object.old.value result object.new.value }
 {
-    let Some(node) = object.node() else {
+    let Some(controller) = object.node() else {
         return SCI_MISUSE;
     };
-    match node.pending(line) {
+    match controller.node.pending(line) {
         Some(pending) => {
             *op = op_out(&pending.op);
             *serial = pending.serial;
@@ -194,34 +201,34 @@ pub extern "C" fn sci_node_pending(
 /// Gives whether no operation is pending and no line has an entry: 1, and else 0.
 #[unsafe(no_mangle)]
 pub extern "C" fn sci_node_is_at_rest(object: &mut SciObject, at_rest: &mut u32) -> u32
-    ensures rest { result ≡ SCI_OK → On node_in object.old.value (λ node. (at_rest.new ≡ 1) ↔ IsAtRest node) }
+    ensures rest { result ≡ SCI_OK → On node_in object.old.value (λ c. (at_rest.new ≡ 1) ↔ IsAtRest c.node) }
     ensures flag { result ≡ SCI_OK → at_rest.new ≤ 1 }
     ensures same { result ≢ SCI_OK → at_rest.new ≡ at_rest.old }
     ensures kept { IsLook node_in [] object.old.value result object.new.value }
 {
-    let Some(node) = object.node() else {
+    let Some(controller) = object.node() else {
         return SCI_MISUSE;
     };
-    *at_rest = if node.is_at_rest() { 1 } else { 0 };
+    *at_rest = if controller.node.is_at_rest() { 1 } else { 0 };
     SCI_OK
 }
 
 /// Reads the contents of a line whose home is at the node, if the home has them.
 #[unsafe(no_mangle)]
 pub extern "C" fn sci_node_home(object: &mut SciObject, line: u8, contents: &mut SciStamped) -> u32
-    ensures found { result ≡ SCI_OK → On node_in object.old.value (IsHomeContents line contents.new) }
-    ensures none { result ≡ SCI_NOT_ENABLED → On node_in object.old.value (HasNoContents line) }
-    ensures range { result ≡ SCI_RANGE → On node_in object.old.value (λ node. lines_of node ≤ line) }
+    ensures found { result ≡ SCI_OK → On node_in object.old.value (λ c. IsHomeContents line contents.new c.node) }
+    ensures none { result ≡ SCI_NOT_ENABLED → On node_in object.old.value (λ c. HasNoContents line c.node) }
+    ensures range { result ≡ SCI_RANGE → On node_in object.old.value (λ c. lines_of c.node ≤ line) }
     ensures same { result ≢ SCI_OK → contents.new ≡ contents.old }
     ensures kept { IsLook node_in (SCI_NOT_ENABLED ∷ SCI_RANGE ∷ []) object.old.value result object.new.value }
 {
-    let Some(node) = object.node() else {
+    let Some(controller) = object.node() else {
         return SCI_MISUSE;
     };
-    if line >= node.extent().lines {
+    if line >= controller.node.extent().lines {
         return SCI_RANGE;
     }
-    match home_contents(node, line) {
+    match home_contents(&controller.node, line) {
         Some(found) => {
             *contents = stamped_out(&found);
             SCI_OK

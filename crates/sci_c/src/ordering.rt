@@ -3,7 +3,7 @@
 ghost use Rattle.std.specs.Prelude.{◌≡◌, ◌≢◌, ◌<◌, ◌⊎◌, ◌∷◌, [], IfOk, length, map};
 ghost use Rattle.sci_c_values.specs.declared.status.TheConstants.{SCI_FULL, SCI_MISUSE, SCI_NO_MEMORY, SCI_OK};
 ghost use Rattle.sci_c.specs.{Calls.{IsLook}, declared.ordering.TheConstants.{CYCLE, ORDER, UNLAWFUL}, Kinds.{On, logs_in}};
-ghost use Rattle.sci_c.specs.{Order.{IsOrdering, ref_struct, step_struct}, Written.{StandOver}};
+ghost use Rattle.sci_c.specs.{Order.{IsOrderKind, IsOrdering, ref_struct, step_struct}, Written.{StandOver}};
 
 use crate::handle::SciObject;
 use crate::journal::Journal;
@@ -89,6 +89,41 @@ fn found_order(
             Err(_) => SCI_NO_MEMORY,
         },
         Ok(OrderVerdict::Fault { .. }) => put(UNLAWFUL, &[], kind, entries, used),
+        Err(_) => SCI_NO_MEMORY,
+    }
+}
+
+/// Looks for one order of all entries, and gives the number of what it finds.
+fn found_kind(alloc: Global, journal: &Journal) -> Result<u32, AllocError>
+    ensures { IfOk result (λ kind. IsOrderKind kind journal.now) }
+{
+    let logs = journal.logs();
+    // Asked, so that the prover knows that there are sixteen logs, each with its own node's entries.
+    let _sixteen = logs.nodes();
+    let verdict = sequential_order(alloc, logs, journal.last())?;
+    match verdict {
+        OrderVerdict::Order(_order) => Ok(ORDER),
+        OrderVerdict::Cycle(_steps) => Ok(CYCLE),
+        OrderVerdict::Fault { .. } => Ok(UNLAWFUL),
+    }
+}
+
+/// Looks for one order of all entries, and says alone whether there is one, a cycle that shows that there is none, or logs
+/// that are not lawful.
+#[unsafe(no_mangle)]
+pub extern "C" fn sci_logs_order_kind(alloc: Global, object: &mut SciObject, kind: &mut u32) -> u32
+    ensures found { result ≡ SCI_OK → On logs_in object.old.value (IsOrderKind kind.new) }
+    ensures same { result ≢ SCI_OK → kind.new ≡ kind.old }
+    ensures kept { IsLook logs_in (SCI_NO_MEMORY ∷ []) object.old.value result object.new.value }
+{
+    let Some(journal) = object.logs() else {
+        return SCI_MISUSE;
+    };
+    match found_kind(alloc, journal) {
+        Ok(found) => {
+            *kind = found;
+            SCI_OK
+        }
         Err(_) => SCI_NO_MEMORY,
     }
 }

@@ -1,12 +1,13 @@
 //! What an object can keep.
 
+use crate::controller::Controller;
 use crate::journal::Journal;
-use sci_core::{Machine, Node};
+use sci_core::Machine;
 
 /// What an object can keep.
 #[derive(Drop)]
 pub enum Thing {
     Machine(Machine),
-    Node(Node),
+    Node(Controller),
     Logs(Journal),
 }

@@ -2,33 +2,15 @@ use Rattle.std.proofs.Common.{rules, arith, ◌≡◌, ◌∙◌, ℕ, List, [],
 use Rattle.std.proofs.lemmas.{Grind.{common_steps}, Simd.{map-map}}
 use denote.Ref.{Bor}
 use Rattle.std.specs.Global.{Vec}
-use Rattle.sci_words.specs.declared.{limits.TheConstants.{MAX_NODES}, stamped.Stamped.{Stamped}}
-use Rattle.sci_history.specs.declared.{entry.Entry.{Entry}, verdict.FaultKind.{FaultKind}}
-use Rattle.sci_history.specs.{declared.order_verdict.OrderVerdict.{OrderVerdict}, Audit.{IsFault, entries_of}}
-use Rattle.sci_history.specs.{Cycle.{IsOrderVerdict}, Lawful.{Lawful}, Placed.{AreOwn}, Sequential.{IsSequentialOrder}}
-use Rattle.sci_history.proofs.AuditLines.{verdict_is}
+use Rattle.sci_words.specs.declared.stamped.Stamped.{Stamped}
+use Rattle.sci_history.specs.declared.entry.Entry.{Entry}
+use Rattle.sci_history.specs.{declared.order_verdict.OrderVerdict.{OrderVerdict}, Audit.{entries_of}}
+use Rattle.sci_history.specs.{Cycle.{IsOrderVerdict}, Sequential.{IsSequentialOrder}}
 use Rattle.sci_c_values.specs.{declared.entry.SciEntry.{SciEntry}, Entry.{entry_struct}}
 use Rattle.sci_c.specs.{Order.{ref_struct}, Written.{StandOver}}
-use Rattle.sci_history.specs.declared.verdict.Verdict.TheVariants as verdict
 use Rattle.sci_history.specs.declared.order_verdict.OrderVerdict.TheVariants as order_verdict
+use Rattle.sci_c.proofs.OrderFaults.{faulty_for}
 use Rattle.sci_c.proofs.ordering.found_order.Goals as goal
-
-fault_is_none : (line : ℕ) (kind : FaultKind) (at : Option (ℕ × ℕ)) → verdict.Fault line kind at ≡ verdict.Lawful → ⊥
-fault_is_none line kind at e = absurd cc
-
--- logs with a fault aren't lawful
-faulty_not : (logs : List (List Entry)) (last : List Stamped) (line : ℕ) (kind : FaultKind) (at : Option (ℕ × ℕ)) → AreOwn logs → length logs ≡ MAX_NODES
-    → IsFault logs last line kind at → Lawful logs last → ⊥
-faulty_not logs last line kind at own sixteen fault lawful =
-    fault_is_none line kind at ((verdict_is logs last (verdict.Fault line kind at) own sixteen fault).1 lawful)
-
--- the same of what was asked for, which is what the logs are
-faulty_for : (logs seen : List (List Entry)) (last kept : List Stamped) (found : OrderVerdict) (line : ℕ) (kind : FaultKind) (at : Option (ℕ × ℕ))
-    → seen ≡ logs → kept ≡ last → found ≡ order_verdict.Fault line kind at → AreOwn seen → length seen ≡ MAX_NODES → IsOrderVerdict seen kept found
-    → Lawful logs last → ⊥
-faulty_for logs seen last kept found line kind at p q r own sixteen h lawful =
-    faulty_not seen kept line kind at own sixteen (subst (IsOrderVerdict seen kept) r h)
-    (subst (λ (ls : List (List Entry)). Lawful ls kept) (sym p) (subst (Lawful logs) (sym q) lawful))
 
 ordered_for : (logs seen : List (List Entry)) (last kept : List Stamped) (found : OrderVerdict) (order : Vec (Bor Entry))
     → seen ≡ logs → kept ≡ last → found ≡ order_verdict.Order order → IsOrderVerdict seen kept found → IsSequentialOrder logs last (entries_of order.items)
