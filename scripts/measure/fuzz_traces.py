@@ -6,7 +6,9 @@ all orders.
 
 Half of the traces write each word once, and never 0, so that the verdict has to be the right one. The others may write words
 again, and may be undecided then; so may those in which times contradict the order of a processor. Some have times, and some say
-last words. The last line is 'N passed, M failed', of traces.
+last words. Of a coherent trace the log is asked for, too: it has to have the trace's operations in each processor's order, and one
+memory of one thread has to explain each line, by the log's versions, which have to respect the times if these count. The last line
+is 'N passed, M failed', of traces.
 """
 
 import os
@@ -163,6 +165,80 @@ def is_right(found, status, output):
     return not coherent and len(lines) > 2 and all(STEP.match(it) for it in lines[1:-1])
 
 
+def entries_of(log):
+    """Of the text of a log its last contents by line, and its entries: node, serial, operation, reply and version."""
+    first, *lines = log.decode().split("\n")[:-1]
+    count = int(first.split(" ")[3])
+    lasts = {}
+    for line in lines[:count]:
+        _, number, version, *words = line.split(" ")
+        lasts[int(number)] = (int(version[1:]), [int(it) for it in words])
+    entries = []
+    for line in lines[count:]:
+        issue, outcome = line.split(" = ")
+        node, serial, *op = issue.split(" ")
+        reply, version = outcome.split(" @")
+        entries.append((int(node), int(serial), op, reply, int(version)))
+    return lasts, entries
+
+
+def is_run(entries, last):
+    """Whether operations and their versions on one line are those of a memory of one thread that ends so."""
+    makers = sorted((version, access) for access, version in entries if access.makes())
+    if [version for version, _ in makers] != list(range(1, len(makers) + 1)):
+        return False
+    words = [0]
+    for _, access in makers:
+        if access.read not in (None, words[-1]):
+            return False
+        words.append(access.wrote)
+    reads = all(version < len(words) and access.read == words[version] for access, version in entries if not access.makes())
+    return reads and last == (len(makers), [words[-1]] + [0] * 7)
+
+
+def are_in_order(entries, timed):
+    """Whether versions on one line, in the order of the text, rise with each processor, and with times if these count."""
+    for at, (x, v) in enumerate(entries):
+        for place, (y, w) in enumerate(entries):
+            before = x.processor == y.processor and at < place or timed and x.end < y.begin
+            if before and not (v < w if y.makes() else v <= w):
+                return False
+    return True
+
+
+def is_log_of(accesses, lasts, timed, log, errors):
+    """Whether a log and what is said beside it are of the trace."""
+    addresses = sorted({it.address for it in accesses} | set(lasts))
+    said = "".join(f"sciview judge: line {line} of memory is address {it}\n" for line, it in enumerate(addresses))
+    if errors.decode() != said:
+        return False
+    contents, entries = entries_of(log)
+    if sorted(contents) != list(range(max(1, len(addresses)))):
+        return False
+    sites = {it: [] for it in addresses}
+    by_place = {(node, serial): (op, reply, version) for node, serial, op, reply, version in entries}
+    serials = {}
+    for access in accesses:
+        serial = serials.get(access.processor, 0)
+        serials[access.processor] = serial + 1
+        op, reply, version = by_place.pop((access.processor, serial), (None, None, None))
+        line = str(addresses.index(access.address))
+        load, store = ["load", line, "0"], ["store", line, "0", str(access.wrote)]
+        swap = ["compare-swap", line, "0", str(access.read), str(access.wrote)]
+        wants = load if access.wrote is None else store if access.read is None else swap
+        if op != wants or reply != ("-" if access.read is None else str(access.read)):
+            return False
+        sites[access.address].append((access, version))
+    if by_place or [it[:2] for it in entries] != sorted(it[:2] for it in entries):
+        return False
+    for line, address in enumerate(addresses):
+        if not is_run(sites[address], contents[line]) or not are_in_order(sites[address], timed):
+            return False
+        if lasts.get(address, contents[line][1][0]) != contents[line][1][0]:
+            return False
+    return True
+
+
 def failure(job):
     """What goes wrong with the trace of this number, or None, and the verdict's first word."""
     program, number = job
@@ -173,6 +249,14 @@ def failure(job):
     words = [program, "judge", *(["--times"] if timed else [])]
     run = subprocess.run(words, input=given, stdout=subprocess.PIPE, stderr=subprocess.PIPE, timeout=60)
     right = not run.stderr and is_right(wanted(accesses, lasts, timed), run.returncode, run.stdout)
+    if right:
+        log = subprocess.run([*words, "--log"], input=given, stdout=subprocess.PIPE, stderr=subprocess.PIPE, timeout=60)
+        if run.returncode == 0:
+            right = log.returncode == 0 and is_log_of(accesses, lasts, timed, log.stdout, log.stderr)
+        else:
+            right = (log.returncode, log.stdout, log.stderr) == (run.returncode, run.stdout, run.stderr)
+        if not right:
+            run = log
     wrong = None if right else f"trace {number}: {' '.join(words[1:])}, status {run.returncode}\n{given.decode()}-- {run.stdout.decode()}"
     return wrong, run.stdout.split(b" ")[0].strip().decode()
 

@@ -78,12 +78,12 @@ witness_text accesses (Circle steps) = flat_map (step_text accesses) steps.items
 -- ---- judgements
 
 unfoldable pub judgement_text : Judgement → List ℕ
-judgement_text Coherent = codes "coherent\n"
+judgement_text (Coherent sites) = codes "coherent\n"
 judgement_text (NotCoherent address accesses witness) = codes "not coherent at" ++ (field address ++ (codes "\n" ++ witness_text accesses.items witness))
 judgement_text (Undecided address) = codes "undecided at" ++ (field address ++ codes "\n")
 
 -- how the command ends
 abbrev pub outcome_of : Judgement → Outcome
-outcome_of Coherent = Done
+outcome_of (Coherent sites) = Done
 outcome_of (NotCoherent address accesses witness) = Unlawful
 outcome_of (Undecided address) = Unlawful

@@ -1,16 +1,18 @@
-//! The command `judge`: whether a trace without versions is coherent.
+//! The command `judge`: whether a trace without versions is coherent, and its log.
 
-ghost use Rattle.std.specs.Prelude.{◌≡◌, false};
-ghost use Rattle.sci_text.specs.{FirstFault.{IsTold}, Tap.{has_failed}};
-ghost use Rattle.sci_command.specs.Answer.{HasAnswered};
-ghost use Rattle.sci_axe.specs.{JudgeAnswer.{IsJudgeAnswer}, Trace.{IsTraceFault}};
+ghost use Rattle.std.specs.Prelude.{◌≡◌, ◌⊎◌, ◌++◌, false, IfOk, IfErr, OnOk, option_map};
+ghost use Rattle.sci_text.specs.{declared.fault.TextFaultKind.TheVariants.{Memory, TooMany}, Tap.{has_failed}};
+ghost use Rattle.sci_command.specs.{Answer.{HasAnswered}, declared.outcome.Outcome.{Outcome}};
+ghost use Rattle.sci_judge.specs.{Access.{AreKnown}, Judgement.{addresses_of}};
+ghost use Rattle.sci_axe.specs.JudgeAnswer.{IsJudgeAnswer, IsJudgeRefusal, IsLogText, IsNoLogFault, logged_sites};
 
 use crate::misread::read_trace;
 use crate::telling::told;
-use sci_command::Answered;
-use sci_judge::judge;
-use sci_text::{Tap, read_input};
-use std::alloc::Global;
+use sci_command::{Answer, Answered, Note, Outcome, Refusal};
+use sci_judge::{Judgement, NoLog, SiteVersions, Trace, judge, log_of};
+use sci_text::{Tap, TextFault, TextFaultKind, logs_text, read_input};
+use sci_words::MAX_NODES;
+use std::alloc::{AllocError, Global};
 use std::io::Read;
 
 /// What is asked of a trace.
@@ -18,18 +20,92 @@ use std::io::Read;
 pub struct JudgeRequest {
     /// Whether what ended before another operation at its address began has to stand before it.
     pub timed: bool,
+    /// Whether the log of a coherent trace is written, in place of the verdict.
+    pub logs: bool,
+}
+
+/// Why there is no log, as a fault of the whole input, and in words.
+fn refusal_of(none: NoLog) -> Refusal
+    ensures line { result.fault.line ≡ 0 }
+    ensures kind { (result.fault.kind ≡ Memory) ⊎ (result.fault.kind ≡ TooMany) }
+{
+    let words = match none {
+        NoLog::Memory(error) => return Refusal::from(error),
+        NoLog::Addresses => "a log has at most 64 addresses",
+        NoLog::Operations => "a log has at most 65,536 operations of a processor",
+        NoLog::NotFound => "no log was found",
+    };
+    Refusal {
+        fault: TextFault {
+            line: 0,
+            kind: TextFaultKind::TooMany,
+        },
+        note: Note::Fixed(words),
+    }
+}
+
+/// Appends the addresses of the sites.
+fn push_addresses(lines: &mut Vec<u64>, sites: &[SiteVersions]) -> Result<(), AllocError>
+    ensures { OnOk result (lines.new.items ≡ lines.old.items ++ addresses_of sites.now) }
+{
+    for site in sites {
+        lines.push(site.address)?;
+    }
+    Ok(())
+}
+
+/// The log of a trace by versions at each address, as text; and the addresses of its lines of memory behind `lines`.
+fn logged(alloc: Global, trace: &Trace, sites: &[SiteVersions], lines: &mut Vec<u64>) -> Answered
+    requires { AreKnown trace.now.accesses.items }
+    ensures text { IfOk result (λ answer. IsLogText trace.now sites.now answer.text.items) }
+    ensures done { IfOk result (λ answer. answer.outcome ≡ Outcome.Done) }
+    ensures lines { OnOk result (lines.new.items ≡ lines.old.items ++ addresses_of sites.now) }
+    ensures none { IfErr result (λ refusal. IsNoLogFault trace.now sites.now refusal.fault) }
+{
+    let log = match log_of(alloc, trace, sites) {
+        Ok(log) => log,
+        Err(none) => return Err(refusal_of(none)),
+    };
+    push_addresses(lines, sites)?;
+    let text = logs_text(alloc, MAX_NODES, &log.logs, &log.last)?;
+    Ok(Answer {
+        text,
+        outcome: Outcome::Done,
+    })
+}
+
+/// The sites of a coherent trace, if its log is asked for.
+fn sites_to_log(request: JudgeRequest, judgement: &Judgement) -> Option<&[SiteVersions]>
+    ensures { option_map (λ sites. sites.now) result ≡ logged_sites request.logs judgement.now }
+{
+    match judgement {
+        Judgement::Coherent(sites) if request.logs => Some(sites),
+        _ => None,
+    }
 }
 
 /// Reads a trace to its end and judges the operations at each address. Done, with the line `coherent`, if those at each address
-/// are. Unlawful, with the line `not coherent at A` and a witness, if those at an address aren't, and with the line `undecided
-/// at A` if nothing was found of them. A text with a fault is refused, as are a reader that fails, too long an input and
-/// running out of memory, at line 0. After a failed read nothing more is read.
-pub fn judge_trace<R: Read>(alloc: Global, request: JudgeRequest, reader: &mut Tap<R>) -> Answered
+/// are, or if a log is asked for, with the log. Unlawful, with the line `not coherent at A` and a witness, if those at an address
+/// aren't, and with the line `undecided at A` if nothing was found of them. A text with a fault is refused, as are a reader that
+/// fails, too long an input and running out of memory, at line 0; so is a coherent trace with more than 64 addresses or more than
+/// 65,536 operations of a processor, if a log is asked for. After a failed read nothing more is read. If a log is written,
+/// `lines` are the addresses of its lines of memory, and else none.
+pub fn judge_trace<R: Read>(
+    alloc: Global,
+    request: JudgeRequest,
+    reader: &mut Tap<R>,
+    lines: &mut Vec<u64>,
+) -> Answered
     requires { has_failed reader.old ≡ false }
-    ensures { HasAnswered R.remaining reader.old reader.new (IsJudgeAnswer request) (IsTold IsTraceFault) result }
+    ensures { HasAnswered R.remaining reader.old reader.new
+        (IsJudgeAnswer request lines.new.items) (IsJudgeRefusal request) result }
 {
+    lines.clear();
     let bytes = read_input(alloc, reader)?;
     let trace = read_trace(alloc, &bytes)?;
     let judgement = judge(alloc, &trace, request.timed)?;
-    Ok(told(alloc, &judgement)?)
+    match sites_to_log(request, &judgement) {
+        Some(sites) => logged(alloc, &trace, sites, lines),
+        None => Ok(told(alloc, &judgement)?),
+    }
 }

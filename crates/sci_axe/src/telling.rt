@@ -214,7 +214,7 @@ fn judgement_text(alloc: Global, judgement: &Judgement) -> Result<Vec<u8>, Alloc
 {
     let mut text = Vec::new(alloc);
     match judgement {
-        Judgement::Coherent => push_text(&mut text, "coherent\n")?,
+        Judgement::Coherent(_) => push_text(&mut text, "coherent\n")?,
         Judgement::NotCoherent {
             address,
             accesses,
@@ -240,7 +240,7 @@ pub fn told(alloc: Global, judgement: &Judgement) -> Result<Answer, AllocError>
     ensures ends { IfOk result (λ answer. answer.outcome ≡ outcome_of judgement.now) }
 {
     let outcome = match judgement {
-        Judgement::Coherent => Outcome::Done,
+        Judgement::Coherent(_) => Outcome::Done,
         Judgement::NotCoherent { .. } | Judgement::Undecided { .. } => Outcome::Unlawful,
     };
     let text = judgement_text(alloc, judgement)?;

@@ -5,3 +5,4 @@ pub mod Once
 pub mod Stamps
 pub mod Runs
 pub mod Timely
+pub mod TraceLogs

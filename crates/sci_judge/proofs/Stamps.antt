@@ -39,7 +39,7 @@ entries_push serial (x ∷ xs) a =
     ap (λ (es : List Entry). entry_of serial x ∷ es) (entries_push (suc serial) xs a
     ∙ ap (λ (k : ℕ). entries_from (suc serial) xs ++ entry_of k a ∷ []) (omega arith))
 
-by_node_push : (done : List Entry) (entry : Entry) → entry.node < MAX_NODES
+pub by_node_push : (done : List Entry) (entry : Entry) → entry.node < MAX_NODES
     → set (logs_by_node done) entry.node (log_of (logs_by_node done) entry.node ++ entry ∷ []) ≡ logs_by_node (done ++ entry ∷ [])
 by_node_push done entry lt = grind (
   arith,
@@ -118,8 +118,8 @@ pub stamped_sixteen : (accesses : List Access) (versions : List ℕ) (logs : Lis
 stamped_sixteen accesses versions logs is = ap length is.logged ∙ length-map-range_with_len (λ (n : ℕ). filter (is_of_node n) is.entries) 0 MAX_NODES
 
 -- what holds of a node's entries holds of its log
-in_log : (P : Entry → Type 0) (es : List Entry) (logs : List (List Entry)) (node : ℕ) → logs ≡ logs_by_node es → AllByRecursion P (filter (is_of_node node) es)
-    → AllByRecursion P (log_of logs node)
+pub in_log : (P : Entry → Type 0) (es : List Entry) (logs : List (List Entry)) (node : ℕ) → logs ≡ logs_by_node es
+    → AllByRecursion P (filter (is_of_node node) es) → AllByRecursion P (log_of logs node)
 in_log P es logs node is all = elim (cases_lt node MAX_NODES) [
   | inl small ↦ subst (AllByRecursion P) (sym (ap (λ (ls : List (List Entry)). log_of ls node) is ∙ log_of-logs_of es node small)) all
   | inr past ↦

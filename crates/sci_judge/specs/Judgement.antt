@@ -1,15 +1,15 @@
 -- What the judge answers.
-use Rattle.std.specs.Prelude.{◌≡◌, ◌⊎◌, ◌==◌, ℕ, Bool, true, List, Option, IsSome, filter}
-use Rattle.std.specs.{BTreeMap.{get}, List.{list_any}, Ordering.{nat_cmp}}
+use Rattle.std.specs.Prelude.{◌≡◌, ◌⊎◌, ◌==◌, ℕ, Bool, true, List, map, Option, IsSome, filter}
+use Rattle.std.specs.{BTreeMap.{get}, List.{All, Contains, list_any}, Ordering.{nat_cmp}}
 use Rattle.sci_judge.specs.declared.{access.Access.{Access}, finding.Finding.{Finding}, trace.Trace.{Trace}}
 use Rattle.sci_judge.specs.declared.finding.Finding.TheVariants as found
-use Rattle.sci_judge.specs.declared.judging.Judgement.{Judgement}
+use Rattle.sci_judge.specs.declared.judging.{SiteVersions.{SiteVersions}, Judgement.{Judgement}}
 use Rattle.sci_judge.specs.declared.judging.Judgement.TheVariants as judged
-use Rattle.sci_judge.specs.{Coherent.{IsCoherent}, Witness.{IsWitness}}
+use Rattle.sci_judge.specs.{Coherent.{IsCoherent}, Stamped.{IsExplainedBy}, Witness.{IsWitness}}
 
 -- what is found of operations at one address holds of them
 abbrev pub IsFinding : (timed : Bool) → List Access → (last : Option ℕ) → Finding → Type 0
-IsFinding timed accesses last found.Coherent = IsCoherent timed accesses last
+IsFinding timed accesses last (found.Coherent versions) = IsExplainedBy timed accesses last versions.items
 IsFinding timed accesses last (found.NotCoherent witness) = IsWitness timed accesses last witness × (IsCoherent timed accesses last → ⊥)
 IsFinding timed accesses last found.Undecided = Unit {0}
 
@@ -34,9 +34,18 @@ Names trace address = (list_any (is_at address) trace.accesses.items ≡ true) �
 abbrev pub IsFoundAt : (timed : Bool) → Trace → (address : ℕ) → Finding → Type 0
 IsFoundAt timed trace address finding = IsFinding timed (at_address address trace.accesses.items) (last_at address trace) finding
 
+-- the addresses whose operations are explained
+abbrev pub addresses_of : List SiteVersions → List ℕ
+addresses_of explained = map (λ there. there.address) explained
+
+-- versions explain the operations at each address that a trace names
+pub record AreExplained (timed : Bool) (trace : Trace) (explained : List SiteVersions) : Type 0 where
+  pub named : (address : ℕ) → Names trace address → Contains (addresses_of explained) address
+  pub each : All (λ there. IsFoundAt timed trace there.address (found.Coherent there.versions)) explained
+
 -- what is answered of a trace holds of it: at each address that it names, or at the one that is answered
 abbrev pub IsJudgement : (timed : Bool) → Trace → Judgement → Type 0
-IsJudgement timed trace judged.Coherent = (address : ℕ) → Names trace address → IsFoundAt timed trace address found.Coherent
+IsJudgement timed trace (judged.Coherent explained) = AreExplained timed trace explained.items
 IsJudgement timed trace (judged.NotCoherent address there witness) =
     (there.items ≡ at_address address trace.accesses.items) × IsFoundAt timed trace address (found.NotCoherent witness)
 IsJudgement timed trace (judged.Undecided address) = Unit {0}

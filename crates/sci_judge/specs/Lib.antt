@@ -4,3 +4,4 @@ pub mod Witness
 pub mod Stamped
 pub mod Judgement
 pub mod Times
+pub mod Logged

@@ -3,9 +3,9 @@
 ghost use Rattle.std.specs.Prelude.{◌≡◌, ◌<◌, true, IfOk, IfSome, All, length};
 ghost use Rattle.std.specs.{Bool.{OnTrue}, Option.{option_copied}};
 ghost use Rattle.sci_words.specs.declared.limits.TheConstants.{MAX_NODES};
-ghost use Rattle.sci_judge.specs.{Access.{AreKnown}, Coherent.{IsCoherent, act_of, entry_of, known_last, reply_of}};
+ghost use Rattle.sci_judge.specs.{Access.{AreKnown}, Coherent.{act_of, entry_of, known_last, reply_of}};
 ghost use Rattle.sci_versions.specs.Versions.{AgreesWith};
-ghost use Rattle.sci_judge.specs.Stamped.{AreStamped};
+ghost use Rattle.sci_judge.specs.Stamped.{AreStamped, IsExplainedBy};
 
 use crate::access::{Access, Kind};
 use crate::site::Site;
@@ -40,7 +40,7 @@ impl Kind {
 }
 
 /// The entry of an operation, with its place among all at the address and a version.
-fn entry_with(serial: u32, access: &Access, version: u64) -> Entry
+pub fn entry_with(serial: u32, access: &Access, version: u64) -> Entry
     ensures { result ≡ record (entry_of serial access.now) { version = version } }
 {
     Entry {
@@ -102,7 +102,7 @@ impl Site<'_> {
     pub fn is_explained_by(&self, alloc: Global, versions: &[u64]) -> Result<bool, AllocError>
         requires { AreKnown self.now.accesses.now }
         ensures { IfOk result (λ explained. explained ≡ true →
-            IsCoherent self.now.timed self.now.accesses.now self.now.last) }
+            IsExplainedBy self.now.timed self.now.accesses.now self.now.last versions.now) }
     {
         let Some(logs) = self.logs_with(alloc, versions)? else {
             return Ok(false);

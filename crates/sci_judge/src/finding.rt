@@ -13,8 +13,8 @@ use std::alloc::{AllocError, Global};
 /// What is found of the operations at one address.
 #[derive(Debug, Drop)]
 pub enum Finding {
-    /// Some versions explain them.
-    Coherent,
+    /// These versions explain them, each of the operation at its place.
+    Coherent(Vec<u64>),
     /// No versions do, as this shows.
     NotCoherent(Witness),
     /// Neither was found.
@@ -38,7 +38,7 @@ impl Site<'_> {
         match search(alloc, *self) {
             Ok(versions) => {
                 if self.is_explained_by(alloc, &versions)? {
-                    return Ok(Finding::Coherent);
+                    return Ok(Finding::Coherent(versions));
                 }
             }
             Err(Stop::Refuted(witness)) => {

@@ -13,11 +13,20 @@ use crate::witness::Witness;
 use std::alloc::{AllocError, Global};
 use std::collections::BTreeSet;
 
+/// Versions that explain the operations at an address.
+#[derive(Debug, Drop)]
+pub struct SiteVersions {
+    /// The address.
+    pub address: u64,
+    /// Of each operation there its version, in the order of the trace.
+    pub versions: Vec<u64>,
+}
+
 /// What is found of a trace.
 #[derive(Debug, Drop)]
 pub enum Judgement {
-    /// The operations at each address are coherent.
-    Coherent,
+    /// The operations at each address are coherent, by these versions. The addresses rise.
+    Coherent(Vec<SiteVersions>),
     /// The operations at this address are not coherent. They are given in the order of the trace, and the witness names them by
     /// their places there.
     NotCoherent {
@@ -86,6 +95,7 @@ pub fn judge(alloc: Global, trace: &Trace, timed: bool) -> Result<Judgement, All
 {
     let sorted = by_address(alloc, &trace.accesses)?;
     let addresses = named(alloc, trace)?;
+    let mut explained = Vec::new(alloc);
     for at in addresses.iter() {
         let address = *at;
         let site = Site {
@@ -94,7 +104,7 @@ pub fn judge(alloc: Global, trace: &Trace, timed: bool) -> Result<Judgement, All
             timed,
         };
         match site.judge(alloc)? {
-            Finding::Coherent => {}
+            Finding::Coherent(versions) => explained.push(SiteVersions { address, versions })?,
             Finding::NotCoherent(witness) => {
                 let accesses = Vec::from_slice(alloc, site.accesses)?;
                 return Ok(Judgement::NotCoherent {
@@ -106,5 +116,5 @@ pub fn judge(alloc: Global, trace: &Trace, timed: bool) -> Result<Judgement, All
             Finding::Undecided => return Ok(Judgement::Undecided { address }),
         }
     }
-    Ok(Judgement::Coherent)
+    Ok(Judgement::Coherent(explained))
 }

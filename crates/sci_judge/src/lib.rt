@@ -9,6 +9,7 @@ mod explaining;
 mod finding;
 mod judging;
 mod laws;
+mod logging;
 mod placing;
 mod site;
 mod stretches;
@@ -19,8 +20,9 @@ mod witness;
 
 pub use access::{Access, Kind};
 pub use finding::Finding;
-pub use judging::{Judgement, judge};
+pub use judging::{Judgement, SiteVersions, judge};
 pub use laws::witnesses_rule_out_coherence;
+pub use logging::{Log, NoLog, log_of};
 pub use site::Site;
 pub use trace::Trace;
 pub use witness::{Claim, Step, Witness};

@@ -8,7 +8,7 @@ use Rattle.sci_options.specs.declared.argument.Argument.TheVariants as arguments
 use Rattle.sci_options.specs.declared.argument.Value.{Value}
 use Rattle.sci_options.specs.declared.argument.Value.TheVariants as values
 use Rattle.sci_options.specs.declared.option_name.OptionName.{OptionName}
-use Rattle.sci_options.specs.declared.option_name.OptionName.TheVariants.{BySerial, Dead, Events, InOrder, Json, Line, Node, Runs, Seed}
+use Rattle.sci_options.specs.declared.option_name.OptionName.TheVariants.{BySerial, Dead, Events, InOrder, Json, Line, Log, Node, Runs, Seed}
 use Rattle.sci_options.specs.declared.option_name.OptionName.TheVariants.{Show, Strict, Threads, Times, Turns}
 use Rattle.sci_options.specs.declared.setting.{OptionRow.{OptionRow}, Setting.{Setting}}
 
@@ -20,6 +20,7 @@ option_word Events = codes "--events"
 option_word InOrder = codes "--in-order"
 option_word Json = codes "--json"
 option_word Line = codes "--line"
+option_word Log = codes "--log"
 option_word Node = codes "--node"
 option_word Runs = codes "--runs"
 option_word Seed = codes "--seed"
@@ -45,6 +46,7 @@ option_place Strict = 10
 option_place Threads = 11
 option_place Times = 12
 option_place Turns = 13
+option_place Log = 15
 
 abbrev pub is_option : OptionName → OptionName → Bool
 is_option name other = option_place other == option_place name

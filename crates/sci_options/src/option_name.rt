@@ -19,6 +19,8 @@ pub enum OptionName {
     Json,
     /// A line of memory.
     Line,
+    /// The log in place of a verdict.
+    Log,
     /// A node.
     Node,
     /// How many runs.
@@ -49,6 +51,7 @@ impl OptionName {
             "--in-order" => Some(OptionName::InOrder),
             "--json" => Some(OptionName::Json),
             "--line" => Some(OptionName::Line),
+            "--log" => Some(OptionName::Log),
             "--node" => Some(OptionName::Node),
             "--runs" => Some(OptionName::Runs),
             "--seed" => Some(OptionName::Seed),
@@ -72,6 +75,7 @@ impl OptionName {
             OptionName::InOrder => "--in-order",
             OptionName::Json => "--json",
             OptionName::Line => "--line",
+            OptionName::Log => "--log",
             OptionName::Node => "--node",
             OptionName::Runs => "--runs",
             OptionName::Seed => "--seed",

@@ -37,23 +37,29 @@ abbrev pub help_for : Option Verb → List ℕ
 help_for None = HELP.now
 help_for (Some verb) = help_text verb
 
--- the text that a command writes, and how it ends, for the bytes of a reader, which has failed or not
-abbrev pub IsAnswerTo : Command → Option (List ℕ) → Bool → List ℕ → Outcome → Type 0
-IsAnswerTo (commands.Order request) = IsOrderAnswer request
-IsAnswerTo commands.Explain = IsExplainAnswer
-IsAnswerTo commands.Check = IsCheckAnswer
-IsAnswerTo (commands.Judge request) = IsJudgeAnswer request
-IsAnswerTo commands.Packets = IsPacketsAnswer
-IsAnswerTo (commands.Trace request) = IsTraceAnswer request
-IsAnswerTo (commands.Lists line) = IsListsAnswer line
-IsAnswerTo (commands.Stats request) = IsStatsAnswer request
-IsAnswerTo (commands.Chart request) = IsChartAnswer request
-IsAnswerTo (commands.Random walk dead) = λ input failed. IsRandomAnswer walk dead
-IsAnswerTo (commands.Run request) = IsRunAnswer request
-IsAnswerTo (commands.Outcomes request) = IsOutcomesAnswer request
-IsAnswerTo (commands.Allowed request) = IsAllowedAnswer request
-IsAnswerTo (commands.Help verb) = λ input failed text outcome. (text ≡ help_for verb) × (outcome ≡ Done)
-IsAnswerTo commands.Version = λ input failed text outcome. (text ≡ VERSION.now) × (outcome ≡ Done)
+-- The text that a command writes, and how it ends, for the bytes of a reader, which has failed or not. If `judge` writes a log,
+-- `lines` are the addresses of its lines of memory.
+abbrev pub IsAnswerTo : (lines : List ℕ) → Command → Option (List ℕ) → Bool → List ℕ → Outcome → Type 0
+IsAnswerTo lines (commands.Order request) = IsOrderAnswer request
+IsAnswerTo lines commands.Explain = IsExplainAnswer
+IsAnswerTo lines commands.Check = IsCheckAnswer
+IsAnswerTo lines (commands.Judge request) = IsJudgeAnswer request lines
+IsAnswerTo lines commands.Packets = IsPacketsAnswer
+IsAnswerTo lines (commands.Trace request) = IsTraceAnswer request
+IsAnswerTo lines (commands.Lists line) = IsListsAnswer line
+IsAnswerTo lines (commands.Stats request) = IsStatsAnswer request
+IsAnswerTo lines (commands.Chart request) = IsChartAnswer request
+IsAnswerTo lines (commands.Random walk dead) = λ input failed. IsRandomAnswer walk dead
+IsAnswerTo lines (commands.Run request) = IsRunAnswer request
+IsAnswerTo lines (commands.Outcomes request) = IsOutcomesAnswer request
+IsAnswerTo lines (commands.Allowed request) = IsAllowedAnswer request
+IsAnswerTo lines (commands.Help verb) = λ input failed text outcome. (text ≡ help_for verb) × (outcome ≡ Done)
+IsAnswerTo lines commands.Version = λ input failed text outcome. (text ≡ VERSION.now) × (outcome ≡ Done)
+
+-- the addresses of the lines of a log are told by `judge`, and by no other command
+abbrev pub KeepsLines : Command → (old new : List ℕ) → Type 0
+KeepsLines (commands.Judge request) old new = Unit {0}
+KeepsLines command old new = new ≡ old
 
 -- the events that weren't enabled of which standard error says so: those of the schedules of `stats` and `chart`, and of no other
 -- command

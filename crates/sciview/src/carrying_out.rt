@@ -3,7 +3,7 @@
 ghost use Rattle.std.specs.Prelude.{◌≡◌, false, None};
 ghost use Rattle.sci_text.specs.Tap.{has_failed, is_called_again, tapped};
 ghost use Rattle.sci_command.specs.{Answer.{IsAnswerAlone}, Writing.{HasCarriedOut, HasWritten}, declared.outcome.Outcome.{Outcome}};
-ghost use Rattle.sciview.specs.CommandAnswer.{AreDeadOf, IsAnswerTo};
+ghost use Rattle.sciview.specs.CommandAnswer.{AreDeadOf, IsAnswerTo, KeepsLines};
 
 use crate::choice::Command;
 use crate::help::{VERSION, help_of};
@@ -40,18 +40,21 @@ fn show_words<W: Write>(writer: &mut Tap<W>, words: &str) -> Ended
 }
 
 /// Carries out a command: reads its input to the end, if it has one, and writes its answer, or nothing if the input is refused.
-/// After the first read or write that fails nothing more is read or written.
+/// After the first read or write that fails nothing more is read or written. If it writes the log of a trace, `lines` are the
+/// addresses of the log's lines of memory.
 pub fn carried_out<T: Threads + Sync, R: Read, W: Write>(
     rt: &T,
     alloc: Global,
     command: Command,
     reader: &mut Tap<R>,
     writer: &mut Tap<W>,
+    lines: &mut Vec<u64>,
 ) -> Ended
     requires reader { has_failed reader.old ≡ false }
     requires writer { has_failed writer.old ≡ false }
     ensures answer { HasCarriedOut R.remaining W.contents reader.old reader.new writer.old writer.new
-        result.outcome (IsAnswerAlone (IsAnswerTo command) result.refusal) }
+        result.outcome (IsAnswerAlone (IsAnswerTo lines.new.items command) result.refusal) }
+    ensures lines { KeepsLines command lines.old.items lines.new.items }
     ensures dead { AreDeadOf command (R.remaining (tapped reader.old)) (has_failed reader.new)
         result.refusal result.dead }
 {
@@ -59,7 +62,7 @@ pub fn carried_out<T: Threads + Sync, R: Read, W: Write>(
         Command::Order(request) => show(writer, order(alloc, request, reader)),
         Command::Explain => show(writer, explain(alloc, reader)),
         Command::Check => show(writer, check(alloc, reader)),
-        Command::Judge(request) => show(writer, judge_trace(alloc, request, reader)),
+        Command::Judge(request) => show(writer, judge_trace(alloc, request, reader, lines)),
         Command::Packets => show(writer, packets(alloc, reader)),
         Command::Trace(request) => show(writer, trace(alloc, request, reader)),
         Command::Lists { line } => show(writer, lists(alloc, line, reader)),

@@ -164,6 +164,7 @@ fn command_of(verb: Verb, given: &Given) -> Option<Command>
         Verb::Explain => Command::Explain,
         Verb::Judge => Command::Judge(JudgeRequest {
             timed: given.has(OptionName::Times),
+            logs: given.has(OptionName::Log),
         }),
         Verb::Run => Command::Run(RunRequest {
             seed: given.number(OptionName::Seed),

@@ -71,7 +71,7 @@ memory of one thread gives there, and the entries around it.
 
 /// What `judge --help` writes.
 pub const JUDGE: &str = "\
-usage: sciview judge [--times] [FILE]
+usage: sciview judge [--times] [--log] [FILE]
 
 Of a trace of another machine, which has no versions: `coherent`,
 `undecided at A`, or `not coherent at A` with the operations that show it, each
@@ -80,6 +80,8 @@ store, `1: M[8] == 5` a load, `final M[8] == 5` the last word at an address.
 
   --times       what ended before another operation at its address began has to
                 stand before it
+  --log         the log of a coherent trace in place of the verdict, with versions
+                that explain it; and on standard error the address of each line
 ";
 
 /// What `run --help` writes.

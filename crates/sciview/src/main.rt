@@ -10,7 +10,7 @@ mod verb;
 use carrying_out::carried_out;
 use choice::choice_of;
 use complaint::Complaint;
-use sci_command::Output;
+use sci_command::{Outcome, Output};
 use sci_text::Tap;
 use std::process::ExitCode;
 use std::rt::Env;
@@ -25,6 +25,13 @@ fn words_of(rt: &(impl Env + AllocGlobal)) -> io::Result<Vec<String>> {
 fn complain(rt: &HostRuntime, complaint: Complaint) -> ExitCode {
     let _ = eprintln!(rt; "{complaint}");
     ExitCode::from(2)
+}
+
+/// Says on standard error which address each line of a log's memory is.
+fn tell_lines(rt: &HostRuntime, name: &str, addresses: &[u64]) {
+    for (line, address) in addresses.iter().enumerate() {
+        let _ = eprintln!(rt; "{name}: line {line} of memory is address {address}");
+    }
 }
 
 fn main(rt: HostRuntime) -> ExitCode {
@@ -48,17 +55,21 @@ fn main(rt: HostRuntime) -> ExitCode {
     };
     let mut output = Output::new(rt.stdout());
     let mut writer = Tap::new(&mut output);
+    let mut lines = Vec::new(rt.alloc());
     let ended = match opened {
         Some(input) => {
             let mut reader = Tap::new(input);
-            carried_out(&rt, rt.alloc(), command, &mut reader, &mut writer)
+            carried_out(&rt, rt.alloc(), command, &mut reader, &mut writer, &mut lines)
         }
         None => {
             let mut reader = Tap::new(rt.stdin());
-            carried_out(&rt, rt.alloc(), command, &mut reader, &mut writer)
+            carried_out(&rt, rt.alloc(), command, &mut reader, &mut writer, &mut lines)
         }
     };
     let mut errors = Tap::new(rt.stderr());
     ended.tell(rt.alloc(), &mut errors, command.name(), output.is_broken());
+    if let Outcome::Done = ended.outcome {
+        tell_lines(&rt, command.name(), &lines);
+    }
     ended.outcome.exit_code()
 }

@@ -72,6 +72,11 @@ const LINE: OptionRow = OptionRow {
     argument: Argument::Place { count: MAX_LINES },
 };
 
+const LOG: OptionRow = OptionRow {
+    name: OptionName::Log,
+    argument: Argument::Nothing,
+};
+
 const NODE: OptionRow = OptionRow {
     name: OptionName::Node,
     argument: Argument::Place { count: MAX_NODES },
@@ -158,7 +163,7 @@ impl Verb {
     {
         match self {
             Verb::Order => &[BY_SERIAL, SHOW],
-            Verb::Judge => &[TIMES],
+            Verb::Judge => &[TIMES, LOG],
             Verb::Run => &[SEED, IN_ORDER, TURNS],
             Verb::Outcomes => &[RUNS, SEED, THREADS, IN_ORDER],
             Verb::Allowed => &[IN_ORDER, SHOW_ROW],

@@ -7,7 +7,7 @@ use Rattle.sci_command.specs.{Answer.{IsAnswerAlone, answer_in}, AskedLine.{IsAs
 use Rattle.sci_command.proofs.Finished.{answered_by, carried_out, dead_beside}
 use Rattle.sciview.specs.declared.help.TheConstants.{VERSION}
 use Rattle.sci_allowed.specs.AllowedAnswer.{IsAllowedAnswer, IsAllowedRefusal}
-use Rattle.sci_axe.specs.{JudgeAnswer.{IsJudgeAnswer}, Trace.{IsTraceFault}}
+use Rattle.sci_axe.specs.JudgeAnswer.{IsJudgeAnswer, IsJudgeRefusal}
 use Rattle.sci_charts.specs.ChartAnswer.{IsChartAnswer}
 use Rattle.sci_reports.specs.{CheckAnswer.{IsCheckAnswer, IsLastFault}, ExplainAnswer.{IsExplainAnswer}}
 use Rattle.sci_reports.specs.OrderAnswer.{IsOrderAnswer}
@@ -46,8 +46,9 @@ returns-in-Check-clause-answer g c =
 pub returns-in-Judge-clause-answer : goal.returns-in-Judge-clause-answer
 returns-in-Judge-clause-answer g c =
     let shown = c.show-in-Judge in
-    rw c.in-Judge.is (carried_out (IsJudgeAnswer c.in-Judge.request) (IsTold IsTraceFault) c.judge_trace.result shown.result.refusal (λ text is. is)
-    c.judge_trace.ensures shown.ensures.refusal shown.ensures.written shown.ensures.again)
+    let request = c.in-Judge.request in
+    rw c.in-Judge.is (carried_out (IsJudgeAnswer request c.judge_trace.new.lines.items) (IsJudgeRefusal request) c.judge_trace.result
+    shown.result.refusal (λ text is. is) c.judge_trace.ensures shown.ensures.refusal shown.ensures.written shown.ensures.again)
 
 pub returns-in-Packets-clause-answer : goal.returns-in-Packets-clause-answer
 returns-in-Packets-clause-answer g c =

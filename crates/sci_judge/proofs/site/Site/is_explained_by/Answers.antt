@@ -15,10 +15,12 @@ pub returns-in-Lawful : goal.returns-in-Lawful
 returns-in-Lawful c = λ _.
     let accesses = c.args.self.now.accesses.now in
     let versions = c.args.versions.now in
-    let stamped : AreStamped accesses versions c.in-Some.logs = rw c.in-Some.is at c.in_ok-logs.ensures in (
-      c.in-Some.logs,
-      c.contents_with-last.result,
-      record {
+    let stamped : AreStamped accesses versions c.in-Some.logs = rw c.in-Some.is at c.in_ok-logs.ensures in
+    record {
+      logs = c.in-Some.logs;
+      contents = c.contents_with-last.result;
+      stamped = stamped;
+      explains = record {
         versions = record {
           own = stamped_own accesses versions c.in-Some.logs stamped;
           sixteen = stamped_sixteen accesses versions c.in-Some.logs stamped;
@@ -27,5 +29,5 @@ returns-in-Lawful c = λ _.
           agrees = c.if-not-is_last.ensures;
         };
         times = λ on. stamped_times accesses versions c.in-Some.logs stamped (c.in_ok-timely.ensures c.if-not-timely.false on);
-      },
-    )
+      };
+    }
