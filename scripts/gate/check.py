@@ -2,14 +2,17 @@
 """Proves each crate that changed since it was last proved here, or that stands on one that did: check.py [CRATE ..] of these
 crates and those below them, and without a name of all.
 
-Crates that don't stand on one another are proved side by side, as many as there are processors and memory. A line says which
-crate is proved, how many are, and how long it took; what rt prints is kept in out/check, and shown if a crate isn't proved.
-out/proved.json keeps a digest for each crate that was proved: of its files, of the crates that it stands on, and of the kit."""
+Crates that don't stand on one another are proved side by side, as many as there are processors and memory. rt locks the folders
+of all crates that a check reads, so each is checked on a copy of these folders, and what it made is put into the crate's own
+folder. A line says which crate is proved, how many are, and how long it took; what rt prints is kept in out/check, and shown if
+a crate isn't proved. out/proved.json keeps a digest for each crate that was proved: of its files, of the crates that it stands
+on, and of the kit."""
 
 import hashlib
 import json
 import os
 import re
+import shutil
 import subprocess
 import sys
 import time
@@ -56,6 +59,28 @@ def most_at_a_time():
     return max(1, min(len(os.sched_getaffinity(0)), memory // BYTES))
 
 
+def copy_for(name, uses):
+    """Copies the crate and those below it into a folder of their own, with the libraries that are built of them, and gives the folder."""
+    room, copied = f"{LOGS}/{name}", with_all_below([name], uses)
+    shutil.rmtree(room, ignore_errors=True)
+    os.makedirs(room)
+    shutil.copy2(f"{TOP}/HANDLES", room)
+    with open(f"{TOP}/crates.txt", encoding="utf-8") as read, open(f"{room}/crates.txt", "w", encoding="utf-8") as written:
+        written.writelines(line for line in read if re.split("[ :]", line)[0] in copied)
+    for it in copied:
+        shutil.copytree(f"{TOP}/crates/{it}", f"{room}/crates/{it}", ignore=shutil.ignore_patterns("out"))
+        made = "out" if it == name else "out/rlib"
+        if os.path.isdir(f"{TOP}/crates/{it}/{made}"):
+            shutil.copytree(f"{TOP}/crates/{it}/{made}", f"{room}/crates/{it}/{made}", copy_function=os.link)
+    return room
+
+
+def take_from(room, name):
+    """Puts what the check of the crate made into the crate's own folder."""
+    shutil.rmtree(f"{TOP}/crates/{name}/out", ignore_errors=True)
+    os.rename(f"{room}/crates/{name}/out", f"{TOP}/crates/{name}/out")
+
+
 class Checks:
     """Checks of crates, each begun once all that it stands on is proved; first those on which most others stand."""
 
@@ -63,6 +88,7 @@ class Checks:
         above = lambda name: sum(name in with_all_below([it], uses) for it in names)
         self.uses, self.left = uses, sorted(names, key=above, reverse=True)
         self.count, self.done, self.running = len(names), set(), {}
+        self.used = {it for libraries_of in uses.values() for it in libraries_of}
 
     def is_ready(self, name):
         return not any(it in self.left or it in self.running for it in self.uses[name])
@@ -70,8 +96,9 @@ class Checks:
     def begin(self, most):
         for name in [it for it in self.left if self.is_ready(it)][: most - len(self.running)]:
             self.left.remove(name)
+            words = ["rt", "lib" if name in self.used else "check"]
             with open(f"{LOGS}/{name}.log", "wb") as log:
-                run = subprocess.Popen(["rt", "check"], cwd=f"{TOP}/crates/{name}", stdout=log, stderr=log)
+                run = subprocess.Popen(words, cwd=f"{copy_for(name, self.uses)}/crates/{name}", stdout=log, stderr=log)
             self.running[name] = run, time.monotonic()
 
     def ended(self):
@@ -80,6 +107,9 @@ class Checks:
             for name, (run, start) in self.running.items():
                 if run.poll() is not None:
                     del self.running[name]
+                    if run.returncode == 0:
+                        take_from(f"{LOGS}/{name}", name)
+                    shutil.rmtree(f"{LOGS}/{name}")
                     return name, run.returncode == 0, (time.monotonic() - start) / 60
             time.sleep(0.2)
 
