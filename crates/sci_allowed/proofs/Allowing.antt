@@ -1,5 +1,5 @@
 -- What is shown where runs end are all outcomes of runs, and a sort and a `dedup` keep them.
-use Rattle.std.proofs.Common.{◌≡◌, ◌↔◌, ℕ, Bool, true, List, [], ◌∷◌, map, refl, sym, ap, subst, ◌∙◌, inl, inr}
+use Rattle.std.proofs.Common.{◌≡◌, ◌↔◌, ℕ, Bool, true, List, [], ◌∷◌, map, refl, sym, ap, subst, ◌∙◌}
 use Rattle.std.proofs.lemmas.List.{Elements.{All-contains, All-contains_itself, All-map, All-weaker}, Folds.{Any-from_list_any, list_any-from_Any}}
 use Rattle.std.proofs.lemmas.List.Sorted.{Contains-permutation, IsPermutation-map, IsPermutation-sym}
 use Rattle.std.proofs.lemmas.List.Kept.{IsStrictlySortedBy-dedup}
@@ -7,30 +7,15 @@ use Rattle.std.specs.{Cmp.{IsEquivalence}, List.{All, Any, Contains, dedup, Sort
 use Rattle.sci_words.specs.declared.event.Event.{Event}
 use Rattle.sci_text.specs.Script.{ScriptValue}
 use Rattle.sci_drive.specs.ScriptLogs.{size_for}
-use Rattle.sci_orders.proofs.Keeping.{contains_cases, contains_here, contains_none, contains_there, kept, left}
+use Rattle.sci_orders.proofs.Keeping.{contains_map, kept, left, map_contains}
 use Rattle.sci_orders.specs.{Orders.{HasRun}, Positions.{position_of}, declared.standing.Standing.{Standing}}
 use Rattle.sci_allowed.specs.Allowed.{AreAllowed, AreRows, AreSeenAt, HaveRuns, IsAllowed, IsLitmus, is_among, rows_of, seen_at, shares_of}
 use Rattle.sci_allowed.specs.Outcome.{IsPlaceWithin, Shown, outcome_cmp, shown_of, written_places}
-use Rattle.sci_allowed.specs.declared.{litmus.Litmus.{Litmus}, outcome.Outcome.{Outcome}, rows.Rows.{Rows}}
+use Rattle.sci_allowed.specs.declared.{litmus.Litmus.{Litmus}, outcome.Outcome.{Outcome}, rows.AllowedRow.{AllowedRow}}
 use Rattle.sci_allowed.proofs.{Sameness.{equal_outcome, same_outcome}, SeenAlike.{shown_same}}
 use Rattle.sci_allowed.specs.contracts.outcome.{OutcomeEq.TheImpl.Laws.{laws-law}, OutcomeOrd.TheImpl.Laws.{matches_eq-law, total-law}}
 use Rattle.sci_allowed.specs.contracts.outcome.OutcomePartialEq.TheImpl as TheEquality
 use Rattle.sci_allowed.specs.contracts.outcome.OutcomeOrd.TheImpl as TheOrder
-
--- what a function makes of the elements
-contains_map : {X Y : Type 0} (f : X → Y) (xs : List X) (x : X) → Contains xs x → Contains (map f xs) (f x)
-contains_map f [] x has = contains_none x has
-contains_map f (z ∷ xs) x has = elim (contains_cases z x xs has) [
-  | inl is ↦ subst (λ (w : _). Contains (f z ∷ map f xs) (f w)) is (contains_here (f z) (map f xs))
-  | inr later ↦ contains_there (f z) (f x) (map f xs) (contains_map f xs x later)
-]
-
-pub map_contains : {X Y : Type 0} (f : X → Y) (xs : List X) (y : Y) → Contains (map f xs) y → (x : X) × Contains xs x × (f x ≡ y)
-map_contains f [] y has = contains_none y has
-map_contains f (z ∷ xs) y has = elim (contains_cases (f z) y (map f xs) has) [
-  | inl is ↦ (z, contains_here z xs, is)
-  | inr later ↦ (let found = map_contains f xs y later in (found.0, contains_there z found.0 xs found.1, found.2))
-]
 
 -- an element of a list of what is seen is seen of an element
 contains_any : (outcomes : List Outcome) (shown : Shown) → Contains (map shown_of outcomes) shown → Any (λ o. shown_of o ≡ shown) outcomes
@@ -121,17 +106,19 @@ are_allowed litmus window standings outcomes sorted final good has seen moved or
 
 -- ---- rows
 
-pub row_outcomes : (tag : Outcome → Bool) (outcomes : List Outcome) → map (λ (row : Outcome × Bool). row.0) (map (λ o. (o, tag o)) outcomes) ≡ outcomes
+row_outcomes : (tag : Outcome → Bool) (outcomes : List Outcome)
+    → map (λ (row : AllowedRow). row.outcome) (map (λ o. record { outcome = o; in_order = tag o }) outcomes) ≡ outcomes
 row_outcomes tag [] = refl
 row_outcomes tag (o ∷ outcomes) = ap (λ (os : List Outcome). o ∷ os) (row_outcomes tag outcomes)
 
-pub are_rows : (script : ScriptValue) (window : ℕ) (rows : Rows) → AreAllowed script window rows.outcomes.items → AreAllowed script 1 rows.in_order.items
-    → AreRows script window (rows_of rows)
-are_rows script window rows all in_order =
-    let tag = is_among rows.in_order.items in
+pub are_rows : (script : ScriptValue) (window : ℕ) (outcomes in_order : List Outcome) → AreAllowed script window outcomes → AreAllowed script 1 in_order
+    → AreRows script window (rows_of outcomes in_order)
+are_rows script window outcomes in_order all some =
+    let tag = is_among in_order in
     record {
-      outcomes = subst (AreAllowed script window) (sym (row_outcomes tag rows.outcomes.items)) all;
-      tags = All-map (λ (row : Outcome × Bool). (row.1 ≡ true) ↔ IsAllowed script 1 (shown_of row.0)) (λ o. (o, tag o)) rows.outcomes.items
-          (All-weaker (Contains rows.outcomes.items) (λ o. (tag o ≡ true) ↔ IsAllowed script 1 (shown_of o))
-          (λ o there. among_is script rows.in_order.items o in_order) rows.outcomes.items (All-contains_itself rows.outcomes.items));
+      outcomes = subst (AreAllowed script window) (sym (row_outcomes tag outcomes)) all;
+      tags = All-map (λ (row : AllowedRow). (row.in_order ≡ true) ↔ IsAllowed script 1 (shown_of row.outcome))
+          (λ o. record { outcome = o; in_order = tag o }) outcomes
+          (All-weaker (Contains outcomes) (λ o. (tag o ≡ true) ↔ IsAllowed script 1 (shown_of o)) (λ o there. among_is script in_order o some) outcomes
+          (All-contains_itself outcomes));
     }

@@ -8,7 +8,7 @@ use Rattle.sci_core.specs.Size.{IsMachineSize, Size, size_of}
 use Rattle.sci_drive.specs.ScriptLogs.{size_for}
 use Rattle.sci_orders.proofs.{Reaching.{all_fit}, Stands.{within}, Ways.{holds_at}}
 use Rattle.sci_orders.specs.Orders.{HasRun, IsAmong, IsOrderOf, IsScriptOf}
-use Rattle.sci_orders.specs.Positions.{AreReachedIn, AreTooMany, Fits, Operations, lists_of, operation_count, own_of, position_of}
+use Rattle.sci_orders.specs.{Eager.{AreTooMany}, Positions.{AreReachedIn, Fits, Operations, lists_of, operation_count, own_of, position_of}}
 use Rattle.sci_orders.specs.{Witness.{seen}, declared.{fault.OrdersFault.{OrdersFault}, standing.{Answer.{Answer}, Standing.{Standing}}}}
 use Rattle.sci_allowed.proofs.Shares.{few_own, is_script, machine_size, size_is}
 use Rattle.sci_allowed.specs.Allowed.{AreSeenAt, HaveRuns, IsLitmus, seen_at, shares_of}

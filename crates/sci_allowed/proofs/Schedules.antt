@@ -9,7 +9,8 @@ use Rattle.sci_orders.proofs.{Following.{opening_order, order_leads}, Turns.{ord
 use Rattle.sci_orders.specs.Orders.{HasRun, IsOrderOf, IsScriptOf}
 use Rattle.sci_orders.specs.Positions.{IsReachedIn, Operations, Position, opening_position, operation_count, position_of}
 use Rattle.sci_orders.specs.{Ways.{IsWayTo}, Witness.{schedule_of, seen}, declared.standing.Standing.{Standing}}
-use Rattle.sci_allowed.proofs.{Allowing.{map_contains, seen_at_end}, Shares.{share_within}, Tens.{shares_few, ten_each}, Within.{schedule_within, way_within}}
+use Rattle.sci_orders.proofs.Keeping.{map_contains}
+use Rattle.sci_allowed.proofs.{Allowing.{seen_at_end}, Shares.{share_within}, Tens.{shares_few, ten_each}, Within.{schedule_within, way_within}}
 use Rattle.sci_allowed.specs.Allowed.{HaveRuns, IsAllowed, IsLitmus, IsRunTo, IsScheduleTo, IsTooLong, seen_at, shares_of}
 use Rattle.sci_allowed.specs.{Outcome.{shown_of}, declared.{fault.AllowedFault.{AllowedFault}, litmus.Litmus.{Litmus}, outcome.Outcome.{Outcome}}}
 

@@ -1,14 +1,14 @@
 -- What is true of all outcomes of a script is true of its runs.
-use Rattle.std.proofs.Common.{◌≡◌, ◌↔◌, ℕ, Bool, true, false, List, [], ◌∷◌, ◌++◌, Option, None, Some, refl, sym, ap, subst, ◌∙◌}
+use Rattle.std.proofs.Common.{◌≡◌, ◌↔◌, ℕ, Bool, true, false, List, [], ◌∷◌, ◌++◌, map, Option, None, Some, refl, sym, ap, subst, ◌∙◌}
 use Rattle.std.proofs.lemmas.List.{append-nil, Elements.{All-contains}, Folds.{Any-from_list_any, list_any-from_Any}}
 use Rattle.std.specs.{List.{list_all, list_any}, Prelude.{not, ◌&&◌, ◌||◌}}
 use Rattle.sci_text.specs.Script.{ScriptValue}
-use Rattle.sci_allowed.specs.Allowed.{AreAllowed, IsAllowed}
+use Rattle.sci_allowed.specs.Allowed.{AreRows, IsAllowed}
 use Rattle.sci_allowed.specs.{Condition.{satisfies}, Outcome.{Shown, shown_of}}
 use Rattle.sci_allowed.specs.Verdict.{AddsVerdict, IsTrueOf, IsVerdict, is_true_of, verdict_text}
 use Rattle.sci_allowed.specs.declared.condition.{Condition.{Condition}, FinalCondition.{FinalCondition}}
 use Rattle.sci_allowed.specs.declared.condition.Quantifier.{Quantifier, TheVariants.{Exists, Forall, Never}}
-use Rattle.sci_allowed.specs.declared.outcome.Outcome.{Outcome}
+use Rattle.sci_allowed.specs.declared.{outcome.Outcome.{Outcome}, rows.AllowedRow.{AllowedRow}}
 use Rattle.sci_command.specs.declared.outcome.Outcome as ending
 
 -- each passes if none fails
@@ -19,18 +19,28 @@ none_fails p (x ∷ xs) = elim (p x) as (λ b. (b && list_all p xs) ≡ not (not
   | false ↦ refl
 ]
 
-module _ (script : ScriptValue) (window : ℕ) (outcomes : List Outcome) (all : AreAllowed script window outcomes) (p : Shown → Bool) where
+-- a test of what a function gives
+over_map : {X Y : Type 0} (f : X → Y) (p : Y → Bool) (xs : List X) → list_any p (map f xs) ≡ list_any (λ x. p (f x)) xs
+over_map f p [] = refl
+over_map f p (x ∷ xs) = ap (λ (b : Bool). p (f x) || b) (over_map f p xs)
+
+abbrev outcome_of : AllowedRow → Outcome
+outcome_of row = row.outcome
+
+module _ (script : ScriptValue) (window : ℕ) (rows : List AllowedRow) (all : AreRows script window rows) (p : Shown → Bool) where
   -- what passes among the outcomes passes of a run
-  some_run : list_any (λ o. p (shown_of o)) outcomes ≡ true → (shown : Shown) × IsAllowed script window shown × (p shown ≡ true)
+  some_run : list_any (λ row. p (shown_of row.outcome)) rows ≡ true → (shown : Shown) × IsAllowed script window shown × (p shown ≡ true)
   some_run found =
-      let any = Any-from_list_any (λ o. p (shown_of o)) outcomes found in
-      (shown_of any.1, All-contains (λ o. IsAllowed script window (shown_of o)) outcomes any.1 all.each (any.0, any.2, any.3), any.4)
+      let outcomes = map outcome_of rows in
+      let any = Any-from_list_any (λ o. p (shown_of o)) outcomes (over_map outcome_of (λ o. p (shown_of o)) rows ∙ found) in
+      (shown_of any.1, All-contains (λ o. IsAllowed script window (shown_of o)) outcomes any.1 all.outcomes.each (any.0, any.2, any.3), any.4)
 
   -- and the other way round
-  some_outcome : (shown : Shown) → IsAllowed script window shown → p shown ≡ true → list_any (λ o. p (shown_of o)) outcomes ≡ true
+  some_outcome : (shown : Shown) → IsAllowed script window shown → p shown ≡ true → list_any (λ row. p (shown_of row.outcome)) rows ≡ true
   some_outcome shown allowed is =
-      let any = all.all shown allowed in
-      list_any-from_Any (λ o. p (shown_of o)) outcomes (any.0, any.1, any.2, any.3, ap p any.4 ∙ is)
+      let any = all.outcomes.all shown allowed in
+      sym (over_map outcome_of (λ o. p (shown_of o)) rows)
+      ∙ list_any-from_Any (λ o. p (shown_of o)) (map outcome_of rows) (any.0, any.1, any.2, any.3, ap p any.4 ∙ is)
 
 turned : (b : Bool) → not b ≡ true → b ≡ true → ⊥
 turned true is other = cc
@@ -44,33 +54,33 @@ stays : (b : Bool) → (not b ≡ true → ⊥) → b ≡ true
 stays true isnt = refl
 stays false isnt = absurd (isnt refl)
 
-pub true_of : (script : ScriptValue) (window : ℕ) (outcomes : List Outcome) → AreAllowed script window outcomes → (q : Quantifier) (condition : Condition)
-    → (is_true_of q condition outcomes ≡ true) ↔ IsTrueOf script window q condition
-true_of script window outcomes all Exists condition = (
-  some_run script window outcomes all (satisfies condition),
-  λ run. some_outcome script window outcomes all (satisfies condition) run.0 run.1 run.2,
+pub true_of : (script : ScriptValue) (window : ℕ) (rows : List AllowedRow) → AreRows script window rows → (q : Quantifier) (condition : Condition)
+    → (is_true_of q condition rows ≡ true) ↔ IsTrueOf script window q condition
+true_of script window rows all Exists condition = (
+  some_run script window rows all (satisfies condition),
+  λ run. some_outcome script window rows all (satisfies condition) run.0 run.1 run.2,
 )
-true_of script window outcomes all Forall condition =
+true_of script window rows all Forall condition =
     let fails = λ (shown : Shown). not (satisfies condition shown) in
-    let same = none_fails (λ (o : Outcome). satisfies condition (shown_of o)) outcomes in (
+    let same = none_fails (λ (row : AllowedRow). satisfies condition (shown_of row.outcome)) rows in (
       (λ is shown allowed. stays (satisfies condition shown) (λ failed.
-          turned (list_any (λ o. fails (shown_of o)) outcomes) (sym same ∙ is) (some_outcome script window outcomes all fails shown allowed failed))),
-      (λ each. same ∙ falls (list_any (λ o. fails (shown_of o)) outcomes) (λ found. (
-          let run = some_run script window outcomes all fails found in
+          turned (list_any (λ row. fails (shown_of row.outcome)) rows) (sym same ∙ is) (some_outcome script window rows all fails shown allowed failed))),
+      (λ each. same ∙ falls (list_any (λ row. fails (shown_of row.outcome)) rows) (λ found. (
+          let run = some_run script window rows all fails found in
           turned (satisfies condition run.0) run.2 (each run.0 run.1)))),
     )
-true_of script window outcomes all Never condition =
-    let some = list_any (λ o. satisfies condition (shown_of o)) outcomes in (
-      (λ is shown allowed so. turned some is (some_outcome script window outcomes all (satisfies condition) shown allowed so)),
+true_of script window rows all Never condition =
+    let some = list_any (λ row. satisfies condition (shown_of row.outcome)) rows in (
+      (λ is shown allowed so. turned some is (some_outcome script window rows all (satisfies condition) shown allowed so)),
       (λ none. falls some (λ found. (
-          let run = some_run script window outcomes all (satisfies condition) found in none run.0 run.1 run.2))),
+          let run = some_run script window rows all (satisfies condition) found in none run.0 run.1 run.2))),
     )
 
 -- a verdict on all outcomes is one on the script
-pub verdict_is : (script : ScriptValue) (window : ℕ) (outcomes : List Outcome) → AreAllowed script window outcomes → (last : Option FinalCondition)
-    (old new : List ℕ) (ends : ending.Outcome) → AddsVerdict last outcomes old new ends
+pub verdict_is : (script : ScriptValue) (window : ℕ) (rows : List AllowedRow) → AreRows script window rows → (last : Option FinalCondition)
+    (old new : List ℕ) (ends : ending.Outcome) → AddsVerdict last rows old new ends
     → (text : List ℕ) × (new ≡ old ++ text) × IsVerdict script window last text ends
-verdict_is script window outcomes all None old new ends (same, is) = ([], same ∙ sym (append-nil old), (refl, is))
-verdict_is script window outcomes all (Some said) old new ends (added, is) =
-    let is_true = is_true_of said.quantifier said.condition outcomes in
-    (verdict_text is_true, added, (is_true, refl, is, true_of script window outcomes all said.quantifier said.condition))
+verdict_is script window rows all None old new ends (same, is) = ([], same ∙ sym (append-nil old), (refl, is))
+verdict_is script window rows all (Some said) old new ends (added, is) =
+    let is_true = is_true_of said.quantifier said.condition rows in
+    (verdict_text is_true, added, (is_true, refl, is, true_of script window rows all said.quantifier said.condition))

@@ -6,9 +6,9 @@ use Rattle.sci_text.specs.{declared.fault.TextFaultKind.{TextFaultKind}, Schedul
 use Rattle.sci_core.specs.Size.{Size}
 use Rattle.sci_drive.specs.ScriptLogs.{size_for}
 use Rattle.sci_orders.specs.Orders.{HasRun, IsAmong, IsOrderOf}
-use Rattle.sci_orders.specs.Positions.{AreReachedIn, AreTooMany, Operations, Position, lists_of, operation_count, position_of}
+use Rattle.sci_orders.specs.{Eager.{AreTooMany}, Positions.{AreReachedIn, Operations, Position, lists_of, operation_count, position_of}}
 use Rattle.sci_orders.specs.{Witness.{seen}, declared.{fault.OrdersFault.{OrdersFault}, standing.Standing.{Standing}}}
-use Rattle.sci_allowed.specs.declared.{fault.AllowedFault.{AllowedFault}, litmus.Litmus.{Litmus}, outcome.Outcome.{Outcome}, rows.Rows.{Rows}}
+use Rattle.sci_allowed.specs.declared.{fault.AllowedFault.{AllowedFault}, litmus.Litmus.{Litmus}, outcome.Outcome.{Outcome}, rows.AllowedRow.{AllowedRow}}
 use Rattle.sci_allowed.specs.Outcome.{IsPlaceWithin, Shown, outcome_cmp, shown_at, shown_of, written_places}
 use Rattle.sci_allowed.specs.contracts.outcome.OutcomePartialEq.TheImpl as TheEquality
 use Rattle.sci_orders.specs.declared.fault.OrdersFault.TheVariants as orders
@@ -40,9 +40,9 @@ pub record AreAllowed (script : ScriptValue) (window : ℕ) (outcomes : List Out
   pub sorted : IsStrictlySortedBy outcome_cmp outcomes
 
 -- the same with whether a run can have the outcome in which each node goes in order
-pub record AreRows (script : ScriptValue) (window : ℕ) (rows : List (Outcome × Bool)) : Type 0 where
-  pub outcomes : AreAllowed script window (map (λ row. row.0) rows)
-  pub tags : All (λ row. (row.1 ≡ true) ↔ IsAllowed script 1 (shown_of row.0)) rows
+pub record AreRows (script : ScriptValue) (window : ℕ) (rows : List AllowedRow) : Type 0 where
+  pub outcomes : AreAllowed script window (map (λ row. row.outcome) rows)
+  pub tags : All (λ row. (row.in_order ≡ true) ↔ IsAllowed script 1 (shown_of row.outcome)) rows
 
 -- the schedule is one of the script's machine, and a run that ends with the outcome
 pub record IsScheduleTo (script : ScriptValue) (window : ℕ) (outcome : Outcome) (schedule : ScheduleValue) : Type 0 where
@@ -56,7 +56,7 @@ pub record IsScheduleTo (script : ScriptValue) (window : ℕ) (outcome : Outcome
 abbrev pub IsTooLong : ScriptValue → Type 0
 IsTooLong script = MAX_EVENTS < length script.operations * 10
 
--- some number of steps of the script leads to more positions than are looked at, with this window or in order
+-- some number of steps of a search leads to more positions than are looked at, with this window or in order
 abbrev pub IsTooBig : ScriptValue → (window : ℕ) → Type 0
 IsTooBig script window = AreTooMany script.lines (shares_of script) window ⊎ AreTooMany script.lines (shares_of script) 1
 
@@ -95,10 +95,6 @@ AreSeenAt script standings outcomes = map shown_of outcomes ≡ map (λ standing
 abbrev pub is_among : List Outcome → Outcome → Bool
 is_among outcomes outcome = list_any (λ other. (TheEquality.ghosts).eq other outcome) outcomes
 
--- the outcomes of runs in order are sorted, each once
-abbrev pub AreSorted : Rows → Type 0
-AreSorted rows = IsStrictlySortedBy outcome_cmp rows.in_order.items
-
--- the rows of the outcomes
-abbrev pub rows_of : Rows → List (Outcome × Bool)
-rows_of rows = map (λ outcome. (outcome, is_among rows.in_order.items outcome)) rows.outcomes.items
+-- the rows of the outcomes, where these are those of runs in order
+abbrev pub rows_of : (outcomes in_order : List Outcome) → List AllowedRow
+rows_of outcomes in_order = map (λ outcome. record { outcome = outcome; in_order = is_among in_order outcome }) outcomes

@@ -7,29 +7,29 @@ use Rattle.sci_text.specs.Script.{ScriptValue}
 use Rattle.sci_command.specs.{Answer.{IsAnswerBy}, Input.{IsReadAs}, declared.outcome.Outcome.TheVariants.{Done}}
 use Rattle.sci_drive.specs.Rounds.{most_pending}
 use Rattle.sci_allowed.specs.{Conditioned.{IsConditioned, IsConditionedFault}, Verdict.{IsVerdict}, declared.condition.FinalCondition.{FinalCondition}}
-use Rattle.sci_allowed.specs.declared.{outcome.Outcome.{Outcome}, allowed_report.AllowedRequest.{AllowedRequest}}
+use Rattle.sci_allowed.specs.declared.{outcome.Outcome.{Outcome}, allowed_report.AllowedRequest.{AllowedRequest}, rows.AllowedRow.{AllowedRow}}
 use Rattle.sci_allowed.specs.{Allowed.{AreAllowed, AreRows, IsScheduleTo, IsTooBig, IsTooLong}, OutcomeText.{outcome_text, sense_text}}
 use Rattle.sci_command.specs.declared.outcome.Outcome as ending
 
 -- ---- texts
 
 -- the outcome, a colon, and whether it is in program order
-unfoldable pub row_text : Outcome × Bool → List ℕ
-row_text row = outcome_text row.0 ++ (codes ":" ++ sense_text row.1)
+unfoldable pub row_text : AllowedRow → List ℕ
+row_text row = outcome_text row.outcome ++ (codes ":" ++ sense_text row.in_order)
 
 -- `outcomes N`, and the line feed
 unfoldable pub total_text : ℕ → List ℕ
 total_text rows = codes "outcomes" ++ (field rows ++ 10 ∷ [])
 
 -- a line for each row, and one for all
-abbrev pub rows_text : List (Outcome × Bool) → List ℕ
+abbrev pub rows_text : List AllowedRow → List ℕ
 rows_text rows = flat_map row_text rows ++ total_text (length rows)
 
 -- ---- the answer
 
 -- all rows of the script are written, and the verdict on its condition, if it has one
 pub record IsRowsText (script : ScriptValue) (window : ℕ) (last : Option FinalCondition) (text : List ℕ) (ends : ending.Outcome) : Type 0 where
-  pub rows : List (Outcome × Bool)
+  pub rows : List AllowedRow
   pub are : AreRows script window rows
   pub verdict : List ℕ
   pub is_verdict : IsVerdict script window last verdict ends

@@ -5,7 +5,7 @@ use Rattle.sci_text.specs.Script.{ScriptValue}
 use Rattle.sci_allowed.specs.{Allowed.{IsAllowed}, Condition.{satisfies}, Outcome.{Shown, shown_of}}
 use Rattle.sci_allowed.specs.declared.condition.{Condition.{Condition}, FinalCondition.{FinalCondition}}
 use Rattle.sci_allowed.specs.declared.condition.Quantifier.{Quantifier, TheVariants.{Exists, Forall, Never}}
-use Rattle.sci_allowed.specs.declared.outcome.Outcome.{Outcome}
+use Rattle.sci_allowed.specs.declared.rows.AllowedRow.{AllowedRow}
 use Rattle.sci_command.specs.declared.outcome.Outcome as ending
 use Rattle.sci_command.specs.declared.outcome.Outcome.TheVariants.{Done, Unlawful}
 
@@ -34,23 +34,23 @@ IsVerdict script window None text ends = (text ≡ []) × (ends ≡ Done)
 IsVerdict script window (Some said) text ends = (is_true : Bool) × (text ≡ verdict_text is_true) × (ends ≡ ending_of is_true)
     × ((is_true ≡ true) ↔ IsTrueOf script window said.quantifier said.condition)
 
--- ---- inside
+-- ---- of rows
 
-abbrev pub some_satisfies : Condition → List Outcome → Bool
-some_satisfies condition outcomes = list_any (λ outcome. satisfies condition (shown_of outcome)) outcomes
+abbrev pub some_satisfies : Condition → List AllowedRow → Bool
+some_satisfies condition rows = list_any (λ row. satisfies condition (shown_of row.outcome)) rows
 
-abbrev pub each_satisfies : Condition → List Outcome → Bool
-each_satisfies condition outcomes = list_all (λ outcome. satisfies condition (shown_of outcome)) outcomes
+abbrev pub each_satisfies : Condition → List AllowedRow → Bool
+each_satisfies condition rows = list_all (λ row. satisfies condition (shown_of row.outcome)) rows
 
--- whether a condition is true of these outcomes
-abbrev pub is_true_of : Quantifier → Condition → List Outcome → Bool
-is_true_of Exists condition outcomes = some_satisfies condition outcomes
-is_true_of Forall condition outcomes = each_satisfies condition outcomes
-is_true_of Never condition outcomes = not (some_satisfies condition outcomes)
+-- whether a condition is true of the outcomes of these rows
+abbrev pub is_true_of : Quantifier → Condition → List AllowedRow → Bool
+is_true_of Exists condition rows = some_satisfies condition rows
+is_true_of Forall condition rows = each_satisfies condition rows
+is_true_of Never condition rows = not (some_satisfies condition rows)
 
--- the verdict on these outcomes is added to a text, and the command ends so
-abbrev pub AddsVerdict : Option FinalCondition → List Outcome → (old new : List ℕ) → ending.Outcome → Type 0
-AddsVerdict None outcomes old new ends = (new ≡ old) × (ends ≡ Done)
-AddsVerdict (Some said) outcomes old new ends =
-    let is_true = is_true_of said.quantifier said.condition outcomes in
+-- the verdict on the outcomes of these rows is added to a text, and the command ends so
+abbrev pub AddsVerdict : Option FinalCondition → List AllowedRow → (old new : List ℕ) → ending.Outcome → Type 0
+AddsVerdict None rows old new ends = (new ≡ old) × (ends ≡ Done)
+AddsVerdict (Some said) rows old new ends =
+    let is_true = is_true_of said.quantifier said.condition rows in
     (new ≡ old ++ verdict_text is_true) × (ends ≡ ending_of is_true)

@@ -4,7 +4,7 @@ ghost use Rattle.std.specs.Prelude.{◌≡◌, ◌++◌, ℕ, Some, false, IfErr
 ghost use Rattle.sci_text.specs.Tap.{has_failed};
 ghost use Rattle.sci_command.specs.Answer.{HasAnswered};
 ghost use Rattle.sci_drive.specs.Rounds.{most_pending};
-ghost use Rattle.sci_allowed.specs.Allowed.{AreSorted, IsLitmus, IsTooBig, IsTooLong, kind_of, rows_of};
+ghost use Rattle.sci_allowed.specs.Allowed.{IsLitmus, IsTooBig, IsTooLong, kind_of};
 ghost use Rattle.sci_allowed.specs.AllowedAnswer.{IsAllowedAnswer, IsAllowedRefusal, IsShownText, IsTextOf, LacksNumber, row_text, rows_text as rows_text_of, total_text};
 ghost use Rattle.sci_allowed.specs.Verdict.{AddsVerdict};
 ghost use Rattle.sci_allowed.specs.declared.fault.AllowedFault.TheVariants.{NoRow, TooLong, TooMany};
@@ -13,9 +13,8 @@ use crate::condition::FinalCondition;
 use crate::conditioned::read_conditioned;
 use crate::fault::AllowedFault;
 use crate::litmus::Litmus;
-use crate::outcome::Outcome;
 use crate::outcome_text::{push_outcome, sense_words};
-use crate::rows::Rows;
+use crate::rows::{AllowedRow, TOO_MANY_POSITIONS, window_of};
 use crate::verdict::push_verdict;
 use sci_command::{Answer, Answered, Note, Outcome as Ending, Refusal, push_labelled};
 use sci_drive::Issuing;
@@ -32,24 +31,14 @@ pub struct AllowedRequest {
     pub show: Option<u64>,
 }
 
-/// How many operations of a node may wait.
-fn window_of(issuing: Issuing) -> usize
-    ensures { result ≡ most_pending issuing }
-{
-    match issuing {
-        Issuing::Ahead => 4,
-        Issuing::InOrder => 1,
-    }
-}
-
 /// Appends the line of a row.
 #[tactic(auto, unfolding(crate::specs::AllowedAnswer::row_text))]
-fn push_row(out: &mut Vec<u8>, outcome: &Outcome, in_order: bool) -> Result<(), AllocError>
-    ensures { OnOk result (out.new.items ≡ out.old.items ++ row_text (outcome.now, in_order)) }
+fn push_row(out: &mut Vec<u8>, row: &AllowedRow) -> Result<(), AllocError>
+    ensures { OnOk result (out.new.items ≡ out.old.items ++ row_text row.now) }
 {
-    push_outcome(out, outcome)?;
+    push_outcome(out, &row.outcome)?;
     push_text(out, ":")?;
-    push_text(out, sense_words(in_order))
+    push_text(out, sense_words(row.in_order))
 }
 
 /// Appends how many rows there are.
@@ -62,30 +51,28 @@ fn push_total(out: &mut Vec<u8>, rows: u64) -> Result<(), AllocError>
 }
 
 /// The text of the rows.
-fn rows_text(alloc: Global, rows: &Rows) -> Result<Vec<u8>, AllocError>
-    requires { AreSorted rows.now }
-    ensures { IfOk result (λ text. text.items ≡ rows_text_of (rows_of rows.now)) }
+fn rows_text(alloc: Global, rows: &[AllowedRow]) -> Result<Vec<u8>, AllocError>
+    ensures { IfOk result (λ text. text.items ≡ rows_text_of rows.now) }
 {
     let mut text = Vec::new(alloc);
-    for outcome in &rows.outcomes {
-        push_row(&mut text, outcome, rows.is_in_order(outcome))?;
+    for row in rows {
+        push_row(&mut text, row)?;
     }
-    push_total(&mut text, rows.outcomes.len() as u64)?;
+    push_total(&mut text, rows.len() as u64)?;
     Ok(text)
 }
 
 /// The text of the rows, and the verdict on the condition of the script, if it has one.
 fn judged_rows(
     alloc: Global,
-    rows: &Rows,
+    rows: &[AllowedRow],
     last: &Option<FinalCondition>,
 ) -> Result<Answer, AllocError>
-    requires { AreSorted rows.now }
-    ensures { IfOk result (λ answer. AddsVerdict last.now rows.now.outcomes.items
-        (rows_text_of (rows_of rows.now)) answer.text.items answer.outcome) }
+    ensures { IfOk result (λ answer. AddsVerdict last.now rows.now (rows_text_of rows.now)
+        answer.text.items answer.outcome) }
 {
     let mut text = rows_text(alloc, rows)?;
-    let outcome = push_verdict(&mut text, last, &rows.outcomes)?;
+    let outcome = push_verdict(&mut text, last, rows)?;
     Ok(Answer { text, outcome })
 }
 
@@ -130,14 +117,13 @@ fn answer_of(
         × (request.show ≡ Some number)
         × LacksNumber litmus.now.script (most_pending request.issuing) number) }
 {
-    let window = window_of(request.issuing);
     match request.show {
         None => {
-            let rows = Rows::of(alloc, litmus, window)?;
+            let rows = litmus.rows(alloc, request.issuing)?;
             Ok(judged_rows(alloc, &rows, last)?)
         }
         Some(number) => {
-            let text = shown_text(alloc, litmus, window, number)?;
+            let text = shown_text(alloc, litmus, window_of(request.issuing), number)?;
             Ok(Answer {
                 text,
                 outcome: Ending::Done,
@@ -154,9 +140,6 @@ fn no_row(alloc: Global, rows: usize) -> Result<Vec<u8>, AllocError> {
     Ok(note)
 }
 
-/// What is said of a script with too many positions.
-const TOO_MANY: &str = "some number of steps leads to more than 100,000 positions";
-
 /// What is said of a schedule with too many events.
 const TOO_LONG: &str = "the schedule has more than 500,000 events";
 
@@ -167,7 +150,7 @@ fn refusal_of(alloc: Global, fault: AllowedFault) -> Refusal
 {
     let (kind, note) = match fault {
         AllowedFault::Memory => (TextFaultKind::Memory, Note::Kind),
-        AllowedFault::TooMany => (TextFaultKind::TooMany, Note::Fixed(TOO_MANY)),
+        AllowedFault::TooMany => (TextFaultKind::TooMany, Note::Fixed(TOO_MANY_POSITIONS)),
         AllowedFault::TooLong => (TextFaultKind::TooMany, Note::Fixed(TOO_LONG)),
         AllowedFault::NoRow { rows } => {
             let note = match no_row(alloc, rows) {

@@ -22,3 +22,5 @@ pub use litmus::Litmus;
 pub use outcome::{Held, Outcome, Replied};
 pub use outcome_text::{push_outcome, sense_words};
 pub use place::{Place, written_places};
+pub use rows::{AllowedRow, TOO_MANY_POSITIONS};
+pub use verdict::push_verdict;

@@ -4,7 +4,7 @@ ghost use Rattle.std.specs.Prelude.{◌≡◌, length, map, slice_get, All, IfEr
 ghost use Rattle.sci_text.specs.Script.{IsScript};
 ghost use Rattle.sci_drive.specs.ScriptLogs.{size_for};
 ghost use Rattle.sci_orders.specs.declared.fault.OrdersFault.TheVariants.{TooMany};
-ghost use Rattle.sci_orders.specs.Positions.{AreTooMany, own_of, position_of};
+ghost use Rattle.sci_orders.specs.{Eager.{AreTooMany}, Positions.{own_of, position_of}};
 ghost use Rattle.sci_allowed.specs.Allowed.{AreAllowed, AreSeenAt, HaveRuns, IsLitmus, seen_at, shares_of};
 ghost use Rattle.sci_allowed.specs.{Condition.{has_term, replies_word as replies_word_of}, Outcome.{shown_of}};
 

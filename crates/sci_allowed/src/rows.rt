@@ -1,43 +1,65 @@
-//! The rows of a script: all outcomes that its runs can have, and a schedule to each.
+//! The rows of a script: all outcomes that its runs can have.
 
-ghost use Rattle.std.specs.Prelude.{◌≡◌, IfErr, IfOk};
+ghost use Rattle.std.specs.{Prelude.{◌≡◌, IfErr, IfOk}, List.Sorted.{IsStrictlySortedBy}};
+ghost use Rattle.sci_drive.specs.Rounds.{most_pending};
 ghost use Rattle.sci_orders.specs.declared.fault.OrdersFault.TheVariants.{TooMany};
-ghost use Rattle.sci_allowed.specs.Allowed.{AreRows, AreSorted, IsLitmus, IsTooBig, is_among, rows_of};
+ghost use Rattle.sci_allowed.specs.{Allowed.{AreRows, IsLitmus, IsTooBig, rows_of}, Outcome.{outcome_cmp}};
 
 use crate::litmus::Litmus;
 use crate::outcome::Outcome;
+use sci_drive::Issuing;
 use sci_orders::OrdersFault;
-use std::alloc::Global;
+use std::alloc::{AllocError, Global};
 
-/// The outcomes of a script's runs.
-#[derive(Drop)]
-pub(crate) struct Rows {
-    /// All outcomes, sorted.
-    pub(crate) outcomes: Vec<Outcome>,
-    /// Those of runs in which each node goes in order, sorted.
-    in_order: Vec<Outcome>,
+/// What is said of a script with too many positions.
+pub const TOO_MANY_POSITIONS: &str = "some number of steps leads to more than 100,000 positions";
+
+/// An outcome that runs of a script can have.
+#[derive(Debug, Drop)]
+pub struct AllowedRow {
+    /// The outcome.
+    pub outcome: Outcome,
+    /// Whether a run in which each node goes in order can have it, too.
+    pub in_order: bool,
 }
 
-impl Rows {
-    /// The rows of a script, if at most this number of operations waits at a node. Refused if memory is, and as too many if
-    /// some number of steps leads to more than 100,000 positions.
-    pub(crate) fn of(alloc: Global, litmus: &Litmus, window: usize) -> Result<Rows, OrdersFault>
-        requires { IsLitmus litmus.now }
-        ensures rows { IfOk result (λ rows. AreRows litmus.now.script window (rows_of rows)) }
-        ensures sorted { IfOk result AreSorted }
-        ensures many { IfErr result (λ fault. fault ≡ TooMany → IsTooBig litmus.now.script window) }
-    {
-        Ok(Rows {
-            outcomes: litmus.outcomes(alloc, window)?,
-            in_order: litmus.outcomes(alloc, 1)?,
-        })
+/// How many operations of a node may wait.
+pub(crate) fn window_of(issuing: Issuing) -> usize
+    ensures { result ≡ most_pending issuing }
+{
+    match issuing {
+        Issuing::Ahead => 4,
+        Issuing::InOrder => 1,
     }
+}
 
-    /// Whether an outcome is that of a run in which each node goes in order.
-    pub(crate) fn is_in_order(&self, outcome: &Outcome) -> bool
-        requires { AreSorted self.now }
-        ensures { result ≡ is_among self.now.in_order.items outcome.now }
+/// A row for each of these outcomes. Requires that those of runs in order are sorted. Refused if memory is.
+fn tagged(
+    alloc: Global,
+    outcomes: Vec<Outcome>,
+    in_order: &[Outcome],
+) -> Result<Vec<AllowedRow>, AllocError>
+    requires { IsStrictlySortedBy outcome_cmp in_order.now }
+    ensures { IfOk result (λ rows. rows.items ≡ rows_of outcomes.items in_order.now) }
+{
+    let mut rows = Vec::with_capacity(alloc, outcomes.len())?;
+    for outcome in outcomes {
+        let in_order = in_order.binary_search(&outcome).is_ok();
+        rows.push(AllowedRow { outcome, in_order })?;
+    }
+    Ok(rows)
+}
+
+impl Litmus {
+    /// A row for each outcome of the script's runs, by what was replied, then by the words, each once. Refused if memory is, and
+    /// as too many if some number of steps leads to more than 100,000 positions.
+    pub fn rows(&self, alloc: Global, issuing: Issuing) -> Result<Vec<AllowedRow>, OrdersFault>
+        requires { IsLitmus self.now }
+        ensures rows { IfOk result (λ rows. AreRows self.now.script (most_pending issuing) rows.items) }
+        ensures many { IfErr result (λ fault. fault ≡ TooMany → IsTooBig self.now.script (most_pending issuing)) }
     {
-        self.in_order.binary_search(outcome).is_ok()
+        let outcomes = self.outcomes(alloc, window_of(issuing))?;
+        let in_order = self.outcomes(alloc, 1)?;
+        Ok(tagged(alloc, outcomes, &in_order)?)
     }
 }

@@ -4,36 +4,36 @@ ghost use Rattle.std.specs.Prelude.{◌≡◌, IfOk};
 ghost use Rattle.sci_allowed.specs.Verdict.{AddsVerdict, each_satisfies, ending_of as ending_of_verdict, is_true_of, some_satisfies, verdict_text};
 
 use crate::condition::{Condition, FinalCondition, Quantifier};
-use crate::outcome::Outcome;
+use crate::rows::AllowedRow;
 use sci_command::Outcome as Ending;
 use sci_text::push_text;
 use std::alloc::AllocError;
 
 impl Condition {
-    /// Whether some of the outcomes satisfies the condition.
-    fn holds_of_some(&self, outcomes: &[Outcome]) -> bool
-        ensures { result ≡ some_satisfies self.now outcomes.now }
+    /// Whether the outcome of some row satisfies the condition.
+    fn holds_of_some(&self, rows: &[AllowedRow]) -> bool
+        ensures { result ≡ some_satisfies self.now rows.now }
     {
-        outcomes.iter().any(|outcome| self.holds(outcome))
+        rows.iter().any(|row| self.holds(&row.outcome))
     }
 
-    /// Whether each of the outcomes satisfies the condition.
-    fn holds_of_each(&self, outcomes: &[Outcome]) -> bool
-        ensures { result ≡ each_satisfies self.now outcomes.now }
+    /// Whether that of each row does.
+    fn holds_of_each(&self, rows: &[AllowedRow]) -> bool
+        ensures { result ≡ each_satisfies self.now rows.now }
     {
-        outcomes.iter().all(|outcome| self.holds(outcome))
+        rows.iter().all(|row| self.holds(&row.outcome))
     }
 }
 
 impl FinalCondition {
     /// Whether all outcomes of a script are as the condition says.
-    fn is_true_of(&self, outcomes: &[Outcome]) -> bool
-        ensures { result ≡ is_true_of self.now.quantifier self.now.condition outcomes.now }
+    fn is_true_of(&self, rows: &[AllowedRow]) -> bool
+        ensures { result ≡ is_true_of self.now.quantifier self.now.condition rows.now }
     {
         match self.quantifier {
-            Quantifier::Exists => self.condition.holds_of_some(outcomes),
-            Quantifier::Forall => self.condition.holds_of_each(outcomes),
-            Quantifier::Never => !self.condition.holds_of_some(outcomes),
+            Quantifier::Exists => self.condition.holds_of_some(rows),
+            Quantifier::Forall => self.condition.holds_of_each(rows),
+            Quantifier::Never => !self.condition.holds_of_some(rows),
         }
     }
 }
@@ -56,18 +56,19 @@ fn verdict_words(is_true: bool) -> &'static str
     if is_true { "Yes\n" } else { "No\n" }
 }
 
-/// Appends whether all outcomes of a script are as its condition says, if it has one, and gives how the command ends.
-pub(crate) fn push_verdict(
+/// Appends whether all outcomes of a script, of which each has a row, are as its condition says, if it has one, and gives how the
+/// command ends. Refused if memory is.
+pub fn push_verdict(
     out: &mut Vec<u8>,
     last: &Option<FinalCondition>,
-    outcomes: &[Outcome],
+    rows: &[AllowedRow],
 ) -> Result<Ending, AllocError>
-    ensures { IfOk result (AddsVerdict last.now outcomes.now out.old.items out.new.items) }
+    ensures { IfOk result (AddsVerdict last.now rows.now out.old.items out.new.items) }
 {
     let Some(said) = last else {
         return Ok(Ending::Done);
     };
-    let is_true = said.is_true_of(outcomes);
+    let is_true = said.is_true_of(rows);
     push_text(out, verdict_words(is_true))?;
     Ok(ending_of(is_true))
 }

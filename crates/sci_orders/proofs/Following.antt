@@ -30,11 +30,11 @@ false_unless : (b : Bool) → (b ≡ true → ⊥) → b ≡ false
 false_unless true not_ = absurd (not_ refl)
 false_unless false not_ = refl
 
-not_true : (b : Bool) → not b ≡ true → b ≡ false
+pub not_true : (b : Bool) → not b ≡ true → b ≡ false
 not_true true is = cc
 not_true false is = refl
 
-free_of : (operations : Operations) (p : Position) (n i : ℕ) → is_blocked (own_of operations n) (answers_of p n) i ≡ false
+pub free_of : (operations : Operations) (p : Position) (n i : ℕ) → is_blocked (own_of operations n) (answers_of p n) i ≡ false
     → IsFree operations p n i
 free_of operations p n i none j is on =
     let here = both (is_waiting (answer_at p n j)) ((operation_at operations n j).line == (operation_at operations n i).line)
@@ -49,6 +49,14 @@ none_blocks operations p n i free = none_any (blocks (own_of operations n) (answ
     false_unless (blocks (own_of operations n) (answers_of p n) i j) (λ is. (
     let parts = and_parts (is_waiting (answer_at p n j)) ((operation_at operations n j).line == (operation_at operations n i).line) is in
     free j (waiting_is (answer_at p n j) parts.0) (eqb-true (operation_at operations n j).line (operation_at operations n i).line parts.1))))
+
+-- the next operation of a node can be issued if none waits on its line, and few enough wait
+pub may_if : (operations : Operations) (window : ℕ) (p : Position) (n : ℕ) → IsFree operations p n (length (answers_of p n)) → waiting_at p n < window
+    → may_issue_next (own_of operations n) (answers_of p n) window (length (answers_of p n)) ≡ true
+may_if operations window p n free few =
+    let i = length (answers_of p n) in
+    ap (λ (b : Bool). b && (not (is_blocked (own_of operations n) (answers_of p n) i) && nat_lt (waiting_at p n) window)) (eq-eqb i i refl)
+    ∙ (ap (λ (b : Bool). not b && nat_lt (waiting_at p n) window) (none_blocks operations p n i free) ∙ lt-ltb (waiting_at p n) window few)
 
 -- ---- a step of a position is an event of the memory
 
@@ -166,9 +174,9 @@ pub order_for : (size : Size) (operations : Operations) (window count : ℕ) (p 
 order_for size operations window zero p known is =
     subst (λ (q : Position). (order : List Event) × IsOrderFor size operations window zero q order) (sym is)
     ([], opening_order size operations window known)
-order_for size operations window (suc count) p known (q, n, i, reached, below, step) =
+order_for size operations window (suc count) p known (q, reached, s) =
     let before = order_for size operations window count q known reached in
-    (before.0 ++ event_at operations q n i ∷ [], order_more size operations window count q p before.0 n i known before.1 below step)
+    (before.0 ++ event_at operations q s.node s.place ∷ [], order_more size operations window count q p before.0 s.node s.place known before.1 s.below s.step)
 
 -- an order goes on with the events of a way
 pub order_leads : (size : Size) (operations : Operations) (window count : ℕ) (q p : Position) (before order : List Event) → IsScriptOf size operations
@@ -272,11 +280,7 @@ module _ (size : Size) (operations : Operations) (window : ℕ) (plain : Plain) 
   unfolding step_at
   step_issues n below free few =
       let i = length (answers_of p n) in
-      let none = none_blocks operations p n i free in
-      let room = lt-ltb (waiting_at p n) window few in
-      let may : may_issue_next (own_of operations n) (answers_of p n) window i ≡ true =
-      ap (λ (b : Bool). b && (not (is_blocked (own_of operations n) (answers_of p n) i) && nat_lt (waiting_at p n) window)) (eq-eqb i i refl)
-      ∙ (ap (λ (b : Bool). not b && nat_lt (waiting_at p n) window) none ∙ room) in
+      let may = may_if operations window p n free few in
       ap (step_as operations window p n i) (slice_get_past (answers_of p n) i (omega arith))
       ∙ ap (λ (b : Bool). if b then Some (with_issued_at p n) else None) may
 
@@ -338,7 +342,7 @@ go_on size operations window e order plain done p count waiting rest s allowed i
     (subst (λ (x : Plain). AreAllowed x order) to allowed)
     (λ m. append_cancel_left (issues_at m (e ∷ [])) (issues_at m order) (rest_of operations s.position m) (issued m ∙ s.goes.rest m))
     few (λ m. after_same e waiting (waiting_at p) same m ∙ sym (s.goes.waits m))
-    (p, s.node, s.place, reached, s.below, s.step))
+    (p, reached, record { node = s.node; place = s.place; below = s.below; step = s.step }))
 
 issue_split : (op : Op) (ops : List Op) (b : Bool) → (if b then op ∷ [] else []) ++ ops ≡ (if b then op ∷ ops else ops)
 issue_split op ops true = refl

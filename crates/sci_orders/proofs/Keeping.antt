@@ -35,14 +35,14 @@ flat_contains f (z ∷ xs) y has = elim (Contains-append_cases (f z) (flat_map f
 
 -- ---- what a function makes of the elements
 
-contains_map : {X Y : Type 0} (f : X → Y) (xs : List X) (x : X) → Contains xs x → Contains (map f xs) (f x)
+pub contains_map : {X Y : Type 0} (f : X → Y) (xs : List X) (x : X) → Contains xs x → Contains (map f xs) (f x)
 contains_map f [] x has = contains_none x has
 contains_map f (z ∷ xs) x has = elim (contains_cases z x xs has) [
   | inl is ↦ subst (λ (w : _). Contains (f z ∷ map f xs) (f w)) is (contains_here (f z) (map f xs))
   | inr later ↦ contains_there (f z) (f x) (map f xs) (contains_map f xs x later)
 ]
 
-map_contains : {X Y : Type 0} (f : X → Y) (xs : List X) (y : Y) → Contains (map f xs) y → (x : X) × Contains xs x × (f x ≡ y)
+pub map_contains : {X Y : Type 0} (f : X → Y) (xs : List X) (y : Y) → Contains (map f xs) y → (x : X) × Contains xs x × (f x ≡ y)
 map_contains f [] y has = contains_none y has
 map_contains f (z ∷ xs) y has = elim (contains_cases (f z) y (map f xs) has) [
   | inl is ↦ (z, contains_here z xs, is)

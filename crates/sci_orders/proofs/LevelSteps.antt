@@ -1,30 +1,145 @@
 -- What one step from a level leads to, sorted and each once.
-use Rattle.std.proofs.Common.{◌≡◌, ℕ, Bool, true, List, [], ◌∷◌, map, sym, subst, inl, inr}
+use Rattle.std.proofs.Common.{◌≡◌, ℕ, suc, ◌+◌, Bool, true, List, [], ◌∷◌, ◌++◌, length, map, refl, sym, ap, subst, ◌∙◌, arith, add-one, inl, inr}
 use Rattle.std.specs.{Ordering.{eq_by_cmp}, declared.cmp.Ordering.{Ordering, TheVariants.{Less}}, List.{AllByRecursion, Sorted.{IsStrictlySortedBy}}}
 use Rattle.std.proofs.lemmas.Map.Keys.{sorted_head, sorted_tail}
-use Rattle.std.proofs.lemmas.List.{Elements.{All-weaker, All-contains_itself}, Sorted.{Contains-permutation, IsPermutation-map, IsPermutation-sym}}
-use Rattle.std.specs.{Cmp.{IsEquivalence}, List.{Contains, dedup, flat_map, Sorted.{IsPermutation}}}
-use Rattle.sci_orders.proofs.Keeping.{contains_cases, contains_flat, contains_none, flat_contains, kept, left}
-use Rattle.sci_orders.specs.{Positions.{AreOnce, AreStepsFrom, Operations, Position, position_of, steps_from}, declared.standing.Standing.{Standing}}
+use Rattle.std.proofs.lemmas.List.Elements.{All-append, All-cons, All-contains, All-contains_itself, All-nil, All-weaker, Contains-append_cases}
+use Rattle.std.proofs.lemmas.List.{Elements.{Contains-append_left, Contains-append_right}, Sorted.{Contains-permutation, IsPermutation-map, IsPermutation-sym}}
+use Rattle.std.specs.{Cmp.{IsEquivalence}, List.{All, Contains, dedup, flat_map, range_with_len, Sorted.{IsPermutation}}}
+use Rattle.sci_orders.proofs.Changes.{list_below, waiting_below}
+use Rattle.sci_orders.proofs.Eager.{found_reached, issue_step, step_is}
+use Rattle.sci_orders.proofs.Keeping.{contains_cases, contains_flat, contains_here, contains_none, flat_contains, kept, left}
+use Rattle.sci_orders.proofs.Reaching.{below_place, given, gives, place_below, reached_fits}
+use Rattle.sci_orders.specs.Eager.{AddsSteps, AreFoundIn, AreStepsFrom, IsEagerStep, IsFirstIssue, IsFoundIn, MayIssue}
+use Rattle.sci_orders.specs.{Positions.{AreOnce, AreWithin, Fits, IsStep, Operations, Position, position_of}, declared.standing.Standing.{Standing}}
+use Rattle.sci_orders.specs.Positions.{own_of, step_at, steps_of, with_issued_at}
 
+-- ---- the steps from a position
+
+-- each step of a node
+abbrev all_steps : Operations → ℕ → Position → List Position
+all_steps operations window p = flat_map (steps_of operations window p) (range_with_len 0 (length operations))
+
+from_step : (operations : Operations) (window : ℕ) (p q : Position) → Contains (all_steps operations window p) q → IsStep operations window p q
+from_step operations window p q has =
+    let at = flat_contains (steps_of operations window p) (range_with_len 0 (length operations)) q has in
+    let step = given (step_at operations window p at.0) (range_with_len 0 (length (own_of operations at.0))) q at.2 in
+    record { node = at.0; place = step.0; below = place_below (length (own_of operations at.0)) step.0 step.1; step = step.2 }
+
+to_step : (operations : Operations) (window : ℕ) (p q : Position) → IsStep operations window p q → Contains (all_steps operations window p) q
+to_step operations window p q s =
+    contains_flat (steps_of operations window p) (range_with_len 0 (length operations)) s.node q
+    (below_place (length operations) s.node (list_below operations s.node s.place s.below))
+    (gives (step_at operations window p s.node) (range_with_len 0 (length (own_of operations s.node))) s.place q
+    (below_place (length (own_of operations s.node)) s.place s.below) s.step)
+
+-- where no node may issue, each step is looked at
+pub all_add : (operations : Operations) (window : ℕ) (p : Position) (old new : List Position) → ((m : ℕ) → MayIssue operations window p m → ⊥)
+    → new ≡ old ++ flat_map (steps_of operations window p) (range_with_len 0 (length operations)) → AddsSteps operations window p old new
+all_add operations window p old new none is = record {
+  steps = all_steps operations window p;
+  are = is;
+  each = All-weaker (Contains (all_steps operations window p)) (IsEagerStep operations window p)
+      (λ q has. record { taken = from_step operations window p q has; issues = λ m may. absurd (none m may) }) (all_steps operations window p)
+      (All-contains_itself (all_steps operations window p));
+  all = λ q eager. to_step operations window p q eager.taken;
+}
+
+-- a step that is looked at is the Issue of the first node that may issue
+only_step : (operations : Operations) (window : ℕ) (p q r : Position) → IsFirstIssue operations window p q → IsEagerStep operations window p r → q ≡ r
+only_step operations window p q r first eager =
+    let s = eager.taken in
+    let mine = eager.issues first.node first.may in
+    elim (step_is operations window p r s.node s.place s.below s.step) [
+      | inl issues ↦
+          let low = first.first s.node issues.may in
+          let most = mine.1 in
+          let same : first.node ≡ s.node = omega arith in
+          first.is ∙ (ap (with_issued_at p) same ∙ sym issues.is)
+      | inr performs ↦
+          let below = waiting_below p s.node s.place performs.waits in
+          let at = mine.0 in
+          absurd (omega arith)
+    ]
+
+pub first_adds : (operations : Operations) (window : ℕ) (p q : Position) (old new : List Position) → IsFirstIssue operations window p q
+    → new ≡ old ++ q ∷ [] → AddsSteps operations window p old new
+first_adds operations window p q old new first is = record {
+  steps = q ∷ [];
+  are = is;
+  each = All-cons (IsEagerStep operations window p) q [] (subst (IsEagerStep operations window p) (sym first.is) (record {
+    taken = issue_step operations window p first.node first.may;
+    issues = λ m may. (refl, first.first m may);
+  })) (All-nil (IsEagerStep operations window p));
+  all = λ r eager. subst (Contains (q ∷ [])) (only_step operations window p q r first eager) (contains_here q []);
+}
+
+-- ---- the steps from a level
+
+-- from none there is none
+pub none_from : (operations : Operations) (window : ℕ) → AreStepsFrom operations window [] []
+none_from operations window = record {
+  each = All-nil (λ p. (q : Position) × Contains [] q × IsEagerStep operations window q p);
+  all = λ p q has step. contains_none q has;
+}
+
+-- those from one position more
+pub more_from : (operations : Operations) (window : ℕ) (p : Position) (old level new next : List Position) → AreStepsFrom operations window old level
+    → AddsSteps operations window p level next → new ≡ old ++ p ∷ [] → AreStepsFrom operations window new next
+more_from operations window p old level new next from adds is =
+    let longer = old ++ p ∷ [] in
+    let comes = λ (r : Position). (q : Position) × Contains longer q × IsEagerStep operations window q r in
+    subst (λ (ps : List Position). AreStepsFrom operations window ps next) (sym is)
+    (subst (AreStepsFrom operations window longer) (sym adds.are) (record {
+      each = All-append comes level adds.steps
+          (All-weaker (λ r. (q : Position) × Contains old q × IsEagerStep operations window q r) comes
+          (λ r was. (was.0, Contains-append_left old (p ∷ []) was.0 was.1, was.2)) level from.each)
+          (All-weaker (IsEagerStep operations window p) comes
+          (λ r step. (p, Contains-append_right old (p ∷ []) p (contains_here p []), step)) adds.steps adds.each);
+      all = λ r q has step. elim (Contains-append_cases old (p ∷ []) q has) [
+        | inl was ↦ Contains-append_left level adds.steps r (from.all r q was step)
+        | inr here ↦ elim (contains_cases p q [] here) [
+          | inl same ↦ Contains-append_right level adds.steps r (adds.all r (subst (λ (x : Position). IsEagerStep operations window x r) (sym same) step))
+          | inr none ↦ contains_none q none
+        ]
+      ];
+    }))
+
+-- what is collected stays when it is sorted and each is kept once
 pub steps_kept : (operations : Operations) (window : ℕ) (E : Standing → Standing → Bool) (old : List Position) (next sorted final : List Standing)
-    → IsEquivalence E → ((a b : Standing) → E a b ≡ true → position_of a ≡ position_of b) → map position_of next ≡ flat_map (steps_from operations window) old
+    → IsEquivalence E → ((a b : Standing) → E a b ≡ true → position_of a ≡ position_of b) → AreStepsFrom operations window old (map position_of next)
     → IsPermutation next sorted → final ≡ dedup E sorted → AreStepsFrom operations window old (map position_of final)
-steps_kept operations window E old next sorted final e same joined moved is =
-    let all = flat_map (steps_from operations window) old in
+steps_kept operations window E old next sorted final e same from moved is =
     let over : IsPermutation (map position_of next) (map position_of sorted) = IsPermutation-map position_of next sorted moved in
-    let back : (p : Position) → Contains (map position_of final) p → Contains all p = λ p has.
-    subst (λ (ps : List Position). Contains ps p) joined
-    (Contains-permutation (map position_of sorted) (map position_of next) p (IsPermutation-sym (map position_of next) (map position_of sorted) over)
-    (left E position_of sorted p (subst (λ (ss : List Standing). Contains (map position_of ss) p) is has))) in
+    let back : (p : Position) → Contains (map position_of final) p → Contains (map position_of next) p = λ p has.
+    Contains-permutation (map position_of sorted) (map position_of next) p (IsPermutation-sym (map position_of next) (map position_of sorted) over)
+    (left E position_of sorted p (subst (λ (ss : List Standing). Contains (map position_of ss) p) is has)) in
     record {
-      each = All-weaker (Contains (map position_of final)) (λ p. (q : Position) × Contains old q × Contains (steps_from operations window q) p)
-          (λ p has. flat_contains (steps_from operations window) old p (back p has)) (map position_of final) (All-contains_itself (map position_of final));
+      each = All-weaker (Contains (map position_of final)) (λ p. (q : Position) × Contains old q × IsEagerStep operations window q p)
+          (λ p has. All-contains (λ r. (q : Position) × Contains old q × IsEagerStep operations window q r) (map position_of next) p from.each (back p has))
+          (map position_of final) (All-contains_itself (map position_of final));
       all = λ p q has step.
           subst (λ (ss : List Standing). Contains (map position_of ss) p) (sym is) (kept E position_of e same sorted p
-          (Contains-permutation (map position_of next) (map position_of sorted) p over
-          (subst (λ (ps : List Position). Contains ps p) (sym joined) (contains_flat (steps_from operations window) old q p has step))));
+          (Contains-permutation (map position_of next) (map position_of sorted) p over (from.all p q has step)));
     }
+
+-- ---- one level more
+
+pub found_more : (lines : ℕ) (operations : Operations) (window count more : ℕ) (old new : List Position) → more ≡ count + 1
+    → AreFoundIn lines operations window count old → AreStepsFrom operations window old new → AreFoundIn lines operations window more new
+found_more lines operations window count more old new is so steps =
+    let next : more ≡ suc count = is ∙ add-one count in
+    subst (λ (k : ℕ). AreFoundIn lines operations window k new) (sym next) (record {
+      each = All-weaker (λ p. (q : Position) × Contains old q × IsEagerStep operations window q p) (IsFoundIn lines operations window (suc count))
+          (λ p from. (from.0, All-contains (IsFoundIn lines operations window count) old from.0 so.each from.1, from.2)) new steps.each;
+      all = λ p way. steps.all p way.0 (so.all way.0 way.1) way.2;
+    })
+
+-- what is found fits the script
+pub found_fit : (lines : ℕ) (operations : Operations) (window count : ℕ) (positions : List Position) → AreWithin lines operations
+    → AreFoundIn lines operations window count positions → All (Fits operations) positions
+found_fit lines operations window count positions within so =
+    All-weaker (IsFoundIn lines operations window count) (Fits operations)
+    (λ p found. reached_fits lines operations window count p within (found_reached lines operations window count p found)) positions so.each
 
 -- ---- of standings in order no two are one position
 

@@ -13,6 +13,7 @@ pub mod Performing
 pub mod ScriptOrders
 pub mod Following
 pub mod Reaching
+pub mod Eager
 pub mod Progress
 pub mod Exactly
 pub mod Wide

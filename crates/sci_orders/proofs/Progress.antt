@@ -75,8 +75,8 @@ none_taken (suc count) =
 reached_counts : (lines : ℕ) (operations : Operations) (window count : ℕ) (p : Position) → AreWithin lines operations
     → IsReachedIn lines operations window count p → all_steps_taken p ≡ count
 reached_counts lines operations window zero p within is = ap all_steps_taken is ∙ none_taken (length operations)
-reached_counts lines operations window (suc count) p within (q, n, i, reached, below, step) =
-    step_counts operations window q p n i (reached_fits lines operations window count q within reached) below step
+reached_counts lines operations window (suc count) p within (q, reached, s) =
+    step_counts operations window q p s.node s.place (reached_fits lines operations window count q within reached) s.below s.step
     ∙ ap suc (reached_counts lines operations window count q within reached)
 
 -- ---- two steps for each

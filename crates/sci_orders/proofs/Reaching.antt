@@ -1,4 +1,4 @@
--- One level after another.
+-- What is reached fits the script.
 use Rattle.std.proofs.Common.{◌≡◌, ℕ, zero, suc, ◌+◌, ◌<◌, Bool, true, false, if◌then◌else◌, List, [], ◌∷◌, length, Option, Some, None, refl, sym, ap, subst}
 use Rattle.std.proofs.Common.{◌∙◌, arith, inl, inr, add-one}
 use Rattle.std.proofs.lemmas.{Bool.{and_parts, eqb-true}, List.{Elements.{All-contains, All-weaker}, FromFn.{get_or-range_with_len, length-range_with_len}}}
@@ -6,8 +6,8 @@ use Rattle.std.specs.{List.{All, Contains, cons_option, filter_map, range_with_l
 use Rattle.sci_core.proofs.Basics.Options.{of_some}
 use Rattle.sci_orders.proofs.Changes.{issued_fits, list_below, performed_fits}
 use Rattle.sci_orders.proofs.{Keeping.{contains_flat, contains_here, contains_there, contains_cases, contains_none, flat_contains}, Stands.{opening_fits}}
-use Rattle.sci_orders.specs.Positions.{AreReachedIn, AreStepsFrom, AreWithin, Fits, IsReachedIn, Operations, Position, answers_of, may_issue_next}
-use Rattle.sci_orders.specs.Positions.{operation_at, own_of, step_as, step_at, steps_from, steps_of, with_issued_at}
+use Rattle.sci_orders.specs.Positions.{AreReachedIn, AreWithin, Fits, IsReachedIn, Operations, Position, answers_of, may_issue_next}
+use Rattle.sci_orders.specs.Positions.{operation_at, own_of, step_as, step_at, with_issued_at}
 use Rattle.sci_orders.specs.declared.standing.Answer.{Answer}
 use Rattle.sci_orders.specs.declared.standing.Answer.TheVariants as answer
 
@@ -36,50 +36,16 @@ gives f (z ∷ xs) x y has is = elim (contains_cases z x xs has) [
   | inr later ↦ gives_if (f z) (filter_map f xs) y (gives f xs x y later is)
 ]
 
-place_below : (n i : ℕ) → Contains (range_with_len 0 n) i → i < n
+pub place_below : (n i : ℕ) → Contains (range_with_len 0 n) i → i < n
 place_below n i (k, below, at) =
     let long = length-range_with_len 0 n in
     let is = get_or-range_with_len 0 n k i (omega arith) in
     omega arith
 
-below_place : (n i : ℕ) → i < n → Contains (range_with_len 0 n) i
+pub below_place : (n i : ℕ) → i < n → Contains (range_with_len 0 n) i
 below_place n i below =
     let long = length-range_with_len 0 n in
     (i, (omega arith), get_or-range_with_len 0 n i i below ∙ (let same : 0 + i ≡ i = omega arith in same))
-
--- ---- one level more
-
-so_each : (lines : ℕ) (operations : Operations) (window count : ℕ) (positions : List Position) → AreReachedIn lines operations window count positions
-    → (q : Position) → Contains positions q → IsReachedIn lines operations window count q
-so_each lines operations window count positions so q has = All-contains (IsReachedIn lines operations window count) positions q so.each has
-
--- a step of some position is a step of one node
-from_step : (operations : Operations) (window : ℕ) (p q : Position) → Contains (steps_from operations window p) q
-    → (n : ℕ) × (i : ℕ) × (i < length (own_of operations n)) × (step_at operations window p n i ≡ Some q)
-from_step operations window p q has =
-    let at = flat_contains (steps_of operations window p) (range_with_len 0 (length operations)) q has in
-    let n = at.0 in
-    let step = given (step_at operations window p n) (range_with_len 0 (length (own_of operations n))) q at.2 in
-    (n, step.0, place_below (length (own_of operations n)) step.0 step.1, step.2)
-
-to_step : (operations : Operations) (window : ℕ) (p q : Position) (n i : ℕ) → i < length (own_of operations n) → step_at operations window p n i ≡ Some q
-    → Contains (steps_from operations window p) q
-to_step operations window p q n i below step =
-    contains_flat (steps_of operations window p) (range_with_len 0 (length operations)) n q
-    (below_place (length operations) n (list_below operations n i below))
-    (gives (step_at operations window p n) (range_with_len 0 (length (own_of operations n))) i q (below_place (length (own_of operations n)) i below) step)
-
-pub reached_more : (lines : ℕ) (operations : Operations) (window count more : ℕ) (old new : List Position) → more ≡ count + 1
-    → AreReachedIn lines operations window count old → AreStepsFrom operations window old new → AreReachedIn lines operations window more new
-reached_more lines operations window count more old new is so steps =
-    let next : more ≡ suc count = is ∙ add-one count in
-    subst (λ (k : ℕ). AreReachedIn lines operations window k new) (sym next) (record {
-      each = All-weaker (λ p. (q : Position) × Contains old q × Contains (steps_from operations window q) p)
-          (IsReachedIn lines operations window (suc count)) (λ p from. (
-          let step = from_step operations window from.0 p from.2 in
-          (from.0, step.0, step.1, so_each lines operations window count old so from.0 from.1, step.2, step.3))) new steps.each;
-      all = λ p way. steps.all p way.0 (so.all way.0 way.3) (to_step operations window way.0 p way.1 way.2 way.4 way.5);
-    })
 
 -- ---- each position that is reached fits
 
@@ -100,7 +66,7 @@ as_fits operations window p n i (Some answer.Waiting) fits below =
 as_fits operations window p n i (Some answer.Stored) fits below = tt
 as_fits operations window p n i (Some (answer.Got x)) fits below = tt
 
-step_fits : (operations : Operations) (window : ℕ) (p q : Position) (n i : ℕ) → Fits operations p → i < length (own_of operations n)
+pub step_fits : (operations : Operations) (window : ℕ) (p q : Position) (n i : ℕ) → Fits operations p → i < length (own_of operations n)
     → step_at operations window p n i ≡ Some q → Fits operations q
 unfolding step_at
 step_fits operations window p q n i fits below is =
@@ -110,8 +76,8 @@ step_fits operations window p q n i fits below is =
 pub reached_fits : (lines : ℕ) (operations : Operations) (window count : ℕ) (p : Position) → AreWithin lines operations
     → IsReachedIn lines operations window count p → Fits operations p
 reached_fits lines operations window zero p within is = subst (Fits operations) (sym is) (opening_fits lines operations within)
-reached_fits lines operations window (suc count) p within (q, n, i, reached, below, step) =
-    step_fits operations window q p n i (reached_fits lines operations window count q within reached) below step
+reached_fits lines operations window (suc count) p within (q, reached, s) =
+    step_fits operations window q p s.node s.place (reached_fits lines operations window count q within reached) s.below s.step
 
 pub all_fit : (lines : ℕ) (operations : Operations) (window count : ℕ) (positions : List Position) → AreWithin lines operations
     → AreReachedIn lines operations window count positions → All (Fits operations) positions

@@ -1,17 +1,17 @@
 -- A search is refused as too many if one of its levels is.
 use Rattle.std.proofs.Common.{◌≡◌, ℕ, ◌+◌, List, refl, sym, ◌∙◌}
 use Rattle.std.specs.{Prelude.{IfErr, Result, Ok, Err}, Result.{IsErrAnd}}
-use Rattle.sci_orders.proofs.Reaching.{reached_more}
+use Rattle.sci_orders.proofs.LevelSteps.{found_more}
 use Rattle.sci_orders.specs.declared.fault.OrdersFault.{OrdersFault, TheVariants.{TooMany}}
-use Rattle.sci_orders.specs.Positions.{AreReachedIn, AreTooMany, AreTooManyFrom, Operations, Position}
+use Rattle.sci_orders.specs.{Eager.{AreFoundIn, AreTooMany, AreTooManyFrom}, Positions.{Operations, Position}}
 
 -- one level more has too many
-pub too_many : (lines : ℕ) (operations : Operations) (window count : ℕ) (level : List Position) → AreReachedIn lines operations window count level
+pub too_many : (lines : ℕ) (operations : Operations) (window count : ℕ) (level : List Position) → AreFoundIn lines operations window count level
     → AreTooManyFrom operations window level → AreTooMany lines operations window
 too_many lines operations window count level is more = record {
   count = count + 1;
   positions = more.positions;
-  reached = reached_more lines operations window count (count + 1) level more.positions refl is more.steps;
+  found = found_more lines operations window count (count + 1) level more.positions refl is more.steps;
   once = more.once;
   many = more.many;
 }

@@ -9,8 +9,8 @@ use Rattle.std.specs.{List.{All, Contains}, Prelude.{Vec}}
 use Rattle.sci_words.specs.declared.event.Event.{Event}
 use Rattle.sci_core.{proofs.Basics.Options.{same_some}, specs.Size.{Size}}
 use Rattle.sci_orders.proofs.{Changes.{list_below}, Keeping.{contains_none}, Sameness.{equal_standing, same_standing}}
-use Rattle.sci_orders.specs.Positions.{AreReachedIn, IsReachedIn, Operations, Position, own_of, position_of, step_at}
-use Rattle.sci_orders.specs.{Ways.{AreLevels, IsStep, IsStepBy, LeadsTo, levels_of}, Witness.{round_of, schedule_of, turn_of}}
+use Rattle.sci_orders.specs.{Eager.{AreFoundIn, IsFoundIn}, Positions.{IsStep, Operations, Position, own_of, position_of, step_at}}
+use Rattle.sci_orders.specs.{Ways.{AreLevels, IsStepBy, LeadsTo, levels_of}, Witness.{round_of, schedule_of, turn_of}}
 use Rattle.sci_orders.specs.declared.standing.Standing.{Standing}
 use Rattle.sci_words.specs.declared.event.AskKind.TheVariants as kind
 use Rattle.sci_words.specs.declared.event.Event.TheVariants as event
@@ -32,12 +32,11 @@ pub no_step : (operations : Operations) (window : ℕ) (p q : Position) → ((m 
     → step_at operations window p m i ≡ Some q → ⊥) → IsStep operations window p q → ⊥
 no_step operations window p q none s = none s.node (list_below operations s.node s.place s.below) s.place s.below s.step
 
--- a position that is reached by a step more is reached from one of the level before it
+-- a position that is found by a step more is found from one of the level before it
 pub step_before : (lines : ℕ) (operations : Operations) (window count : ℕ) (level : List Position) (p : Position)
-    → AreReachedIn lines operations window count level → IsReachedIn lines operations window (suc count) p
+    → AreFoundIn lines operations window count level → IsFoundIn lines operations window (suc count) p
     → (q : Position) × Contains level q × IsStep operations window q p
-step_before lines operations window count level p so (q, n, i, reached, below, step) =
-    (q, so.all q reached, record { node = n; place = i; below = below; step = step })
+step_before lines operations window count level p so (q, found, step) = (q, so.all q found, step.taken)
 
 -- one event more at the beginning of a way
 pub leads_more : (operations : Operations) (window : ℕ) (p q last : Position) (e : Event) (order : List Event) → IsStepBy operations window p q e
@@ -57,22 +56,22 @@ schedule-append size (x ∷ xs) ys =
 
 -- the levels from none on, with one more
 pub level_more : (lines : ℕ) (operations : Operations) (window count : ℕ) (levels : List (List Position)) (level : List Position) → count ≡ length levels
-    → AreLevels lines operations window levels → AreReachedIn lines operations window count level → AreLevels lines operations window (levels ++ level ∷ [])
+    → AreLevels lines operations window levels → AreFoundIn lines operations window count level → AreLevels lines operations window (levels ++ level ∷ [])
 level_more lines operations window count levels level is all reached k below = elim (cases_lt k (length levels)) [
-  | inl lt ↦ subst (AreReachedIn lines operations window k) (sym (get_or_append_left levels (level ∷ []) [] k lt)) (all k lt)
+  | inl lt ↦ subst (AreFoundIn lines operations window k) (sym (get_or_append_left levels (level ∷ []) [] k lt)) (all k lt)
   | inr past ↦
       let long = length_push levels level in
       let last : k ≡ length levels = omega arith in
       let here : get_or (levels ++ level ∷ []) k [] ≡ level =
       ap (λ (i : ℕ). get_or (levels ++ level ∷ []) i []) last ∙ get_or-append_seam levels level [] [] in
-      subst (AreReachedIn lines operations window k) (sym here)
-      (subst (λ (i : ℕ). AreReachedIn lines operations window i level) (is ∙ sym last) reached)
+      subst (AreFoundIn lines operations window k) (sym here)
+      (subst (λ (i : ℕ). AreFoundIn lines operations window i level) (is ∙ sym last) reached)
 ]
 
 -- and with two more
 pub levels_more : {Z : Type 0} (lines : ℕ) (operations : Operations) (window count : ℕ) (old new : List (Vec Standing Z)) (first second : Vec Standing Z)
     → count ≡ length old → new ≡ old ++ first ∷ second ∷ [] → AreLevels lines operations window (levels_of old)
-    → AreReachedIn lines operations window count (map position_of first.items) → AreReachedIn lines operations window (count + 1) (map position_of second.items)
+    → AreFoundIn lines operations window count (map position_of first.items) → AreFoundIn lines operations window (count + 1) (map position_of second.items)
     → AreLevels lines operations window (levels_of new)
 levels_more {Z = Z} lines operations window count old new first second is added all one two =
     let positions = λ (level : Vec Standing Z). map position_of level.items in
@@ -115,11 +114,11 @@ none_holds P (s ∷ ss) none p (k, below, at) holds =
 -- a level is what its number of steps leads to
 pub level_at : {Z : Type 0} (lines : ℕ) (operations : Operations) (window : ℕ) (levels : List (Vec Standing Z)) (i : ℕ) (item : Vec Standing Z)
     (standings : List Standing) → i < length levels → item ≡ get_or levels i item → standings ≡ item.items
-    → AreLevels lines operations window (levels_of levels) → AreReachedIn lines operations window i (map position_of standings)
+    → AreLevels lines operations window (levels_of levels) → AreFoundIn lines operations window i (map position_of standings)
 level_at {Z = Z} lines operations window levels i item standings low is same all =
     let f = λ (level : Vec Standing Z). map position_of level.items in
     let long = length-map levels f in
-    subst (AreReachedIn lines operations window i) (get_or-map f levels i item [] low ∙ (ap f (sym is) ∙ ap (map position_of) (sym same)))
+    subst (AreFoundIn lines operations window i) (get_or-map f levels i item [] low ∙ (ap f (sym is) ∙ ap (map position_of) (sym same)))
     (all i (omega arith))
 
 -- ---- one turn

@@ -1,5 +1,6 @@
 pub mod Plain
 pub mod Witness
 pub mod Positions
+pub mod Eager
 pub mod Ways
 pub mod Orders

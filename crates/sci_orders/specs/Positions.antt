@@ -1,11 +1,11 @@
 -- How far the operations of a script have come on one memory of one thread, and where they can come.
-use Rattle.std.specs.List.{All, Contains, filter_map, flat_map, list_any, range_with_len, sum_by}
+use Rattle.std.specs.List.{All, Contains, filter_map, list_any, range_with_len, sum_by}
 use Rattle.std.specs.Prelude.{◌≡◌, ◌<◌, ◌≤◌, ℕ, zero, suc, ◌+◌, ◌*◌, ◌&&◌, ◌==◌, ◌++◌, not, nat_lt, Bool, true, false, if◌then◌else◌, List, [], ◌∷◌, length}
 use Rattle.std.specs.Prelude.{map, replicate, slice_get, slice_index_or, slice_set, Option, Some, None, count_by, Vec}
 use Rattle.sci_words.specs.Operation.{effect}
 use Rattle.sci_words.specs.declared.limits.TheConstants.{WORDS_PER_LINE}
 use Rattle.sci_words.specs.declared.operation.{Act.TheVariants.{Load}, Op.{Op}, Reply.{Reply, TheVariants.{Stored, Got}}}
-use Rattle.sci_orders.specs.declared.{orders.TheConstants.{MAX_STANDINGS}, standing.{Answer.{Answer}, Standing.{Standing}}}
+use Rattle.sci_orders.specs.declared.standing.{Answer.{Answer}, Standing.{Standing}}
 use Rattle.sci_orders.specs.declared.standing.Answer.TheVariants as answer
 
 -- ---- the operations of a script
@@ -116,16 +116,17 @@ step_at operations window p n i = step_as operations window p n i (slice_get (an
 abbrev pub steps_of : Operations → ℕ → Position → ℕ → List Position
 steps_of operations window p n = filter_map (step_at operations window p n) (range_with_len 0 (length (own_of operations n)))
 
--- the positions to which one step leads
-abbrev pub steps_from : Operations → ℕ → Position → List Position
-steps_from operations window p = flat_map (steps_of operations window p) (range_with_len 0 (length operations))
+-- one operation comes one step further, from p to q
+pub record IsStep (operations : Operations) (window : ℕ) (p q : Position) : Type 0 where
+  pub node : ℕ
+  pub place : ℕ
+  pub below : place < length (own_of operations node)
+  pub step : step_at operations window p node place ≡ Some q
 
 -- this number of steps leads from the opening to the position
 abbrev pub IsReachedIn : ℕ → Operations → (window count : ℕ) → Position → Type 0
 IsReachedIn lines operations window zero p = p ≡ opening_position lines operations
-IsReachedIn lines operations window (suc count) p =
-    (q : Position) × (n : ℕ) × (i : ℕ) × IsReachedIn lines operations window count q × (i < length (own_of operations n))
-    × (step_at operations window q n i ≡ Some p)
+IsReachedIn lines operations window (suc count) p = (q : Position) × IsReachedIn lines operations window count q × IsStep operations window q p
 
 -- the positions to which this number of steps leads: all of them, and no other
 pub record AreReachedIn (lines : ℕ) (operations : Operations) (window count : ℕ) (positions : List Position) : Type 0 where
@@ -137,29 +138,9 @@ abbrev pub AreOnce : List Position → Type 0
 AreOnce [] = Unit {0}
 AreOnce (p ∷ ps) = (Contains ps p → ⊥) × AreOnce ps
 
--- some number of steps leads to more positions than are looked at
-pub record AreTooMany (lines : ℕ) (operations : Operations) (window : ℕ) : Type 0 where
-  pub count : ℕ
-  pub positions : List Position
-  pub reached : AreReachedIn lines operations window count positions
-  pub once : AreOnce positions
-  pub many : MAX_STANDINGS < length positions
-
 -- The position is one of this script: each node has an answer for some of its operations, from the first on, and each
 -- operation has its word.
 pub record Fits (operations : Operations) (p : Position) : Type 0 where
   pub nodes : length p.answers ≡ length operations
   pub issued : (n : ℕ) → length (answers_of p n) ≤ length (own_of operations n)
   pub words : (n i : ℕ) → i < length (own_of operations n) → word_place (operation_at operations n i) < length p.words
-
--- the positions to which one step leads from some others: all of them, and no other
-pub record AreStepsFrom (operations : Operations) (window : ℕ) (old new : List Position) : Type 0 where
-  pub each : All (λ p. (q : Position) × Contains old q × Contains (steps_from operations window q) p) new
-  pub all : (p q : Position) → Contains old q → Contains (steps_from operations window q) p → Contains new p
-
--- one step leads from these positions to more than are looked at
-pub record AreTooManyFrom (operations : Operations) (window : ℕ) (level : List Position) : Type 0 where
-  pub positions : List Position
-  pub steps : AreStepsFrom operations window level positions
-  pub once : AreOnce positions
-  pub many : MAX_STANDINGS < length positions

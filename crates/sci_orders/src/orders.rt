@@ -1,11 +1,12 @@
 //! All standings to which a number of steps leads.
 
-ghost use Rattle.std.specs.Prelude.{◌≡◌, ◌<◌, ◌*◌, ◌++◌, ◌∷◌, [], List, length, map, IfErr, IfOk, OnOk};
+ghost use Rattle.std.specs.Prelude.{◌≡◌, ◌<◌, ◌*◌, ◌++◌, ◌∷◌, [], ℕ, List, None, length, map, IfErr, IfOk, IfSome, OnOk};
 ghost use Rattle.std.specs.List.{All};
 ghost use Rattle.sci_words.specs.declared.event.Event.{Event};
 ghost use Rattle.sci_core.specs.Size.{IsMachineSize, size_of};
 ghost use Rattle.sci_orders.specs.declared.fault.OrdersFault.TheVariants.{TooMany};
-ghost use Rattle.sci_orders.specs.Positions.{AreOnce, AreReachedIn, AreStepsFrom, AreTooMany, AreTooManyFrom, AreWithin, Fits, lists_of, opening_position, operation_count, position_of, steps_from, steps_of};
+ghost use Rattle.sci_orders.specs.Eager.{AddsSteps, AreStepsFrom, AreTooMany, AreTooManyFrom, IsFirstIssue, MayIssue};
+ghost use Rattle.sci_orders.specs.Positions.{AreOnce, AreReachedIn, AreWithin, Fits, lists_of, opening_position, operation_count, position_of, steps_of};
 ghost use Rattle.sci_orders.specs.Orders.{HasRun, IsAmong, IsOrderOf, IsScriptOf};
 ghost use Rattle.sci_orders.specs.Witness.{seen};
 
@@ -51,7 +52,32 @@ impl<'a> Orders<'a> {
         Ok(())
     }
 
-    /// Appends the standings to which one step leads. Refused if memory is.
+    /// The standing after the first node that may issue its next operation has issued it. None if no node may. Refused if
+    /// memory is.
+    fn first_issue(
+        &self,
+        alloc: Global,
+        standing: &Standing,
+    ) -> Result<Option<Standing>, AllocError>
+        requires { Fits (lists_of self.now.operations.now) (position_of standing.now) }
+        ensures some { IfOk result (λ found. IfSome found (λ next. IsFirstIssue (lists_of self.now.operations.now)
+            self.now.window (position_of standing.now) (position_of next))) }
+        ensures none { IfOk result (λ found. found ≡ None → (n : ℕ) →
+            MayIssue (lists_of self.now.operations.now) self.now.window (position_of standing.now) n → ⊥) }
+    {
+        for n in 0..self.operations.len() {
+            let next = standing.answers[n].len();
+            if next < self.operations[n].len() {
+                if let Some(further) = standing.step(alloc, self, n, next)? {
+                    return Ok(Some(further));
+                }
+            }
+        }
+        Ok(None)
+    }
+
+    /// Appends the standings to which one step leads: one, if a node may issue an operation, and else one for each
+    /// operation that waits. Refused if memory is.
     fn push_steps(
         &self,
         alloc: Global,
@@ -59,10 +85,13 @@ impl<'a> Orders<'a> {
         next: &mut Vec<Standing>,
     ) -> Result<(), AllocError>
         requires { Fits (lists_of self.now.operations.now) (position_of standing.now) }
-        ensures { OnOk result (map position_of next.new.items
-            ≡ map position_of next.old.items
-            ++ steps_from (lists_of self.now.operations.now) self.now.window (position_of standing.now)) }
+        ensures { OnOk result (AddsSteps (lists_of self.now.operations.now) self.now.window
+            (position_of standing.now) (map position_of next.old.items) (map position_of next.new.items)) }
     {
+        if let Some(issued) = self.first_issue(alloc, standing)? {
+            next.push(issued)?;
+            return Ok(());
+        }
         for n in 0..self.operations.len() {
             self.push_steps_of(alloc, standing, n, next)?;
         }

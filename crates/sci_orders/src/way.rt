@@ -5,8 +5,9 @@ ghost use Rattle.sci_words.specs.declared.event.Event.{Event};
 ghost use Rattle.sci_core.specs.{Core.{opening}, Settling.{AreMade}, Size.{IsMachineSize, size_of}};
 ghost use Rattle.sci_orders.specs.declared.fault.OrdersFault.TheVariants.{TooMany};
 ghost use Rattle.sci_orders.specs.Orders.{HasRun, IsScriptOf};
-ghost use Rattle.sci_orders.specs.Positions.{AreTooMany, AreWithin, Fits, IsReachedIn, Position, lists_of, opening_position, operation_count, own_of, position_of, step_at};
-ghost use Rattle.sci_orders.specs.Ways.{AreLevels, IsStep, IsStepBy, IsWayTo, LeadsTo, event_at as event_at_of, levels_of};
+ghost use Rattle.sci_orders.specs.Eager.{AreTooMany, IsFoundIn};
+ghost use Rattle.sci_orders.specs.Positions.{AreWithin, Fits, IsReachedIn, IsStep, Position, lists_of, opening_position, operation_count, own_of, position_of, step_at};
+ghost use Rattle.sci_orders.specs.Ways.{AreLevels, IsStepBy, IsWayTo, LeadsTo, event_at as event_at_of, levels_of};
 ghost use Rattle.sci_orders.specs.Witness.{any_event, schedule_of as schedule_of_order};
 
 use crate::fault::OrdersFault;
@@ -161,8 +162,8 @@ impl<'a> Orders<'a> {
         unreachable!()
     }
 
-    /// The standings to which each number of steps leads, from none on, up to two for each operation. Requires that each
-    /// operation is on one of this number of lines. Refused as `last_standings` is.
+    /// The standings that the search finds after each number of steps, from none on, up to two for each operation. Requires
+    /// that each operation is on one of this number of lines. Refused as `last_standings` is.
     fn levels(&self, alloc: Global, lines: u8) -> Result<Vec<Vec<Standing>>, OrdersFault>
         requires { AreWithin lines (lists_of self.now.operations.now) }
         ensures levels { IfOk result (λ levels. AreLevels lines (lists_of self.now.operations.now)
@@ -185,8 +186,8 @@ impl<'a> Orders<'a> {
         Ok(levels)
     }
 
-    /// The events that lead through these levels to a standing, each by a step. Requires that as many steps as there are levels
-    /// lead to it. Refused if memory is.
+    /// The events that lead through these levels to a standing, each by a step. Requires that the search finds it after as
+    /// many steps as there are levels. Refused if memory is.
     fn order_through(
         &self,
         alloc: Global,
@@ -198,7 +199,7 @@ impl<'a> Orders<'a> {
         requires nodes { length self.now.operations.now ≡ extent.nodes }
         requires levels { AreLevels extent.lines (lists_of self.now.operations.now) self.now.window
             (levels_of levels.now) }
-        requires reached { IsReachedIn extent.lines (lists_of self.now.operations.now) self.now.window
+        requires reached { IsFoundIn extent.lines (lists_of self.now.operations.now) self.now.window
             (length levels.now) (position_of last.now) }
         ensures leads { IfOk result (λ order. LeadsTo (lists_of self.now.operations.now) self.now.window
             (opening_position extent.lines (lists_of self.now.operations.now)) order.items

@@ -1,8 +1,7 @@
 use Rattle.std.proofs.Common.{◌≡◌, ℕ, List, Option, None, sym, subst}
 use Rattle.sci_drive.specs.Rounds.{most_pending}
-use Rattle.sci_allowed.specs.{Allowed.{AreAllowed, AreRows, rows_of}, AllowedAnswer.{IsTextOf, rows_text}}
-use Rattle.sci_allowed.proofs.{Allowing.{row_outcomes}, Verdicts.{verdict_is}}
-use Rattle.sci_allowed.specs.Allowed.{is_among}
+use Rattle.sci_allowed.specs.{Allowed.{AreRows}, AllowedAnswer.{IsTextOf, rows_text}}
+use Rattle.sci_allowed.proofs.Verdicts.{verdict_is}
 use Rattle.sci_allowed.proofs.allowed_report.answer_of.Goals as goal
 
 pub returns-in_ok-judged_rows-in-None-clause-text : goal.returns-in_ok-judged_rows-in-None-clause-text
@@ -10,16 +9,12 @@ returns-in_ok-judged_rows-in-None-clause-text c =
     let script = c.args.litmus.now.script in
     let window = most_pending c.args.request.issuing in
     let last = c.args.last.now in
-    let rows = c.in_ok-rows-in-None.rows in
+    let rows = c.deref.result.now in
     let answer = c.in_ok-judged_rows-in-None.field-0 in
-    let are : AreRows script window (rows_of rows) =
-    subst (λ (w : ℕ). AreRows script w (rows_of rows)) c.window_of-window.ensures c.in_ok-rows-in-None.ensures.rows in
-    let all : AreAllowed script window rows.outcomes.items =
-    subst (AreAllowed script window) (row_outcomes (is_among rows.in_order.items) rows.outcomes.items) are.outcomes in
-    let verdict = verdict_is script window rows.outcomes.items all last (rows_text (rows_of rows)) answer.text.items answer.outcome
-    c.in_ok-judged_rows-in-None.ensures in
+    let are = subst (AreRows script window) (sym c.deref.ensures.value) c.in_ok-rows-in-None.ensures.rows in
+    let verdict = verdict_is script window rows are last (rows_text rows) answer.text.items answer.outcome c.in_ok-judged_rows-in-None.ensures in
     subst (λ (show : Option ℕ). IsTextOf script window show last answer.text.items answer.outcome) (sym c.in-None.is) (record {
-      rows = rows_of rows;
+      rows = rows;
       are = are;
       verdict = verdict.0;
       is_verdict = verdict.2;

@@ -1,5 +1,5 @@
 -- A round, the Perform, and a round.
-use Rattle.std.proofs.Common.{◌++◌, ◌∷◌, [], List, sym, ap, ◌∙◌}
+use Rattle.std.proofs.Common.{◌++◌, ◌∷◌, [], sym, ap, ◌∙◌}
 use Rattle.sci_words.specs.declared.event.Event.{Event}
 use Rattle.sci_core.specs.Size.{size_of}
 use Rattle.sci_orders.proofs.Ways.{turn_made}

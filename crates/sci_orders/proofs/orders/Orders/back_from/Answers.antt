@@ -3,8 +3,8 @@ use Rattle.std.proofs.Common.{Option, refl, sym, subst, arith}
 use Rattle.std.specs.Prelude.{IfSome}
 use Rattle.sci_words.specs.declared.event.Event.{Event}
 use Rattle.sci_orders.proofs.Ways.{holds_at, item_at, none_holds}
-use Rattle.sci_orders.specs.Positions.{Fits, lists_of, position_of}
-use Rattle.sci_orders.specs.{Ways.{IsStep, IsStepBy}, declared.standing.Standing.{Standing}}
+use Rattle.sci_orders.specs.Positions.{Fits, IsStep, lists_of, position_of}
+use Rattle.sci_orders.specs.{Ways.{IsStepBy}, declared.standing.Standing.{Standing}}
 use Rattle.sci_orders.proofs.orders.Orders.back_from.Goals as goal
 
 pub event_between-requires-clause-fits : goal.event_between-requires-clause-fits

@@ -1,6 +1,6 @@
 -- None of the standings so far leads there.
 use Rattle.std.proofs.Common.{◌<◌, ℕ, get_or}
-use Rattle.sci_orders.specs.{Positions.{lists_of, position_of}, Ways.{IsStep}, declared.standing.Standing.{Standing}}
+use Rattle.sci_orders.specs.{Positions.{IsStep, lists_of, position_of}, declared.standing.Standing.{Standing}}
 use Rattle.sci_orders.proofs.orders.Orders.back_from.Given as goal
 
 abbrev pub invariant-loop-place : goal.invariant-loop-place

@@ -1,11 +1,12 @@
 -- One level more, twice.
 use Rattle.std.proofs.Common.{◌≡◌, ◌+◌, ◌*◌, ◌<◌, ℕ, List, [], length, map, take, get_or, refl, sym, ap, subst, ◌∙◌, arith}
+use Rattle.std.proofs.Math.Seq.{take-length}
 use Rattle.std.proofs.lemmas.List.{length-map, Sums.{sum_by_more}}
 use Rattle.std.specs.List.{All}
 use Rattle.sci_words.specs.declared.operation.Op.{Op}
-use Rattle.sci_orders.proofs.{Copies.{own_is}, Reaching.{all_fit, reached_more}, Refusing.{raised, too_many}}
+use Rattle.sci_orders.proofs.{Copies.{own_is}, Eager.{ends_found}, LevelSteps.{found_fit, found_more}, Refusing.{raised, too_many}}
 use Rattle.sci_orders.proofs.orders.Orders.last_standings.Goals.{After-deref-in-loop-operation}
-use Rattle.sci_orders.specs.Positions.{AreReachedIn, AreTooMany, Fits, lists_of, operation_count, position_of}
+use Rattle.sci_orders.specs.{Eager.{AreFoundIn, AreTooMany}, Positions.{Fits, lists_of, operation_count, position_of}}
 use Rattle.sci_orders.specs.declared.standing.Standing.{Standing}
 use Rattle.sci_orders.proofs.orders.Orders.last_standings.Goals as goal
 
@@ -13,27 +14,27 @@ pub next_level-requires : goal.next_level-requires
 next_level-requires c =
     let operations = lists_of c.args.self.now.operations.now in
     let count = (operation_count (take c.loop-own.own-index operations) + c.loop-operation._operation-index) * 2 in
-    let all = all_fit c.args.lines operations c.args.self.now.window count (map position_of c.loop-operation.level.items) c.requires
+    let all = found_fit c.args.lines operations c.args.self.now.window count (map position_of c.loop-operation.level.items) c.requires
     c.loop-operation.invariant.reached in
     subst (λ (ss : List Standing). All (Fits operations) (map position_of ss)) (sym c.deref.ensures.value) all
 
 half : (c : After-deref-in-loop-operation)
-    → AreReachedIn c.args.lines (lists_of c.args.self.now.operations.now) c.args.self.now.window
+    → AreFoundIn c.args.lines (lists_of c.args.self.now.operations.now) c.args.self.now.window
     ((operation_count (take c.loop-own.own-index (lists_of c.args.self.now.operations.now)) + c.loop-operation._operation-index) * 2 + 1)
     (map position_of c.in_ok-half.half.items)
 half c =
     let operations = lists_of c.args.self.now.operations.now in
     let count = (operation_count (take c.loop-own.own-index operations) + c.loop-operation._operation-index) * 2 in
-    reached_more c.args.lines operations c.args.self.now.window count (count + 1) (map position_of c.deref.result.now)
+    found_more c.args.lines operations c.args.self.now.window count (count + 1) (map position_of c.deref.result.now)
     (map position_of c.in_ok-half.half.items) refl
-    (subst (λ (ss : List Standing). AreReachedIn c.args.lines operations c.args.self.now.window count (map position_of ss)) (sym c.deref.ensures.value)
+    (subst (λ (ss : List Standing). AreFoundIn c.args.lines operations c.args.self.now.window count (map position_of ss)) (sym c.deref.ensures.value)
     c.loop-operation.invariant.reached) c.in_ok-half.ensures.steps
 
 pub next_level-requires-in-loop-operation : goal.next_level-requires-in-loop-operation
 next_level-requires-in-loop-operation c =
     let operations = lists_of c.args.self.now.operations.now in
     let count = (operation_count (take c.loop-own.own-index operations) + c.loop-operation._operation-index) * 2 in
-    let all = all_fit c.args.lines operations c.args.self.now.window (count + 1) (map position_of c.in_ok-half.half.items)
+    let all = found_fit c.args.lines operations c.args.self.now.window (count + 1) (map position_of c.in_ok-half.half.items)
     c.requires (half (goal.at.next_level-requires-in-loop-operation c).After-deref-in-loop-operation) in
     subst (λ (ss : List Standing). All (Fits operations) (map position_of ss)) (sym c.deref-in-loop-operation.ensures.value) all
 
@@ -44,9 +45,9 @@ loop-operation-preserved c =
     let index = c.loop-operation._operation-index in
     let so = half (goal.at.loop-operation-preserved c).After-deref-in-loop-operation in
     record {
-      reached = reached_more c.args.lines operations c.args.self.now.window ((before + index) * 2 + 1) ((before + (index + 1)) * 2)
+      reached = found_more c.args.lines operations c.args.self.now.window ((before + index) * 2 + 1) ((before + (index + 1)) * 2)
           (map position_of c.deref-in-loop-operation.result.now) (map position_of c.in_ok-level-2.level.items) (omega arith)
-          (subst (λ (ss : List Standing). AreReachedIn c.args.lines operations c.args.self.now.window ((before + index) * 2 + 1) (map position_of ss))
+          (subst (λ (ss : List Standing). AreFoundIn c.args.lines operations c.args.self.now.window ((before + index) * 2 + 1) (map position_of ss))
           (sym c.deref-in-loop-operation.ensures.value) so) c.in_ok-level-2.ensures.steps;
       once = c.in_ok-level-2.ensures.once;
     }
@@ -64,7 +65,7 @@ loop-own-preserved c =
     ap (λ (ops : List Op). length ops) c.deref-operation-items.ensures.value in
     let whole : (operation_count (take k operations) + index) * 2 ≡ operation_count (take (k + 1) operations) * 2 = omega arith in
     record {
-      reached = subst (λ (n : ℕ). AreReachedIn c.args.lines operations c.args.self.now.window n (map position_of c.loop-operation.level.items)) whole
+      reached = subst (λ (n : ℕ). AreFoundIn c.args.lines operations c.args.self.now.window n (map position_of c.loop-operation.level.items)) whole
           c.loop-operation.invariant.reached;
       once = c.loop-operation.invariant.once;
     }
@@ -75,7 +76,7 @@ returns-in_err-half-clause-many c =
     let count = (operation_count (take c.loop-own.own-index operations) + c.loop-operation._operation-index) * 2 in
     raised (AreTooMany c.args.lines operations c.args.self.now.window) _ c.in_err-half.field-0.0 c.from_residual-in_err-half.ensures.1
     (λ is. too_many c.args.lines operations c.args.self.now.window count (map position_of c.deref.result.now)
-    (subst (λ (ss : List Standing). AreReachedIn c.args.lines operations c.args.self.now.window count (map position_of ss)) (sym c.deref.ensures.value)
+    (subst (λ (ss : List Standing). AreFoundIn c.args.lines operations c.args.self.now.window count (map position_of ss)) (sym c.deref.ensures.value)
     c.loop-operation.invariant.reached) (c.in_err-half.ensures.many is))
 
 pub returns-in_err-level-2-clause-many : goal.returns-in_err-level-2-clause-many
@@ -85,5 +86,15 @@ returns-in_err-level-2-clause-many c =
     let so = half (goal.at.returns-in_err-level-2-clause-many c).After-deref-in-loop-operation in
     raised (AreTooMany c.args.lines operations c.args.self.now.window) _ c.in_err-level-2.field-0.0 c.from_residual-in_err-level-2.ensures.1
     (λ is. too_many c.args.lines operations c.args.self.now.window count (map position_of c.deref-in-loop-operation.result.now)
-    (subst (λ (ss : List Standing). AreReachedIn c.args.lines operations c.args.self.now.window count (map position_of ss))
+    (subst (λ (ss : List Standing). AreFoundIn c.args.lines operations c.args.self.now.window count (map position_of ss))
     (sym c.deref-in-loop-operation.ensures.value) so) (c.in_err-level-2.ensures.many is))
+
+pub returns-clause-reached : goal.returns-clause-reached
+returns-clause-reached c =
+    let operations = lists_of c.args.self.now.operations.now in
+    let long = length-map c.args.self.now.operations.now (λ (v : _). v.items) in
+    let whole : c.loop-own.own-index ≡ length operations = (let end = c.loop-own-test.false in omega arith) in
+    let all : operation_count (take c.loop-own.own-index operations) * 2 ≡ operation_count operations * 2 =
+    ap (λ (k : ℕ). operation_count (take k operations) * 2) whole ∙ ap (λ (ops : _). operation_count ops * 2) (take-length operations) in
+    ends_found c.args.lines operations c.args.self.now.window (map position_of c.loop-own.level.items) c.requires
+    (subst (λ (n : ℕ). AreFoundIn c.args.lines operations c.args.self.now.window n (map position_of c.loop-own.level.items)) all c.loop-own.invariant.reached)

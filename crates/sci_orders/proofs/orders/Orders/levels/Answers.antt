@@ -4,36 +4,36 @@ use Rattle.std.proofs.lemmas.List.{length-map, Sums.{sum_by_more}}
 use Rattle.std.specs.{List.{All}, Prelude.{Vec}, declared.alloc.Global.{Global}}
 use Rattle.sci_orders.specs.declared.standing.Standing.{Standing}
 use Rattle.sci_words.specs.declared.operation.Op.{Op}
-use Rattle.sci_orders.proofs.{Copies.{own_is}, Reaching.{all_fit, reached_more}, Refusing.{raised, too_many}, Ways.{levels_more}}
+use Rattle.sci_orders.proofs.{Copies.{own_is}, LevelSteps.{found_fit, found_more}, Refusing.{raised, too_many}, Ways.{levels_more}}
 use Rattle.sci_orders.proofs.orders.Orders.levels.Goals.{After-deref-in-loop-operation}
-use Rattle.sci_orders.specs.Positions.{AreReachedIn, AreTooMany, Fits, lists_of, operation_count, position_of}
+use Rattle.sci_orders.specs.{Eager.{AreFoundIn, AreTooMany}, Positions.{Fits, lists_of, operation_count, position_of}}
 use Rattle.sci_orders.proofs.orders.Orders.levels.Goals as goal
 
 pub next_level-requires : goal.next_level-requires
 next_level-requires c =
     let operations = lists_of c.args.self.now.operations.now in
     let count = (operation_count (take c.loop-own.own-index operations) + c.loop-operation._operation-index) * 2 in
-    let all = all_fit c.args.lines operations c.args.self.now.window count (map position_of c.loop-operation.level.items) c.requires
+    let all = found_fit c.args.lines operations c.args.self.now.window count (map position_of c.loop-operation.level.items) c.requires
     c.loop-operation.invariant.level in
     subst (λ (ss : List Standing). All (Fits operations) (map position_of ss)) (sym c.deref.ensures.value) all
 
 half : (c : After-deref-in-loop-operation)
-    → AreReachedIn c.args.lines (lists_of c.args.self.now.operations.now) c.args.self.now.window
+    → AreFoundIn c.args.lines (lists_of c.args.self.now.operations.now) c.args.self.now.window
     ((operation_count (take c.loop-own.own-index (lists_of c.args.self.now.operations.now)) + c.loop-operation._operation-index) * 2 + 1)
     (map position_of c.in_ok-half.half.items)
 half c =
     let operations = lists_of c.args.self.now.operations.now in
     let count = (operation_count (take c.loop-own.own-index operations) + c.loop-operation._operation-index) * 2 in
-    reached_more c.args.lines operations c.args.self.now.window count (count + 1) (map position_of c.deref.result.now)
+    found_more c.args.lines operations c.args.self.now.window count (count + 1) (map position_of c.deref.result.now)
     (map position_of c.in_ok-half.half.items) refl
-    (subst (λ (ss : List Standing). AreReachedIn c.args.lines operations c.args.self.now.window count (map position_of ss)) (sym c.deref.ensures.value)
+    (subst (λ (ss : List Standing). AreFoundIn c.args.lines operations c.args.self.now.window count (map position_of ss)) (sym c.deref.ensures.value)
     c.loop-operation.invariant.level) c.in_ok-half.ensures.steps
 
 pub next_level-requires-in-loop-operation : goal.next_level-requires-in-loop-operation
 next_level-requires-in-loop-operation c =
     let operations = lists_of c.args.self.now.operations.now in
     let count = (operation_count (take c.loop-own.own-index operations) + c.loop-operation._operation-index) * 2 in
-    let all = all_fit c.args.lines operations c.args.self.now.window (count + 1) (map position_of c.in_ok-half.half.items)
+    let all = found_fit c.args.lines operations c.args.self.now.window (count + 1) (map position_of c.in_ok-half.half.items)
     c.requires (half (goal.at.next_level-requires-in-loop-operation c).After-deref-in-loop-operation) in
     subst (λ (ss : List Standing). All (Fits operations) (map position_of ss)) (sym c.deref-in-loop-operation.ensures.value) all
 
@@ -52,9 +52,9 @@ loop-operation-preserved c =
       levels = levels_more c.args.lines operations c.args.self.now.window ((before + index) * 2) old c.push_both.new.levels.items
           c.loop-operation.level c.in_ok-half.half (sym were) added c.loop-operation.invariant.levels c.loop-operation.invariant.level so;
       long = omega arith;
-      level = reached_more c.args.lines operations c.args.self.now.window ((before + index) * 2 + 1) ((before + (index + 1)) * 2)
+      level = found_more c.args.lines operations c.args.self.now.window ((before + index) * 2 + 1) ((before + (index + 1)) * 2)
           (map position_of c.deref-in-loop-operation.result.now) (map position_of c.in_ok-next.next.items) (omega arith)
-          (subst (λ (ss : List Standing). AreReachedIn c.args.lines operations c.args.self.now.window ((before + index) * 2 + 1) (map position_of ss))
+          (subst (λ (ss : List Standing). AreFoundIn c.args.lines operations c.args.self.now.window ((before + index) * 2 + 1) (map position_of ss))
           (sym c.deref-in-loop-operation.ensures.value) so) c.in_ok-next.ensures.steps;
     }
 
@@ -73,7 +73,7 @@ loop-own-preserved c =
     record {
       levels = c.loop-operation.invariant.levels;
       long = c.loop-operation.invariant.long ∙ whole;
-      level = subst (λ (n : ℕ). AreReachedIn c.args.lines operations c.args.self.now.window n (map position_of c.loop-operation.level.items)) whole
+      level = subst (λ (n : ℕ). AreFoundIn c.args.lines operations c.args.self.now.window n (map position_of c.loop-operation.level.items)) whole
           c.loop-operation.invariant.level;
     }
 
@@ -83,7 +83,7 @@ returns-in_err-half-clause-many c =
     let count = (operation_count (take c.loop-own.own-index operations) + c.loop-operation._operation-index) * 2 in
     raised (AreTooMany c.args.lines operations c.args.self.now.window) _ c.in_err-half.field-0.0 c.from_residual-in_err-half.ensures.1
     (λ is. too_many c.args.lines operations c.args.self.now.window count (map position_of c.deref.result.now)
-    (subst (λ (ss : List Standing). AreReachedIn c.args.lines operations c.args.self.now.window count (map position_of ss)) (sym c.deref.ensures.value)
+    (subst (λ (ss : List Standing). AreFoundIn c.args.lines operations c.args.self.now.window count (map position_of ss)) (sym c.deref.ensures.value)
     c.loop-operation.invariant.level) (c.in_err-half.ensures.many is))
 
 pub returns-in_err-next-clause-many : goal.returns-in_err-next-clause-many
@@ -93,5 +93,5 @@ returns-in_err-next-clause-many c =
     let so = half (goal.at.returns-in_err-next-clause-many c).After-deref-in-loop-operation in
     raised (AreTooMany c.args.lines operations c.args.self.now.window) _ c.in_err-next.field-0.0 c.from_residual-in_err-next.ensures.1
     (λ is. too_many c.args.lines operations c.args.self.now.window count (map position_of c.deref-in-loop-operation.result.now)
-    (subst (λ (ss : List Standing). AreReachedIn c.args.lines operations c.args.self.now.window count (map position_of ss))
+    (subst (λ (ss : List Standing). AreFoundIn c.args.lines operations c.args.self.now.window count (map position_of ss))
     (sym c.deref-in-loop-operation.ensures.value) so) (c.in_err-next.ensures.many is))

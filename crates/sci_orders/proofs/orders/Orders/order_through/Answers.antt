@@ -1,15 +1,15 @@
 -- One step back.
-use Rattle.std.proofs.Common.{◌≡◌, ◌<◌, ◌-◌, ◌+◌, ◌++◌, ◌∷◌, [], ℕ, suc, List, length, map, get_or, reverse, sym, ap, subst, ◌∙◌, arith}
+use Rattle.std.proofs.Common.{◌≡◌, ◌-◌, ◌+◌, ℕ, suc, List, length, map, get_or, reverse, sym, ap, subst, ◌∙◌, arith}
 use Rattle.std.proofs.lemmas.List.{length_push}
 use Rattle.sci_words.specs.declared.event.Event.{Event}
-use Rattle.sci_orders.proofs.{Reaching.{all_fit}, Ways.{holds_at, leads_more, level_at, step_before}}
+use Rattle.sci_orders.proofs.{LevelSteps.{found_fit}, Ways.{holds_at, leads_more, level_at, step_before}}
 use Rattle.sci_orders.proofs.orders.Orders.order_through.Goals.{After-deref}
-use Rattle.sci_orders.specs.Positions.{AreReachedIn, IsReachedIn, lists_of, position_of}
+use Rattle.sci_orders.specs.{Eager.{AreFoundIn, IsFoundIn}, Positions.{lists_of, position_of}}
 use Rattle.sci_orders.specs.{Ways.{IsStepBy, LeadsTo}, declared.standing.Standing.{Standing}}
 use Rattle.sci_orders.proofs.orders.Orders.order_through.Goals as goal
 
 -- the level before
-level : (c : After-deref) → AreReachedIn c.args.extent.lines (lists_of c.args.self.now.operations.now) c.args.self.now.window
+level : (c : After-deref) → AreFoundIn c.args.extent.lines (lists_of c.args.self.now.operations.now) c.args.self.now.window
     (length c.args.levels.now - 1 - c.loop-taken.taken) (map position_of c.deref.result.now)
 level c =
     let low = c.loop-taken-test.true in
@@ -19,7 +19,7 @@ level c =
 
 pub back_from-requires-clause-fits : goal.back_from-requires-clause-fits
 back_from-requires-clause-fits c =
-    all_fit c.args.extent.lines (lists_of c.args.self.now.operations.now) c.args.self.now.window (length c.args.levels.now - 1 - c.loop-taken.taken)
+    found_fit c.args.extent.lines (lists_of c.args.self.now.operations.now) c.args.self.now.window (length c.args.levels.now - 1 - c.loop-taken.taken)
     (map position_of c.deref.result.now) c.requires.within (level (goal.at.back_from-requires-clause-fits c).After-deref)
 
 pub back_from-requires-clause-some : goal.back_from-requires-clause-some
@@ -30,7 +30,7 @@ back_from-requires-clause-some c =
     let next : length c.args.levels.now - c.loop-taken.taken ≡ suc count = omega arith in
     step_before c.args.extent.lines operations c.args.self.now.window count (map position_of c.deref.result.now) (position_of c.loop-taken.at.now)
     (level (goal.at.back_from-requires-clause-some c).After-deref)
-    (subst (λ (k : ℕ). IsReachedIn c.args.extent.lines operations c.args.self.now.window k (position_of c.loop-taken.at.now)) next
+    (subst (λ (k : ℕ). IsFoundIn c.args.extent.lines operations c.args.self.now.window k (position_of c.loop-taken.at.now)) next
     c.loop-taken.invariant.reached)
 
 pub loop-taken-preserved : goal.loop-taken-preserved
@@ -55,6 +55,6 @@ loop-taken-preserved c =
           (leads_more operations window (position_of at) (position_of c.loop-taken.at.now) (position_of c.args.last.now) back.event
           c.loop-taken.order.items step c.loop-taken.invariant.leads);
       long = omega arith;
-      reached = subst (λ (k : ℕ). IsReachedIn c.args.extent.lines operations window k (position_of at)) less
-          (holds_at (IsReachedIn c.args.extent.lines operations window count) c.deref.result.now back.place at c.in_ok-back.ensures.0 here so.each);
+      reached = subst (λ (k : ℕ). IsFoundIn c.args.extent.lines operations window k (position_of at)) less
+          (holds_at (IsFoundIn c.args.extent.lines operations window count) c.deref.result.now back.place at c.in_ok-back.ensures.0 here so.each);
     }
