@@ -8,12 +8,13 @@ use Rattle.sci_options.specs.declared.argument.Argument.TheVariants as arguments
 use Rattle.sci_options.specs.declared.argument.Value.{Value}
 use Rattle.sci_options.specs.declared.argument.Value.TheVariants as values
 use Rattle.sci_options.specs.declared.option_name.OptionName.{OptionName}
-use Rattle.sci_options.specs.declared.option_name.OptionName.TheVariants.{BySerial, Dead, Events, InOrder, Json, Line, Log, Node, Runs, Seed}
-use Rattle.sci_options.specs.declared.option_name.OptionName.TheVariants.{Show, Strict, Threads, Times, Turns}
+use Rattle.sci_options.specs.declared.option_name.OptionName.TheVariants.{AllOutcomes, BySerial, Dead, Events, InOrder, Json, Line, Log, Node, Runs}
+use Rattle.sci_options.specs.declared.option_name.OptionName.TheVariants.{Seed, Show, Strict, Threads, Times, Turns}
 use Rattle.sci_options.specs.declared.setting.{OptionRow.{OptionRow}, Setting.{Setting}}
 
 -- the word of an option
 abbrev pub option_word : OptionName → List ℕ
+option_word AllOutcomes = codes "--all"
 option_word BySerial = codes "--by-serial"
 option_word Dead = codes "--dead"
 option_word Events = codes "--events"
@@ -32,20 +33,21 @@ option_word Turns = codes "--turns"
 
 -- where an option stands among all
 abbrev pub option_place : OptionName → ℕ
-option_place BySerial = 0
-option_place Dead = 1
-option_place Events = 2
-option_place InOrder = 3
-option_place Json = 4
-option_place Line = 5
-option_place Node = 6
-option_place Runs = 7
-option_place Seed = 8
-option_place Show = 9
-option_place Strict = 10
-option_place Threads = 11
-option_place Times = 12
-option_place Turns = 13
+option_place AllOutcomes = 0
+option_place BySerial = 1
+option_place Dead = 2
+option_place Events = 3
+option_place InOrder = 4
+option_place Json = 5
+option_place Line = 6
+option_place Node = 7
+option_place Runs = 8
+option_place Seed = 9
+option_place Show = 10
+option_place Strict = 11
+option_place Threads = 12
+option_place Times = 13
+option_place Turns = 14
 option_place Log = 15
 
 abbrev pub is_option : OptionName → OptionName → Bool

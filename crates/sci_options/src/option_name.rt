@@ -7,6 +7,8 @@ ghost use Rattle.sci_options.specs.declared.option_name.OptionName.{OptionName};
 /// An option of some command.
 #[derive(Clone, Copy, PartialEq, Eq)]
 pub enum OptionName {
+    /// What never came, too.
+    AllOutcomes,
     /// Each node's entries by their serials.
     BySerial,
     /// How many of a hundred events may be any events.
@@ -45,6 +47,7 @@ impl OptionName {
         ensures { (name : OptionName) → (result ≡ Some name) ↔ (word.now ≡ option_word name) }
     {
         match word {
+            "--all" => Some(OptionName::AllOutcomes),
             "--by-serial" => Some(OptionName::BySerial),
             "--dead" => Some(OptionName::Dead),
             "--events" => Some(OptionName::Events),
@@ -69,6 +72,7 @@ impl OptionName {
         ensures { result.now ≡ option_word self }
     {
         match self {
+            OptionName::AllOutcomes => "--all",
             OptionName::BySerial => "--by-serial",
             OptionName::Dead => "--dead",
             OptionName::Events => "--events",

@@ -1,14 +1,17 @@
 -- A histogram of what was seen, and its rows.
-use Rattle.std.proofs.Common.{◌≡◌, ℕ, ◌+◌, Bool, true, false, cond, arith, List, [], ◌∷◌, ◌++◌, Option, Some, None, length, length-append, refl, ap, ◌∙◌}
+use Rattle.std.proofs.Common.{◌≡◌, ℕ, ◌+◌, ◌==◌, ◌&&◌, ◌||◌, not, if◌then◌else◌, Bool, true, false, cond, arith, List, [], ◌∷◌, ◌++◌, Option, Some, None}
+use Rattle.std.proofs.Common.{length, length-append, refl, ap, ◌∙◌}
 use Rattle.std.proofs.Math.Path.{fun_ext}
 use Rattle.std.proofs.lemmas.Cmp.{eq_by_cmp_equiv, lists_total, nat_cmp_total, on_total, then_total}
 use Rattle.std.proofs.lemmas.Map.Entries.{sum_by-insert_entry}
-use Rattle.std.specs.{Prelude.{option_map, unwrap_or}, List.{sum_by}}
+use Rattle.std.proofs.lemmas.{Bool.{ne_eqb}, List.{append-nil, Elements.{filter-append}, Sums.{sum_by-cons}}}
+use Rattle.std.specs.{Prelude.{count_by, filter, is_some, option_map, unwrap_or}, List.{list_any, position_or_len, sum_by}}
 use Rattle.std.specs.{BTreeMap.{BTreeMap, IsOrdered, Updates, get, insert_entry, values}, Map.{values_of}}
 use Rattle.std.specs.{Cmp.{IsTotalOrder}, Ordering.{eq_by_cmp}}
 use Rattle.sci_allowed.specs.{Outcome.{held_cmp, outcome_cmp, replied_cmp}, declared.outcome.{Held.{Held}, Outcome.{Outcome}, Replied.{Replied}}}
 use Rattle.sci_outcomes.specs.declared.{histogram.{Histogram.{Histogram}, Tally.{Tally}}, outcome.Sighting.{Sighting}}
-use Rattle.sci_outcomes.specs.Rows.{HasCounted, has_outcome, tally_by, with_run}
+use Rattle.sci_outcomes.specs.Rows.{HasCounted, has_outcome, tally_by, unseen_of, with_run}
+use Rattle.sci_allowed.specs.declared.rows.AllowedRow.{AllowedRow}
 use Rattle.sci_outcomes.proofs.SightingCounts.{tally_more, tally_same}
 
 -- ---- the order of outcomes
@@ -73,3 +76,46 @@ module _ (old : Histogram) (tallies : BTreeMap Outcome Tally) (seen : List Sight
         each = λ q. each_tally q (is_same x.outcome q) refl (updates.0 q);
         whole = omega (arith, long, total, runs, now, whole);
       }
+
+-- ---- what was seen
+
+counts_if : {X : Type 0} (p : X → Bool) (x : X) (xs : List X) (b : Bool) → p x ≡ b → (count_by p xs == 0) ≡ not (list_any p xs)
+    → (count_by p (x ∷ xs) == 0) ≡ not (b || list_any p xs)
+counts_if p x xs true is rest =
+    let sum = sum_by-cons (λ (y : _). cond {A = ℕ} (p y) 1 0) x xs in
+    let one : cond {A = ℕ} (p x) 1 0 ≡ 1 = ap (λ (b : Bool). cond {A = ℕ} b 1 0) is in
+    ne_eqb (count_by p (x ∷ xs)) 0 (λ none. absurd (omega arith))
+counts_if p x xs false is rest =
+    let sum = sum_by-cons (λ (y : _). cond {A = ℕ} (p y) 1 0) x xs in
+    let none : cond {A = ℕ} (p x) 1 0 ≡ 0 = ap (λ (b : Bool). cond {A = ℕ} b 1 0) is in
+    ap (λ (n : ℕ). n == 0) (let same : count_by p (x ∷ xs) ≡ count_by p xs = omega arith in same) ∙ rest
+
+-- nothing is counted exactly if none passes
+none_counted : {X : Type 0} (p : X → Bool) (xs : List X) → (count_by p xs == 0) ≡ not (list_any p xs)
+none_counted p [] = refl
+none_counted p (x ∷ xs) = counts_if p x xs (p x) refl (none_counted p xs)
+
+some_if : (any : Bool) (tally : Tally) → is_some (if not any then None else Some tally) ≡ any
+some_if true tally = refl
+some_if false tally = refl
+
+-- an outcome has a tally exactly if it was seen
+pub counted_has : (histogram : Histogram) (seen : List Sighting) (outcome : Outcome) → HasCounted histogram seen
+    → is_some (get outcome_cmp histogram.tallies outcome) ≡ list_any (has_outcome outcome) seen
+counted_has histogram seen outcome counted =
+    let test = has_outcome outcome in
+    let tally : Tally = record {
+      runs = count_by test seen;
+      first = position_or_len test seen;
+      in_order = list_any (λ (sighting : Sighting). test sighting && sighting.in_order) seen;
+    } in
+    ap (λ (o : Option Tally). is_some o) (counted.each outcome)
+    ∙ (ap (λ (b : Bool). is_some (if b then None else Some tally)) (none_counted test seen) ∙ some_if (list_any test seen) tally)
+
+-- a row whose outcome was seen isn't one of the others
+pub unseen_kept : (seen : List Sighting) (rows : List AllowedRow) (row : AllowedRow) → list_any (has_outcome row.outcome) seen ≡ true
+    → unseen_of seen (rows ++ row ∷ []) ≡ unseen_of seen rows
+unseen_kept seen rows row is =
+    let test = λ (r : AllowedRow). not (list_any (has_outcome r.outcome) seen) in
+    filter-append test rows (row ∷ [])
+    ∙ (ap (λ (b : Bool). filter test rows ++ (if not b then row ∷ [] else [])) is ∙ append-nil (filter test rows))

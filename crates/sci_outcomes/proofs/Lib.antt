@@ -2,4 +2,5 @@ pub mod SightingCounts
 pub mod Histograms
 pub mod Ranked
 pub mod Sightings
+pub mod Answering
 pub mod Ran

@@ -1,5 +1,5 @@
 -- What `outcomes` writes for its input.
-use Rattle.std.specs.Prelude.{◌≡◌, ◌⊎◌, ℕ, ◌+◌, ◌%◌, ◌^◌, Bool, List, [], ◌∷◌, ◌++◌, codes, length, Option, unwrap_or}
+use Rattle.std.specs.Prelude.{◌≡◌, ◌⊎◌, ℕ, ◌+◌, ◌%◌, ◌^◌, Bool, true, false, List, [], ◌∷◌, ◌++◌, codes, length, Option, None, Some, unwrap_or}
 use Rattle.std.specs.List.{flat_map}
 use Rattle.sci_text.specs.{FirstFault.{IsTold}, Number.{field}, Script.{ScriptValue}}
 use Rattle.sci_text.specs.declared.fault.TextFaultKind.{TextFaultKind, TheVariants.{TooMany}}
@@ -9,7 +9,10 @@ use Rattle.sci_allowed.specs.OutcomeText.{outcome_text, sense_text}
 use Rattle.sci_outcomes.specs.declared.histogram.Row.{Row}
 use Rattle.sci_outcomes.specs.declared.outcomes_report.{OutcomesRequest.{OutcomesRequest}, TheConstants.{RUNS, SEED}}
 use Rattle.sci_outcomes.specs.declared.trials.{Trials.{Trials}, Turns.{Turns, TheVariants.{Drawn, Threads}}}
-use Rattle.sci_outcomes.specs.{SampleVerdict.{IsSampleVerdict}, Trials.{AreOutcomes, OneIsGivenUp}}
+use Rattle.sci_drive.specs.Rounds.{most_pending}
+use Rattle.sci_allowed.specs.{Allowed.{AreRows, IsTooBig}, Verdict.{AddsVerdict, IsVerdict}, declared.rows.AllowedRow.{AllowedRow}}
+use Rattle.sci_outcomes.specs.{Rows.{AreRowsOf, unseen_of}, SampleVerdict.{IsSampleVerdict}, Trials.{AreSeenOf, OneIsGivenUp}}
+use Rattle.sci_outcomes.specs.declared.outcome.Sighting.{Sighting}
 use Rattle.sci_command.specs.declared.outcome.Outcome as ending
 
 -- ---- texts
@@ -30,6 +33,19 @@ row_text turns row = outcome_text row.outcome ++ count_text turns row
 unfoldable pub total_text : ℕ → ℕ → List ℕ
 total_text outcomes runs = codes "outcomes" ++ (field outcomes ++ (codes " runs" ++ (field runs ++ 10 ∷ [])))
 
+-- `: count 0`, whether a run in which each node goes in order can have the outcome, and the line feed
+unfoldable pub unseen_text : AllowedRow → List ℕ
+unseen_text row = outcome_text row.outcome ++ (codes ": count 0" ++ sense_text row.in_order)
+
+-- `outcomes N seen M runs R`, and the line feed
+unfoldable pub whole_total_text : ℕ → ℕ → ℕ → List ℕ
+whole_total_text outcomes seen runs = codes "outcomes" ++ (field outcomes ++ (codes " seen" ++ (field seen ++ (codes " runs" ++ (field runs ++ 10 ∷ [])))))
+
+-- a line for each row, one for each outcome that no run had, and one for all
+abbrev pub whole_text : Trials → List Row → List AllowedRow → List ℕ
+whole_text trials rows unseen =
+    flat_map (row_text trials.turns) rows ++ (flat_map unseen_text unseen ++ whole_total_text (length rows + length unseen) (length rows) trials.runs)
+
 -- a line for each row, and one for all
 abbrev pub outcomes_text : Trials → List Row → List ℕ
 outcomes_text trials rows = flat_map (row_text trials.turns) rows ++ total_text (length rows) trials.runs
@@ -40,16 +56,34 @@ outcomes_text trials rows = flat_map (row_text trials.turns) rows ++ total_text 
 abbrev pub trials_of : OutcomesRequest → Trials
 trials_of request = record { runs = unwrap_or request.runs RUNS; turns = unwrap_or request.turns (Drawn SEED); issuing = request.issuing }
 
--- the input is the text of a script and its condition, if it has one, and the outcomes of its runs are written, and what they say of the condition
+-- the outcomes of the runs are written, and what they say of the condition of the script, if it has one
+pub record IsSampleText (trials : Trials) (last : Option FinalCondition) (seen : List Sighting) (text : List ℕ) (ends : ending.Outcome) : Type 0 where
+  pub rows : List Row
+  pub rows_are : AreRowsOf seen rows
+  pub verdict : List ℕ
+  pub is_verdict : IsSampleVerdict last rows verdict ends
+  pub written : text ≡ outcomes_text trials rows ++ verdict
+
+-- the outcomes of the runs are written, all others that a run of the script can have, and whether the condition is true of all runs
+pub record IsWholeText (script : ScriptValue) (trials : Trials) (last : Option FinalCondition) (seen : List Sighting) (text : List ℕ)
+    (ends : ending.Outcome) : Type 0 where
+  pub rows : List Row
+  pub rows_are : AreRowsOf seen rows
+  pub allowed : List AllowedRow
+  pub all : AreRows script (most_pending trials.issuing) allowed
+  pub verdict : List ℕ
+  pub is_verdict : IsVerdict script (most_pending trials.issuing) last verdict ends
+  pub written : text ≡ whole_text trials rows (unseen_of seen allowed) ++ verdict
+
+-- the input is the text of a script and its condition, if it has one, and what is asked of its runs is written
 pub record IsOutcomesText (request : OutcomesRequest) (input text : List ℕ) (ends : ending.Outcome) : Type 0 where
   pub script : ScriptValue
   pub last : Option FinalCondition
   pub read : IsConditioned script last input
-  pub rows : List Row
-  pub outcomes : AreOutcomes script (trials_of request) rows
-  pub verdict : List ℕ
-  pub is_verdict : IsSampleVerdict last rows verdict ends
-  pub written : text ≡ outcomes_text (trials_of request) rows ++ verdict
+  pub seen : List Sighting
+  pub runs : AreSeenOf script (trials_of request) seen
+  pub sample : request.all ≡ false → IsSampleText (trials_of request) last seen text ends
+  pub whole : request.all ≡ true → IsWholeText script (trials_of request) last seen text ends
 
 -- the input is the text of a script, and one of its runs is given up
 pub record IsGivenUpScript (request : OutcomesRequest) (input : List ℕ) : Type 0 where
@@ -58,11 +92,40 @@ pub record IsGivenUpScript (request : OutcomesRequest) (input : List ℕ) : Type
   pub read : IsConditioned script last input
   pub one : OneIsGivenUp script (trials_of request)
 
--- why there are no outcomes: the input has a fault, or one of the runs is given up
+-- all outcomes are asked for, and the input is the text of a script with too many positions
+pub record IsBigScript (request : OutcomesRequest) (input : List ℕ) : Type 0 where
+  pub asked : request.all ≡ true
+  pub script : ScriptValue
+  pub last : Option FinalCondition
+  pub read : IsConditioned script last input
+  pub big : IsTooBig script (most_pending request.issuing)
+
+-- why there are no outcomes: the input has a fault, one of the runs is given up, or there are too many positions
 abbrev pub IsOutcomesRefusal : OutcomesRequest → TextFaultKind → Option (List ℕ) → Bool → ℕ → Type 0
 IsOutcomesRefusal request kind input failed at =
-    IsTold IsConditionedFault kind input failed at ⊎ ((kind ≡ TooMany) × (at ≡ 0) × IsReadAs input failed (IsGivenUpScript request))
+    IsTold IsConditionedFault kind input failed at
+    ⊎ ((kind ≡ TooMany) × (at ≡ 0) × IsReadAs input failed (λ bytes. IsGivenUpScript request bytes ⊎ IsBigScript request bytes))
 
 -- what `outcomes` writes, and how it ends, for the bytes of a reader, which has failed or not
 abbrev pub IsOutcomesAnswer : OutcomesRequest → Option (List ℕ) → Bool → List ℕ → ending.Outcome → Type 0
 IsOutcomesAnswer request = IsAnswerBy (IsOutcomesText request) (IsOutcomesRefusal request)
+
+-- ---- inside
+
+-- the outcomes of the runs are written, all others, and what a verdict on all of them says
+pub record IsWholeTable (trials : Trials) (last : Option FinalCondition) (seen : List Sighting) (allowed : List AllowedRow) (text : List ℕ)
+    (ends : ending.Outcome) : Type 0 where
+  pub rows : List Row
+  pub rows_are : AreRowsOf seen rows
+  pub verdict : List ℕ
+  pub adds : AddsVerdict last allowed [] verdict ends
+  pub written : text ≡ whole_text trials rows (unseen_of seen allowed) ++ verdict
+
+abbrev pub IsTable : Trials → Option FinalCondition → List Sighting → Option (List AllowedRow) → List ℕ → ending.Outcome → Type 0
+IsTable trials last seen None text ends = IsSampleText trials last seen text ends
+IsTable trials last seen (Some allowed) text ends = IsWholeTable trials last seen allowed text ends
+
+-- all rows of the script, if they are asked for
+abbrev pub AreAsked : Bool → ScriptValue → (window : ℕ) → Option (List AllowedRow) → Type 0
+AreAsked all script window None = all ≡ false
+AreAsked all script window (Some allowed) = (all ≡ true) × AreRows script window allowed

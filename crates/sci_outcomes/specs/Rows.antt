@@ -1,8 +1,8 @@
 -- How often each outcome was seen.
-use Rattle.std.specs.Prelude.{◌≡◌, ◌≤◌, ℕ, ◌+◌, ◌==◌, ◌&&◌, ◌||◌, Bool, List, length, map, sum, All, count_by, Option, Some, None, if◌then◌else◌}
+use Rattle.std.specs.Prelude.{◌≡◌, ◌≤◌, ℕ, ◌+◌, ◌==◌, ◌&&◌, ◌||◌, not, Bool, filter, List, length, map, sum, All, count_by, Option, Some, None, if◌then◌else◌}
 use Rattle.std.specs.{List.{list_any, position_or_len, sum_by, Sorted.{IsStrictlySortedBy}}, BTreeMap.{get, values}}
 use Rattle.std.specs.{Ordering.{is_eq, nat_cmp, ordering_then}, declared.cmp.Ordering.{Ordering}}
-use Rattle.sci_allowed.specs.{Outcome.{outcome_cmp}, declared.outcome.Outcome.{Outcome}}
+use Rattle.sci_allowed.specs.{Outcome.{outcome_cmp}, declared.{outcome.Outcome.{Outcome}, rows.AllowedRow.{AllowedRow}}}
 use Rattle.sci_outcomes.specs.declared.{histogram.{Histogram.{Histogram}, Row.{Row}, Tally.{Tally}}, outcome.Sighting.{Sighting}}
 
 -- whether a run that was seen had this outcome
@@ -31,6 +31,10 @@ pub record AreRowsOf (seen : List Sighting) (rows : List Row) : Type 0 where
   pub once : All (λ sighting. count_by (λ row. has_outcome row.outcome sighting) rows ≡ 1) seen
   pub whole : sum (map (λ row. row.runs) rows) ≡ length seen
   pub sorted : IsStrictlySortedBy row_cmp rows
+
+-- those of the outcomes that none of the runs had
+abbrev pub unseen_of : List Sighting → List AllowedRow → List AllowedRow
+unseen_of seen allowed = filter (λ row. not (list_any (has_outcome row.outcome) seen)) allowed
 
 -- ---- inside
 

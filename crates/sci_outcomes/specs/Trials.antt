@@ -11,9 +11,9 @@ use Rattle.sci_runs.specs.{Played.{IsPlayed, IsTooLong}, Runs.{IsRunOf, last_beh
 use Rattle.sci_drive.specs.ScriptLogs.{HaveWholeLogsOf, size_for}
 use Rattle.sci_threads.specs.{Shares.{AreLedTo}, Slices.{AreDrivenOpenly}}
 use Rattle.sci_allowed.specs.{Outcome.{IsPlaceWithin, written_places}, declared.place.Place.{Place}}
-use Rattle.sci_outcomes.specs.declared.{histogram.Row.{Row}, outcome.Sighting.{Sighting}}
+use Rattle.sci_outcomes.specs.declared.outcome.Sighting.{Sighting}
 use Rattle.sci_outcomes.specs.declared.trials.{Trials.{Trials}, Turns.{Turns, TheVariants.{Drawn, Threads}}}
-use Rattle.sci_outcomes.specs.{Outcomes.{IsSeen}, Rows.{AreRowsOf}}
+use Rattle.sci_outcomes.specs.Outcomes.{IsSeen}
 
 -- the places are those of the words that the script may write
 pub record AreWrittenBy (script : ScriptValue) (places : List Place) : Type 0 where
@@ -85,9 +85,7 @@ abbrev pub AreSightings : ScriptValue → Trials → List Sighting → Type 0
 AreSightings script trials seen =
     (number : ℕ) (d : Sighting) → number < length seen → IsSightingOf script (turns_of_run trials.turns number) trials.issuing (slice_index_or seen number d)
 
--- the rows of what was seen of the runs of the script, in their order
-pub record AreOutcomes (script : ScriptValue) (trials : Trials) (rows : List Row) : Type 0 where
-  pub seen : List Sighting
+-- what was seen of all runs of the script, in their order
+pub record AreSeenOf (script : ScriptValue) (trials : Trials) (seen : List Sighting) : Type 0 where
   pub many : length seen ≡ trials.runs
   pub each : AreSightings script trials seen
-  pub rows_are : AreRowsOf seen rows

@@ -3,7 +3,7 @@
 ghost use Rattle.sci_outcomes.specs.Rows.{AreRowsOf, HasCounted};
 
 use crate::outcome::Sighting;
-use sci_allowed::Outcome;
+use sci_allowed::{AllowedRow, Outcome};
 use std::alloc::{AllocError, Global};
 use std::cmp::Reverse;
 use std::collections::BTreeMap;
@@ -63,8 +63,8 @@ pub(crate) struct Histogram {
 }
 
 impl Histogram {
-    ghost use Rattle.std.specs.Prelude.{◌≡◌, ◌<◌, ◌++◌, ◌∷◌, [], List, length, IfOk, OnOk};
-    ghost use Rattle.sci_outcomes.specs.{declared.outcome.Sighting.{Sighting}, Rows.{AreRowsOf, HasCounted}};
+    ghost use Rattle.std.specs.{Prelude.{◌≡◌, ◌<◌, ◌++◌, ◌∷◌, [], List, length, IfOk, OnOk}, List.{list_any}};
+    ghost use Rattle.sci_outcomes.specs.{declared.outcome.Sighting.{Sighting}, Rows.{AreRowsOf, HasCounted, has_outcome, unseen_of}};
 
     /// No run was seen.
     pub(crate) fn new(alloc: Global) -> Histogram
@@ -87,6 +87,32 @@ impl Histogram {
         self.tallies.insert(outcome, tally)?;
         self.runs += 1;
         Ok(())
+    }
+
+    /// Whether a run that was seen had an outcome.
+    fn has(&self, outcome: &Outcome) -> bool
+        ensures { (seen : List Sighting) → HasCounted self.now seen →
+            result ≡ list_any (has_outcome outcome.now) seen }
+    {
+        self.tallies.contains_key(outcome)
+    }
+
+    /// Those of the rows whose outcome no run had. Refused if memory is.
+    pub(crate) fn unseen(
+        &self,
+        alloc: Global,
+        allowed: Vec<AllowedRow>,
+    ) -> Result<Vec<AllowedRow>, AllocError>
+        ensures { IfOk result (λ unseen. (seen : List Sighting) → HasCounted self.now seen →
+            unseen.items ≡ unseen_of seen allowed.items) }
+    {
+        let mut unseen = Vec::new(alloc);
+        for row in allowed {
+            if !self.has(&row.outcome) {
+                unseen.push(row)?;
+            }
+        }
+        Ok(unseen)
     }
 
     /// The rows of all outcomes, the most frequent first, and those that are as frequent by outcome. Refused if memory is.

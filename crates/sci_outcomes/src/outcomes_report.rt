@@ -1,19 +1,26 @@
 //! The command `outcomes`: the outcomes of a script that is run many times.
 
-ghost use Rattle.std.specs.Prelude.{◌≡◌, ◌++◌, false, IfOk, OnOk};
-ghost use Rattle.sci_text.specs.Tap.{has_failed};
+ghost use Rattle.std.specs.{Prelude.{◌≡◌, ◌⊎◌, ◌++◌, ◌+◌, ◌<◌, List, false, true, option_map, IfErr, IfOk, OnOk}, List.{flat_map}};
+ghost use Rattle.sci_text.specs.{declared.fault.TextFaultKind.TheVariants.{Memory, TooMany}, Tap.{has_failed}};
+ghost use Rattle.sci_drive.specs.Rounds.{most_pending};
 ghost use Rattle.sci_command.specs.Answer.{HasAnswered};
-ghost use Rattle.sci_outcomes.specs.OutcomesAnswer.{IsOutcomesAnswer, IsOutcomesRefusal, count_text, outcomes_text as outcomes_text_of};
-ghost use Rattle.sci_outcomes.specs.OutcomesAnswer.{row_text, seed_text, total_text};
+ghost use Rattle.sci_allowed.specs.Allowed.{IsLitmus, IsTooBig};
+ghost use Rattle.sci_outcomes.specs.{Rows.{HasCounted}, declared.outcome.Sighting.{Sighting}};
+ghost use Rattle.sci_outcomes.specs.OutcomesAnswer.{AreAsked, IsOutcomesAnswer, IsOutcomesRefusal, IsTable, count_text, outcomes_text as outcomes_text_of};
+ghost use Rattle.sci_outcomes.specs.OutcomesAnswer.{row_text, seed_text, total_text, unseen_text, whole_text as whole_text_of, whole_total_text};
 
-use crate::histogram::Row;
+use crate::histogram::{Histogram, Row};
 use crate::run_report::refusal_of;
 use crate::sample_verdict::push_sample_verdict;
-use crate::trials::{Trials, Turns, outcomes};
-use sci_allowed::{push_outcome, read_conditioned, sense_words};
-use sci_command::{Answer, Answered, push_labelled};
+use crate::trials::{Trials, Turns, counted};
+use sci_allowed::{
+    AllowedRow, FinalCondition, Litmus, TOO_MANY_POSITIONS, push_outcome, push_verdict,
+    read_conditioned, sense_words,
+};
+use sci_command::{Answer, Answered, Note, Refusal, push_labelled};
 use sci_drive::Issuing;
-use sci_text::{Tap, push_text};
+use sci_orders::OrdersFault;
+use sci_text::{Tap, TextFault, TextFaultKind, push_text};
 use std::alloc::{AllocError, Global};
 use std::io::Read;
 use std::thread::Threads;
@@ -42,6 +49,15 @@ pub struct OutcomesRequest {
     pub turns: Option<Turns>,
     /// When the operations of a node are submitted.
     pub issuing: Issuing,
+    /// Whether all other outcomes that a run can have are listed, too.
+    pub all: bool,
+}
+
+/// What the runs of a script had, and all rows of the script, if they are asked for.
+#[derive(Drop)]
+struct Sample {
+    histogram: Histogram,
+    allowed: Option<Vec<AllowedRow>>,
 }
 
 /// Appends the seed of the run with this number, if its order of turns was drawn.
@@ -100,15 +116,138 @@ fn outcomes_text(alloc: Global, trials: Trials, rows: &[Row]) -> Result<Vec<u8>,
     Ok(text)
 }
 
+/// Appends the line of an outcome that no run had.
+#[tactic(auto, unfolding(crate::specs::OutcomesAnswer::unseen_text))]
+fn push_unseen(out: &mut Vec<u8>, row: &AllowedRow) -> Result<(), AllocError>
+    ensures { OnOk result (out.new.items ≡ out.old.items ++ unseen_text row.now) }
+{
+    push_outcome(out, &row.outcome)?;
+    push_text(out, ": count 0")?;
+    push_text(out, sense_words(row.in_order))
+}
+
+/// Appends how many outcomes there are, how many were seen, and how many runs there were.
+#[tactic(auto, unfolding(crate::specs::OutcomesAnswer::whole_total_text))]
+fn push_whole_total(
+    out: &mut Vec<u8>,
+    outcomes: u64,
+    seen: u64,
+    runs: u64,
+) -> Result<(), AllocError>
+    ensures { OnOk result (out.new.items ≡ out.old.items ++ whole_total_text outcomes seen runs) }
+{
+    push_labelled(out, b"outcomes", outcomes)?;
+    push_labelled(out, b" seen", seen)?;
+    push_labelled(out, b" runs", runs)?;
+    push_text(out, "\n")
+}
+
+/// The text of the rows of runs, and of those that no run had.
+fn whole_text(
+    alloc: Global,
+    trials: Trials,
+    rows: &[Row],
+    unseen: &[AllowedRow],
+) -> Result<Vec<u8>, AllocError>
+    ensures { IfOk result (λ text. text.items ≡ whole_text_of trials rows.now unseen.now) }
+{
+    let mut text = Vec::new(alloc);
+    for row in rows {
+        push_row(&mut text, trials.turns, row)?;
+    }
+    for other in unseen {
+        push_unseen(&mut text, other)?;
+    }
+    let seen = rows.len() as u64;
+    push_whole_total(
+        &mut text,
+        seen.wrapping_add(unseen.len() as u64),
+        seen,
+        trials.runs,
+    )?;
+    Ok(text)
+}
+
+/// The table of what runs had, and what it says of the condition of the script, if it has one.
+fn table(
+    alloc: Global,
+    trials: Trials,
+    last: &Option<FinalCondition>,
+    sample: Sample,
+) -> Result<Answer, AllocError>
+    ensures { IfOk result (λ answer. (seen : List Sighting) → HasCounted sample.histogram seen →
+        IsTable trials last.now seen (option_map (λ rows. rows.items) sample.allowed) answer.text.items answer.outcome) }
+{
+    let Sample { histogram, allowed } = sample;
+    match allowed {
+        None => {
+            let rows = histogram.rows(alloc)?;
+            let mut text = outcomes_text(alloc, trials, &rows)?;
+            let outcome = push_sample_verdict(&mut text, last, &rows)?;
+            Ok(Answer { text, outcome })
+        }
+        Some(allowed) => {
+            let mut verdict = Vec::new(alloc);
+            let outcome = push_verdict(&mut verdict, last, &allowed)?;
+            let unseen = histogram.unseen(alloc, allowed)?;
+            let rows = histogram.rows(alloc)?;
+            let mut text = whole_text(alloc, trials, &rows, &unseen)?;
+            text.extend_from_slice(&verdict)?;
+            Ok(Answer { text, outcome })
+        }
+    }
+}
+
+/// Why the rows of a script aren't known, as a fault of the whole input.
+fn big_refusal(fault: OrdersFault) -> Refusal
+    ensures line { result.fault.line ≡ 0 }
+    ensures kind { (result.fault.kind ≡ TooMany) ⊎ (result.fault.kind ≡ Memory) }
+    ensures many { result.fault.kind ≡ TooMany → fault ≡ OrdersFault.TooMany }
+{
+    let (kind, note) = match fault {
+        OrdersFault::Memory => (TextFaultKind::Memory, Note::Kind),
+        OrdersFault::TooMany => (TextFaultKind::TooMany, Note::Fixed(TOO_MANY_POSITIONS)),
+    };
+    Refusal {
+        fault: TextFault { line: 0, kind },
+        note,
+    }
+}
+
+/// All rows of a script, if they are asked for. A refusal has line 0.
+fn asked_rows(
+    alloc: Global,
+    litmus: &Litmus,
+    request: OutcomesRequest,
+) -> Result<Option<Vec<AllowedRow>>, OrdersFault>
+    requires { IsLitmus litmus.now }
+    ensures rows { IfOk result (λ rows. AreAsked request.all litmus.now.script (most_pending request.issuing)
+        (option_map (λ rows. rows.items) rows)) }
+    ensures many { IfErr result (λ fault. fault ≡ OrdersFault.TooMany → (request.all ≡ true)
+        × IsTooBig litmus.now.script (most_pending request.issuing)) }
+{
+    if request.all {
+        Ok(Some(litmus.rows(alloc, request.issuing)?))
+    } else {
+        Ok(None)
+    }
+}
+
 /// Reads a script to its end, runs it many times by the policy on a new machine, each time in an order that is drawn from the
 /// next seed or by one thread a node, and gives a line for each outcome: what each load and each lock operation replied, by
 /// node and then by serial; what each word that the script may write holds at the end; how many runs gave the outcome; the
 /// seed of the first of them, unless they are by threads; and whether the log of one of them is sequentially consistent in
 /// program order. The most frequent stands first, and those that are as frequent by their numbers. The next line says how many
-/// outcomes and runs there were. If the text of the script ends in a condition, the last line says what the runs tell of it, and
-/// it is Unlawful if it isn't true of them. That the log of each run is lawful is a theorem, and isn't looked at. A script with
-/// a fault is refused, as are a reader that fails, too long an input and running out of memory, at line 0, and a run of more than 500,000
-/// events or 1,000,000,000 turns, as `too-many` at line 0. After a failed read nothing more is read.
+/// outcomes and runs there were. If the text of the script ends in a condition, the last line says what the runs show of it, and
+/// it is Unlawful if it isn't true of them. That the log of each run is lawful is a theorem, and isn't looked at.
+///
+/// If all outcomes are asked for, a line with count 0 follows for each other outcome that a run of the script can have, sorted,
+/// as `allowed` gives them, and the last lines say how many outcomes there are in all and how many were seen, and whether the
+/// condition is true of all of them.
+///
+/// A script with a fault is refused, as are a reader that fails, too long an input and running out of memory, at line 0; a run
+/// of more than 500,000 events or 1,000,000,000 turns, as `too-many` at line 0; and so is a script of which some number of steps
+/// leads to more than 100,000 positions, if all outcomes are asked for. After a failed read nothing more is read.
 pub fn outcomes_of<T: Threads + Sync, R: Read>(
     rt: &T,
     alloc: Global,
@@ -125,11 +264,14 @@ pub fn outcomes_of<T: Threads + Sync, R: Read>(
         turns: request.turns.unwrap_or(Turns::Drawn { seed: SEED }),
         issuing: request.issuing,
     };
-    let rows = match outcomes(rt, alloc, &litmus.script, trials) {
+    let allowed = match asked_rows(alloc, &litmus, request) {
         Ok(rows) => rows,
+        Err(fault) => return Err(big_refusal(fault)),
+    };
+    let histogram = match counted(rt, alloc, &litmus.script, trials) {
+        Ok(histogram) => histogram,
         Err(fault) => return Err(refusal_of(fault, GIVEN_UP)),
     };
-    let mut text = outcomes_text(alloc, trials, &rows)?;
-    let outcome = push_sample_verdict(&mut text, &last, &rows)?;
-    Ok(Answer { text, outcome })
+    let answer = table(alloc, trials, &last, Sample { histogram, allowed })?;
+    Ok(answer)
 }

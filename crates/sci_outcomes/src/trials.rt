@@ -1,11 +1,12 @@
 //! A script that is run many times, and its outcomes.
 
-ghost use Rattle.std.specs.Prelude.{◌≡◌, IfErr, IfOk};
+ghost use Rattle.std.specs.Prelude.{◌≡◌, List, IfErr, IfOk};
 ghost use Rattle.sci_runs.specs.declared.fault.RunFault.TheVariants.{TooMany};
 ghost use Rattle.sci_outcomes.specs.declared.trials.Turns.TheVariants.{Drawn, Threads};
-ghost use Rattle.sci_outcomes.specs.Trials.{AreOutcomes, AreWrittenBy, IsDrawnSighting, IsGivenUp, IsSightingOf, IsThreadSighting, OneIsGivenUp};
+ghost use Rattle.sci_outcomes.specs.{Rows.{HasCounted}, declared.outcome.Sighting.{Sighting}};
+ghost use Rattle.sci_outcomes.specs.Trials.{AreSeenOf, AreWrittenBy, IsDrawnSighting, IsGivenUp, IsSightingOf, IsThreadSighting, OneIsGivenUp};
 
-use crate::histogram::{Histogram, Row};
+use crate::histogram::Histogram;
 use crate::outcome::{Sighting, seen};
 use sci_allowed::{Place, written_places};
 use sci_drive::Issuing;
@@ -129,17 +130,17 @@ fn one_run<R: Threads + Sync>(
     }
 }
 
-/// Runs a script many times, and gives a row for each outcome that a run had: the most frequent first, and those that are as
-/// frequent by what was replied and then by the words. Each run is whole: each operation of the script has just one entry.
-/// The logs of each run are lawful. Refused if memory is, and as too many if a run isn't done after 1,000,000,000 turns, by
-/// threads of one node and else of all together, or if a run in an order that is drawn has more than 500,000 events.
-pub(crate) fn outcomes<R: Threads + Sync>(
+/// Runs a script many times, and counts how often each outcome came. Each run is whole: each operation of the script has just
+/// one entry. The logs of each run are lawful. Refused if memory is, and as too many if a run isn't done after 1,000,000,000
+/// turns, by threads of one node and else of all together, or if a run in an order that is drawn has more than 500,000 events.
+pub(crate) fn counted<R: Threads + Sync>(
     rt: &R,
     alloc: Global,
     script: &Script,
     trials: Trials,
-) -> Result<Vec<Row>, RunFault>
-    ensures rows { IfOk result (λ rows. AreOutcomes script.now trials rows.items) }
+) -> Result<Histogram, RunFault>
+    ensures counted { IfOk result (λ histogram. (seen : List Sighting)
+        × AreSeenOf script.now trials seen × HasCounted histogram seen) }
     ensures given_up { IfErr result (λ fault. fault ≡ TooMany → OneIsGivenUp script.now trials) }
 {
     let places = written_places(alloc, script.extent().lines, script.operations())?;
@@ -153,5 +154,5 @@ pub(crate) fn outcomes<R: Threads + Sync>(
         let sighting = one_run(rt, alloc, litmus, trials.turns.of_run(number))?;
         histogram.add(sighting)?;
     }
-    Ok(histogram.rows(alloc)?)
+    Ok(histogram)
 }

@@ -55,7 +55,7 @@ options_of Order = flag options.BySerial ∷ flag options.Show ∷ []
 options_of Judge = flag options.Times ∷ flag options.Log ∷ []
 options_of Run = number_from options.Seed 0 0xffff_ffff_ffff_ffff ∷ flag options.InOrder ∷ number_from options.Turns 0 0xffff_ffff_ffff_ffff ∷ []
 options_of Outcomes = number_from options.Runs 1 MAX_RUNS ∷ number_from options.Seed 0 0xffff_ffff_ffff_ffff ∷ flag options.Threads
-    ∷ flag options.InOrder ∷ []
+    ∷ flag options.InOrder ∷ flag options.AllOutcomes ∷ []
 options_of Allowed = flag options.InOrder ∷ number_from options.Show 1 0xffff_ffff_ffff_ffff ∷ []
 options_of Trace = flag options.Json ∷ flag options.Strict ∷ place options.Line MAX_LINES ∷ []
 options_of Lists = place options.Line MAX_LINES ∷ []
@@ -90,8 +90,12 @@ abbrev pub asked_turns : List Setting → Option (Option Turns)
 asked_turns settings = turn_order (asked_number options.Seed settings) (is_given options.Threads settings)
 
 abbrev pub outcomes_asked : List Setting → Option Turns → Command
-outcomes_asked settings turns =
-    commands.Outcomes (record { runs = asked_number options.Runs settings; turns = turns; issuing = asked_issuing settings })
+outcomes_asked settings turns = commands.Outcomes (record {
+  runs = asked_number options.Runs settings;
+  turns = turns;
+  issuing = asked_issuing settings;
+  all = is_given options.AllOutcomes settings;
+})
 
 -- what a command other than `random` is asked for
 abbrev pub command_of : Verb → List Setting → Option Command

@@ -175,6 +175,7 @@ fn command_of(verb: Verb, given: &Given) -> Option<Command>
             runs: given.number(OptionName::Runs),
             turns: turns_of(given)?,
             issuing: issuing_of(given),
+            all: given.has(OptionName::AllOutcomes),
         }),
         Verb::Allowed => Command::Allowed(AllowedRequest {
             issuing: issuing_of(given),

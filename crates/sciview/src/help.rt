@@ -98,7 +98,7 @@ each in a circle; a node has up to four operations pending.
 
 /// What `outcomes --help` writes.
 pub const OUTCOMES: &str = "\
-usage: sciview outcomes [--runs R] [--seed S | --threads] [--in-order] [FILE]
+usage: sciview outcomes [--runs R] [--seed S | --threads] [--in-order] [--all] [FILE]
 
 Of a script: how often each outcome of it comes in many runs: what each load and
 lock operation replied, the words at the end, how many runs gave it, the seed of
@@ -109,6 +109,8 @@ A condition in the script's last line is answered by Yes, No or Not seen.
   --seed S      by the seeds from S on, and not from 1
   --threads     by threads, and not by seeds
   --in-order    a node has one operation pending, and not up to four
+  --all         list each other outcome that a run can have, too, with count 0;
+                a condition is answered for all of them, by Yes or No
 ";
 
 /// What `allowed --help` writes.

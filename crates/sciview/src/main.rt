@@ -59,11 +59,25 @@ fn main(rt: HostRuntime) -> ExitCode {
     let ended = match opened {
         Some(input) => {
             let mut reader = Tap::new(input);
-            carried_out(&rt, rt.alloc(), command, &mut reader, &mut writer, &mut lines)
+            carried_out(
+                &rt,
+                rt.alloc(),
+                command,
+                &mut reader,
+                &mut writer,
+                &mut lines,
+            )
         }
         None => {
             let mut reader = Tap::new(rt.stdin());
-            carried_out(&rt, rt.alloc(), command, &mut reader, &mut writer, &mut lines)
+            carried_out(
+                &rt,
+                rt.alloc(),
+                command,
+                &mut reader,
+                &mut writer,
+                &mut lines,
+            )
         }
     };
     let mut errors = Tap::new(rt.stderr());

@@ -57,6 +57,11 @@ const EVENTS: OptionRow = OptionRow {
     argument: Argument::TwoNumbers,
 };
 
+const ALL_OUTCOMES: OptionRow = OptionRow {
+    name: OptionName::AllOutcomes,
+    argument: Argument::Nothing,
+};
+
 const IN_ORDER: OptionRow = OptionRow {
     name: OptionName::InOrder,
     argument: Argument::Nothing,
@@ -165,7 +170,7 @@ impl Verb {
             Verb::Order => &[BY_SERIAL, SHOW],
             Verb::Judge => &[TIMES, LOG],
             Verb::Run => &[SEED, IN_ORDER, TURNS],
-            Verb::Outcomes => &[RUNS, SEED, THREADS, IN_ORDER],
+            Verb::Outcomes => &[RUNS, SEED, THREADS, IN_ORDER, ALL_OUTCOMES],
             Verb::Allowed => &[IN_ORDER, SHOW_ROW],
             Verb::Trace => &[JSON, STRICT, LINE],
             Verb::Lists => &[LINE],

@@ -1,7 +1,7 @@
 use Rattle.std.proofs.Common.{subst}
 use Rattle.sci_outcomes.specs.{declared.trials.Turns.{Turns}, Trials.{IsSightingOf, turns_of_run}}
 use Rattle.sci_outcomes.proofs.Sightings.{seen_more}
-use Rattle.sci_outcomes.proofs.trials.outcomes.Goals as goal
+use Rattle.sci_outcomes.proofs.trials.counted.Goals as goal
 
 pub loop-number-preserved : goal.loop-number-preserved
 loop-number-preserved g c =
