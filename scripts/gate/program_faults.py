@@ -56,7 +56,9 @@ def unread(program, case):
 
 def unwritten(program, case, has_left):
     """What is said if the output can't be written, for a reader that has left or not. A refusal is told in its place, and so are
-    events that aren't enabled if the reader has left."""
+    events that aren't enabled if the reader has left. Which line of a log is which address is told behind a whole log alone."""
+    if has_left and "--log" in case.words:
+        return b"" if case.status == 0 else case.errors
     if case.status == 2 or has_left:
         return case.errors
     return told(program, case, b"standard output can't be written")
