@@ -1,8 +1,8 @@
 /*
 ** Lichenknit as a C library: packets, machines with coherent caches, and logs with their checkers.
 **
-** Each function is a proved one, but for sci_status_text. The text above it names the call of the crates that it makes; the
-** README of crates/sci_c says what is proved.
+** Each function is a proved one, but for those that give texts and names. The text above it names the call of the crates that
+** it makes; the README of crates/sci_c says what is proved.
 **
 ** WHAT THE CALLER PROMISES. Nothing checks these promises.
 **

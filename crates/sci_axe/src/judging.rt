@@ -88,8 +88,8 @@ fn sites_to_log(request: JudgeRequest, judgement: &Judgement) -> Option<&[SiteVe
 /// are, or if a log is asked for, with the log. Unlawful, with the line `not coherent at A` and a witness, if those at an address
 /// aren't, and with the line `undecided at A` if nothing was found of them. A text with a fault is refused, as are a reader that
 /// fails, too long an input and running out of memory, at line 0; so is a coherent trace with more than 64 addresses or more than
-/// 65,536 operations of a processor, if a log is asked for. After a failed read nothing more is read. If a log is written,
-/// `lines` are the addresses of its lines of memory, and else none.
+/// 65,536 operations of a processor, or of which no log was found, if a log is asked for. After a failed read nothing more is
+/// read. If a log is written, `lines` are the addresses of its lines of memory; if a verdict is, there are none.
 pub fn judge_trace<R: Read>(
     alloc: Global,
     request: JudgeRequest,
