@@ -5,10 +5,12 @@ all orders.
     scripts/measure/fuzz_traces.py [SECONDS [SEED [PROGRAM]]]        60 seconds and seed 1, if it isn't said
 
 Half of the traces write each word once, and never 0, so that the verdict has to be the right one. The others may write words
-again, and may be undecided then; so may those in which times contradict the order of a processor. Some have times, and some say
-last words. Of a coherent trace the log is asked for, too: it has to have the trace's operations in each processor's order, and one
-memory of one thread has to explain each line, by the log's versions, which have to respect the times if these count. The last line
-is 'N passed, M failed', of traces.
+again, and may be undecided then if they aren't coherent; so may those in which times contradict the order of a processor. Some
+have times, and some say last words. Of a coherent trace it is counted how many versions explain it, which has to be one exactly if
+they are said to be forced; where they are said to be undecided, nothing is wanted. The log is asked for, too: it has to have the
+trace's operations in each processor's order, and one memory of one thread has to explain each line, by the log's versions, which
+have to respect the times if these count. With `--order` the answer has to be that of a search of all orders; it may be unknown if
+the trace isn't sequentially consistent, or times count. The last line is 'N passed, M failed', of traces.
 """
 
 import os
@@ -86,6 +88,58 @@ def is_coherent(accesses, last, timed):
     return goes_on(0, 0)
 
 
+def are_forced(accesses, last, timed):
+    """Whether one assignment of versions alone explains the operations at one address, by trying all."""
+    count = len(accesses)
+
+    def is_before(i, j):
+        x, y = accesses[i], accesses[j]
+        return x.processor == y.processor and i < j or timed and x.end < y.begin
+
+    before = [[i for i in range(count) if is_before(i, j)] for j in range(count)]
+    found, seen = set(), set()
+
+    def place(done, word, version, versions):
+        if (done, versions) in seen or len(found) > 1:
+            return
+        seen.add((done, versions))
+        if done == (1 << count) - 1:
+            if last is None or last == word:
+                found.add(versions)
+            return
+        for j, access in enumerate(accesses):
+            if done >> j & 1 or any(not done >> i & 1 for i in before[j]) or access.read not in (None, word):
+                continue
+            at = version + access.makes()
+            place(done | 1 << j, access.wrote if access.makes() else word, at, versions[:j] + (at,) + versions[j + 1 :])
+
+    place(0, 0, 0, (None,) * count)
+    return len(found) == 1
+
+
+def is_sequential(accesses, lasts):
+    """Whether one order of all operations explains them, by trying all."""
+    queues = [[it for it in accesses if it.processor == processor] for processor in range(16)]
+
+    @cache
+    def goes_on(places, memory):
+        words = dict(memory)
+        if all(place == len(queue) for place, queue in zip(places, queues)):
+            return all(words.get(address, 0) == word for address, word in lasts.items())
+        for processor, place in enumerate(places):
+            if place == len(queues[processor]):
+                continue
+            access = queues[processor][place]
+            if access.read in (None, words.get(access.address, 0)):
+                after = {**words, access.address: access.wrote} if access.makes() else words
+                rest = places[:processor] + (place + 1,) + places[processor + 1 :]
+                if goes_on(rest, tuple(sorted(after.items()))):
+                    return True
+        return False
+
+    return goes_on((0,) * 16, ())
+
+
 def is_once(accesses):
     words = [it.wrote for it in accesses if it.writes()]
     return len(words) == len(set(words)) and 0 not in words
@@ -140,11 +194,12 @@ def text_of(chance, accesses, lasts):
 
 
 def wanted(accesses, lasts, timed):
-    """Of each address that is named whether it is coherent, and whether it has to be decided."""
+    """Of each address that is named whether it is coherent, whether it has to be decided if it isn't, and whether if it is."""
     found = {}
     for address in sorted({it.address for it in accesses} | set(lasts)):
         there = [it for it in accesses if it.address == address]
-        found[address] = (is_coherent(there, lasts.get(address), timed), is_once(there) and (not timed or is_monotone(there)))
+        clear = not timed or is_monotone(there)
+        found[address] = (is_coherent(there, lasts.get(address), timed), is_once(there) and clear, clear)
     return found
 
 
@@ -155,13 +210,13 @@ def is_right(found, status, output):
     if not first or lines[-1] or status != (0 if first[1] == b"coherent" else 1):
         return False
     if first[1] == b"coherent":
-        return all(coherent for coherent, _ in found.values())
+        return len(lines) == 3 and all(coherent for coherent, *_ in found.values())
     at = int(first[2] or first[3])
-    if not all(coherent for address, (coherent, _) in found.items() if address < at):
+    if not all(coherent for address, (coherent, *_) in found.items() if address < at):
         return False
-    coherent, once = found[at]
+    coherent, once, clear = found[at]
     if first[3]:
-        return not once
+        return not (clear if coherent else once)
     return not coherent and len(lines) > 2 and all(STEP.match(it) for it in lines[1:-1])
 
 
@@ -239,6 +294,25 @@ def is_log_of(accesses, lasts, timed, log, errors):
     return True
 
 
+def is_freedom(accesses, lasts, timed, said):
+    """Whether what is said of other versions of a coherent trace is right. Where times contradict the order of a processor it is left open."""
+    by_address = {it: [x for x in accesses if x.address == it] for it in {x.address for x in accesses}}
+    if said == b"versions undecided" or timed and not all(is_monotone(there) for there in by_address.values()):
+        return True
+    forced = all(are_forced(there, lasts.get(address), timed) for address, there in by_address.items())
+    return said == (b"versions forced" if forced else b"versions free")
+
+
+def is_order(accesses, lasts, timed, run):
+    """Whether what is said of one order of all operations of a coherent trace is right."""
+    lines = run.stdout.split(b"\n")
+    if run.stderr or len(lines) != 4 or run.returncode != (0 if lines[2] == b"sequentially consistent" else 1):
+        return False
+    if is_sequential(accesses, lasts):
+        return lines[2] == b"sequentially consistent" or timed and lines[2] == b"order unknown"
+    return lines[2] in (b"not sequentially consistent", b"order unknown")
+
+
 def failure(job):
     """What goes wrong with the trace of this number, or None, and the verdict's first word."""
     program, number = job
@@ -253,12 +327,17 @@ def failure(job):
         log = subprocess.run([*words, "--log"], input=given, stdout=subprocess.PIPE, stderr=subprocess.PIPE, timeout=60)
         if run.returncode == 0:
             right = log.returncode == 0 and is_log_of(accesses, lasts, timed, log.stdout, log.stderr)
+            right = right and is_freedom(accesses, lasts, timed, run.stdout.split(b"\n")[1])
+            if right:
+                log = subprocess.run([*words, "--order"], input=given, stdout=subprocess.PIPE, stderr=subprocess.PIPE, timeout=60)
+                right = is_order(accesses, lasts, timed, log)
         else:
             right = (log.returncode, log.stdout, log.stderr) == (run.returncode, run.stdout, run.stderr)
         if not right:
             run = log
     wrong = None if right else f"trace {number}: {' '.join(words[1:])}, status {run.returncode}\n{given.decode()}-- {run.stdout.decode()}"
-    return wrong, run.stdout.split(b" ")[0].strip().decode()
+    kind = b" ".join(run.stdout.split(b"\n")[:2]) if run.returncode == 0 and right else run.stdout.split(b" ")[0].strip()
+    return wrong, kind.decode()
 
 
 def main(words):

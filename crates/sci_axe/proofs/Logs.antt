@@ -13,16 +13,17 @@ use Rattle.sci_judge.specs.Judgement.{AreExplained, IsJudgement, addresses_of}
 use Rattle.sci_axe.specs.{declared.judging.JudgeRequest.{JudgeRequest}, Trace.{IsTrace, IsTraceFault}}
 use Rattle.sci_axe.specs.JudgeAnswer.{IsJudgeAnswer, IsJudgeRefusal, IsJudged, IsLogText, IsNoLogFault, IsToldBy, IsVerdictText, logged_sites}
 
-pub verdict_told : (logs : Bool) (trace : Trace) (judgement : Judgement) (lines text : List ℕ) (outcome : Outcome) → None ≡ logged_sites logs judgement
-    → IsVerdictText judgement lines text outcome → IsToldBy (logged_sites logs judgement) trace judgement lines text outcome
-verdict_told logs trace judgement lines text outcome none verdict =
-    subst (λ (sites : Option (List SiteVersions)). IsToldBy sites trace judgement lines text outcome) none verdict
+pub verdict_told : (request : JudgeRequest) (trace : Trace) (judgement : Judgement) (lines text : List ℕ) (outcome : Outcome)
+    → None ≡ logged_sites request.logs judgement → IsVerdictText request trace judgement lines text outcome
+    → IsToldBy request (logged_sites request.logs judgement) trace judgement lines text outcome
+verdict_told request trace judgement lines text outcome none verdict =
+    subst (λ (sites : Option (List SiteVersions)). IsToldBy request sites trace judgement lines text outcome) none verdict
 
-pub log_told : (logs : Bool) (trace : Trace) (judgement : Judgement) (sites : List SiteVersions) (lines text : List ℕ) (outcome : Outcome)
-    → Some sites ≡ logged_sites logs judgement → IsLogText trace sites text → outcome ≡ Done → lines ≡ addresses_of sites
-    → IsToldBy (logged_sites logs judgement) trace judgement lines text outcome
-log_told logs trace judgement sites lines text outcome some log done told =
-    subst (λ (s : Option (List SiteVersions)). IsToldBy s trace judgement lines text outcome) some (log, done, told)
+pub log_told : (request : JudgeRequest) (trace : Trace) (judgement : Judgement) (sites : List SiteVersions) (lines text : List ℕ) (outcome : Outcome)
+    → Some sites ≡ logged_sites request.logs judgement → IsLogText trace sites text → outcome ≡ Done → lines ≡ addresses_of sites
+    → IsToldBy request (logged_sites request.logs judgement) trace judgement lines text outcome
+log_told request trace judgement sites lines text outcome some log done told =
+    subst (λ (s : Option (List SiteVersions)). IsToldBy request s trace judgement lines text outcome) some (log, done, told)
 
 same_sites : (xs ys : List SiteVersions) → Some xs ≡ Some ys → ys ≡ xs
 same_sites xs ys is = cc
@@ -93,7 +94,7 @@ log_answered request lines known failed bytes trace judgement sites (Ok answer) 
           read = is;
           judgement = judgement;
           holds = holds;
-          told = log_told request.logs trace judgement sites lines answer.text.items answer.outcome some log done told;
+          told = log_told request trace judgement sites lines answer.text.items answer.outcome some log done told;
         },
       ),
     )

@@ -1,5 +1,5 @@
 -- What `judge` writes for its input.
-use Rattle.std.specs.Prelude.{◌≡◌, ◌⊎◌, ℕ, Bool, true, false, List, [], Option, Some, None}
+use Rattle.std.specs.Prelude.{◌≡◌, ◌⊎◌, ◌++◌, ℕ, Bool, true, false, List, [], Option, Some, None}
 use Rattle.sci_words.specs.declared.limits.TheConstants.{MAX_NODES}
 use Rattle.sci_text.specs.declared.fault.{TextFault.{TextFault}, TextFaultKind.{TextFaultKind}}
 use Rattle.sci_text.specs.declared.fault.TextFaultKind.TheVariants.{TooMany, Memory}
@@ -7,8 +7,9 @@ use Rattle.sci_text.specs.{FirstFault.{IsTold}, Log.{log_text}}
 use Rattle.sci_command.specs.{declared.outcome.Outcome.{Outcome, TheVariants.{Done}}, Answer.{IsAnswerBy}, Input.{IsReadAs}}
 use Rattle.sci_judge.specs.declared.{judging.{Judgement.{Judgement}, SiteVersions.{SiteVersions}}, logging.{Log.{Log}, NoLog.{NoLog}}, trace.Trace.{Trace}}
 use Rattle.sci_judge.specs.declared.judging.Judgement.TheVariants.{Coherent, NotCoherent, Undecided}
-use Rattle.sci_judge.specs.{Judgement.{AreExplained, IsJudgement, addresses_of}, Logged.{IsLogOf, IsNoLog}}
-use Rattle.sci_axe.specs.{declared.judging.JudgeRequest.{JudgeRequest}, Telling.{judgement_text, outcome_of}, Trace.{IsTrace, IsTraceFault}}
+use Rattle.sci_judge.specs.declared.consistency.Consistency.{Consistency}
+use Rattle.sci_judge.specs.{Consistency.{IsConsistency}, Judgement.{AreExplained, IsJudgement, addresses_of}, Logged.{IsLogOf, IsNoLog}}
+use Rattle.sci_axe.specs.{declared.judging.JudgeRequest.{JudgeRequest}, Telling.{consistency_text, judgement_text, outcome_of}, Trace.{IsTrace, IsTraceFault}}
 
 -- the text of a log of a trace, of a machine of sixteen nodes
 pub record IsLogText (trace : Trace) (sites : List SiteVersions) (text : List ℕ) : Type 0 where
@@ -16,10 +17,19 @@ pub record IsLogText (trace : Trace) (sites : List SiteVersions) (text : List �
   pub of : IsLogOf trace sites log
   pub written : text ≡ log_text MAX_NODES log.logs log.last
 
--- the words of a judgement, and no line of memory
-pub record IsVerdictText (judgement : Judgement) (lines text : List ℕ) (outcome : Outcome) : Type 0 where
-  pub written : text ≡ judgement_text judgement
-  pub ends : outcome ≡ outcome_of judgement
+-- what is said of one order of all operations holds; it is said of a coherent trace, if it is asked for
+abbrev pub IsOrdering : (asked : Bool) → Trace → Judgement → Option Consistency → Type 0
+IsOrdering asked trace (Coherent sites) None = asked ≡ false
+IsOrdering asked trace (Coherent sites) (Some consistency) = (asked ≡ true) × IsConsistency trace sites.items consistency
+IsOrdering asked trace (NotCoherent address there witness) consistency = consistency ≡ None
+IsOrdering asked trace (Undecided address) consistency = consistency ≡ None
+
+-- the words of a judgement and of an order, and no line of memory
+pub record IsVerdictText (request : JudgeRequest) (trace : Trace) (judgement : Judgement) (lines text : List ℕ) (outcome : Outcome) : Type 0 where
+  pub consistency : Option Consistency
+  pub ordering : IsOrdering request.ordered trace judgement consistency
+  pub written : text ≡ judgement_text judgement ++ consistency_text consistency
+  pub ends : outcome ≡ outcome_of judgement consistency
   pub no_lines : lines ≡ []
 
 -- the sites of a coherent trace, if its log is asked for
@@ -31,9 +41,9 @@ logged_sites false judgement = None
 
 -- What is written of a trace: the verdict, or the log by versions at each address. Then `lines` are the addresses of its lines
 -- of memory.
-abbrev pub IsToldBy : Option (List SiteVersions) → Trace → Judgement → (lines text : List ℕ) → Outcome → Type 0
-IsToldBy None trace judgement lines text outcome = IsVerdictText judgement lines text outcome
-IsToldBy (Some sites) trace judgement lines text outcome = IsLogText trace sites text × (outcome ≡ Done) × (lines ≡ addresses_of sites)
+abbrev pub IsToldBy : JudgeRequest → Option (List SiteVersions) → Trace → Judgement → (lines text : List ℕ) → Outcome → Type 0
+IsToldBy request None trace judgement lines text outcome = IsVerdictText request trace judgement lines text outcome
+IsToldBy request (Some sites) trace judgement lines text outcome = IsLogText trace sites text × (outcome ≡ Done) × (lines ≡ addresses_of sites)
 
 -- the input is the text of a trace, and what is written of it is of a judgement that holds
 pub record IsJudged (request : JudgeRequest) (lines input text : List ℕ) (outcome : Outcome) : Type 0 where
@@ -41,7 +51,7 @@ pub record IsJudged (request : JudgeRequest) (lines input text : List ℕ) (outc
   pub read : IsTrace input trace
   pub judgement : Judgement
   pub holds : IsJudgement request.timed trace judgement
-  pub told : IsToldBy (logged_sites request.logs judgement) trace judgement lines text outcome
+  pub told : IsToldBy request (logged_sites request.logs judgement) trace judgement lines text outcome
 
 -- the input is the text of a trace that is coherent, and that has no log, or none was found
 pub record IsUnlogged (request : JudgeRequest) (input : List ℕ) : Type 0 where

@@ -1,12 +1,15 @@
 -- What is written of a judgement.
-use Rattle.std.specs.Prelude.{ℕ, ◌==◌, if◌then◌else◌, List, [], ◌++◌, codes, slice_index_or}
-use Rattle.std.specs.List.{flat_map}
+use Rattle.std.specs.Prelude.{ℕ, ◌==◌, if◌then◌else◌, List, [], ◌++◌, codes, Option, Some, None, slice_index_or}
+use Rattle.std.specs.List.{flat_map, list_any}
 use Rattle.sci_text.specs.Number.{field, number}
 use Rattle.sci_command.specs.declared.outcome.Outcome.{Outcome, TheVariants.{Done, Unlawful}}
 use Rattle.sci_judge.specs.declared.access.{Access.{Access}, Kind.{Kind, TheVariants.{Load, Store, Atomic}}}
 use Rattle.sci_judge.specs.declared.witness.{Step.{Step, TheVariants.{Follows, Swaps, Falls, Rises, Starts, Ends}}}
 use Rattle.sci_judge.specs.declared.witness.Witness.{Witness, TheVariants.{Unwritten, UnwrittenLast, Early, Circle}}
-use Rattle.sci_judge.specs.declared.judging.Judgement.{Judgement, TheVariants.{Coherent, NotCoherent, Undecided}}
+use Rattle.sci_judge.specs.declared.judging.{Judgement.{Judgement, TheVariants.{Coherent, NotCoherent, Undecided}}, SiteVersions.{SiteVersions}}
+use Rattle.sci_judge.specs.declared.consistency.Consistency.{Consistency}
+use Rattle.sci_judge.specs.declared.consistency.Consistency.TheVariants as consistency
+use Rattle.sci_judge.specs.Judgement.{is_free, is_unknown}
 
 -- ---- operations
 
@@ -77,13 +80,29 @@ witness_text accesses (Circle steps) = flat_map (step_text accesses) steps.items
 
 -- ---- judgements
 
+-- whether the versions of the operations are forced at each address
+abbrev pub versions_text : List SiteVersions → List ℕ
+versions_text sites =
+    if list_any (λ there. is_free there.freedom) sites then codes "versions free\n"
+    else (if list_any (λ there. is_unknown there.freedom) sites then codes "versions undecided\n" else codes "versions forced\n")
+
 unfoldable pub judgement_text : Judgement → List ℕ
-judgement_text (Coherent sites) = codes "coherent\n"
+judgement_text (Coherent sites) = codes "coherent\n" ++ versions_text sites.items
 judgement_text (NotCoherent address accesses witness) = codes "not coherent at" ++ (field address ++ (codes "\n" ++ witness_text accesses.items witness))
 judgement_text (Undecided address) = codes "undecided at" ++ (field address ++ codes "\n")
 
+-- whether one order explains all operations, if that is asked for
+unfoldable pub consistency_text : Option Consistency → List ℕ
+consistency_text None = []
+consistency_text (Some consistency.Sequential) = codes "sequentially consistent\n"
+consistency_text (Some consistency.NotSequential) = codes "not sequentially consistent\n"
+consistency_text (Some consistency.Unknown) = codes "order unknown\n"
+
 -- how the command ends
-abbrev pub outcome_of : Judgement → Outcome
-outcome_of (Coherent sites) = Done
-outcome_of (NotCoherent address accesses witness) = Unlawful
-outcome_of (Undecided address) = Unlawful
+abbrev pub outcome_of : Judgement → Option Consistency → Outcome
+outcome_of (Coherent sites) None = Done
+outcome_of (Coherent sites) (Some consistency.Sequential) = Done
+outcome_of (Coherent sites) (Some consistency.NotSequential) = Unlawful
+outcome_of (Coherent sites) (Some consistency.Unknown) = Unlawful
+outcome_of (NotCoherent address accesses witness) order = Unlawful
+outcome_of (Undecided address) order = Unlawful

@@ -4,12 +4,14 @@ ghost use Rattle.std.specs.Prelude.{◌≡◌, ◌⊎◌, ◌++◌, false, IfOk,
 ghost use Rattle.sci_text.specs.{declared.fault.TextFaultKind.TheVariants.{Memory, TooMany}, Tap.{has_failed}};
 ghost use Rattle.sci_command.specs.{Answer.{HasAnswered}, declared.outcome.Outcome.{Outcome}};
 ghost use Rattle.sci_judge.specs.{Access.{AreKnown}, Judgement.{addresses_of}};
-ghost use Rattle.sci_axe.specs.JudgeAnswer.{IsJudgeAnswer, IsJudgeRefusal, IsLogText, IsNoLogFault, logged_sites};
+ghost use Rattle.sci_axe.specs.JudgeAnswer.{IsJudgeAnswer, IsJudgeRefusal, IsOrdering, IsLogText, IsNoLogFault, logged_sites};
 
 use crate::misread::read_trace;
 use crate::telling::told;
 use sci_command::{Answer, Answered, Note, Outcome, Refusal};
-use sci_judge::{Judgement, NoLog, SiteVersions, Trace, judge, log_of};
+use sci_judge::{
+    Consistency, Judgement, NoLog, SiteVersions, Trace, Way, consistency_of, judge, log_of,
+};
 use sci_text::{Tap, TextFault, TextFaultKind, logs_text, read_input};
 use sci_words::MAX_NODES;
 use std::alloc::{AllocError, Global};
@@ -20,6 +22,11 @@ use std::io::Read;
 pub struct JudgeRequest {
     /// Whether what ended before another operation at its address began has to stand before it.
     pub timed: bool,
+    /// Whether it is looked for one order of all operations that a memory explains.
+    pub ordered: bool,
+    /// How many choices a search makes at most: for an order of all operations, and for those at an address where a word is
+    /// written twice. 1,000,000 if it isn't said.
+    pub limit: Option<u64>,
     /// Whether the log of a coherent trace is written, in place of the verdict.
     pub logs: bool,
 }
@@ -84,6 +91,27 @@ fn sites_to_log(request: JudgeRequest, judgement: &Judgement) -> Option<&[SiteVe
     }
 }
 
+/// What a search may do if it isn't said: this many choices.
+const LIMIT: u64 = 1_000_000;
+
+/// Whether one order explains all operations of a coherent trace, if that is asked for.
+fn ordering(
+    alloc: Global,
+    request: JudgeRequest,
+    trace: &Trace,
+    judgement: &Judgement,
+) -> Result<Option<Consistency>, AllocError>
+    requires { AreKnown trace.now.accesses.items }
+    ensures { IfOk result (IsOrdering request.ordered trace.now judgement.now) }
+{
+    match judgement {
+        Judgement::Coherent(sites) if request.ordered => {
+            Ok(Some(consistency_of(alloc, trace, sites)?))
+        }
+        _ => Ok(None),
+    }
+}
+
 /// Reads a trace to its end and judges the operations at each address. Done, with the line `coherent`, if those at each address
 /// are, or if a log is asked for, with the log. Unlawful, with the line `not coherent at A` and a witness, if those at an address
 /// aren't, and with the line `undecided at A` if nothing was found of them. A text with a fault is refused, as are a reader that
@@ -103,9 +131,17 @@ pub fn judge_trace<R: Read>(
     lines.clear();
     let bytes = read_input(alloc, reader)?;
     let trace = read_trace(alloc, &bytes)?;
-    let judgement = judge(alloc, &trace, request.timed)?;
+    let way = Way {
+        timed: request.timed,
+        ordered: request.ordered,
+        limit: request.limit.unwrap_or(LIMIT),
+    };
+    let judgement = judge(alloc, &trace, way)?;
     match sites_to_log(request, &judgement) {
         Some(sites) => logged(alloc, &trace, sites, lines),
-        None => Ok(told(alloc, &judgement)?),
+        None => {
+            let consistency = ordering(alloc, request, &trace, &judgement)?;
+            Ok(told(alloc, &judgement, consistency)?)
+        }
     }
 }

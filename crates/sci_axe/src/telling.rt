@@ -1,11 +1,12 @@
 //! What is written of a judgement.
 
-ghost use Rattle.std.specs.{Prelude.{◌≡◌, ◌++◌, IfOk, OnOk}, List.{flat_map}};
-ghost use Rattle.sci_axe.specs.Telling.{access_at as access_at_of, access_text, early_text, found_text, joint_text, judgement_text as judgement_text_of, kind_text, memory_text, order_text, pair_text};
-ghost use Rattle.sci_axe.specs.Telling.{outcome_of, step_text, told_at, witness_text, wrote_text};
+ghost use Rattle.std.specs.{Prelude.{◌≡◌, ◌++◌, IfOk, OnOk}, List.{flat_map, list_any}};
+ghost use Rattle.sci_axe.specs.Telling.{access_at as access_at_of, access_text, early_text, found_text, consistency_text, joint_text, judgement_text as judgement_text_of, kind_text, memory_text, order_text, pair_text};
+ghost use Rattle.sci_axe.specs.Telling.{outcome_of, step_text, told_at, versions_text, witness_text, wrote_text};
+ghost use Rattle.sci_judge.specs.Judgement.{is_free, is_unknown};
 
 use sci_command::{Answer, Outcome};
-use sci_judge::{Access, Judgement, Kind, Step, Witness};
+use sci_judge::{Access, Consistency, Judgement, Kind, SiteVersions, Step, Witness};
 use sci_text::{push_field, push_number, push_text};
 use sci_words::Word;
 use std::alloc::{AllocError, Global};
@@ -207,6 +208,56 @@ fn push_witness(out: &mut Vec<u8>, accesses: &[Access], witness: &Witness) -> Re
     }
 }
 
+/// Whether other versions explain the operations at some address as well.
+fn are_free(sites: &[SiteVersions]) -> bool
+    ensures { result ≡ list_any (λ there. is_free there.freedom) sites.now }
+{
+    for site in sites {
+        if site.freedom.is_free() {
+            return true;
+        }
+    }
+    false
+}
+
+/// Whether it isn't known of the operations at some address.
+fn are_unknown(sites: &[SiteVersions]) -> bool
+    ensures { result ≡ list_any (λ there. is_unknown there.freedom) sites.now }
+{
+    for site in sites {
+        if site.freedom.is_unknown() {
+            return true;
+        }
+    }
+    false
+}
+
+/// Whether the versions of the operations at all addresses are forced, in words.
+fn versions_words(sites: &[SiteVersions]) -> &'static str
+    ensures { result.now ≡ versions_text sites.now }
+{
+    if are_free(sites) {
+        return "versions free\n";
+    }
+    if are_unknown(sites) {
+        return "versions undecided\n";
+    }
+    "versions forced\n"
+}
+
+/// Whether one order explains all operations, in words.
+#[tactic(auto, unfolding(crate::specs::Telling::consistency_text))]
+fn consistency_words(consistency: Option<Consistency>) -> &'static str
+    ensures { result.now ≡ consistency_text consistency }
+{
+    match consistency {
+        None => "",
+        Some(Consistency::Sequential) => "sequentially consistent\n",
+        Some(Consistency::NotSequential) => "not sequentially consistent\n",
+        Some(Consistency::Unknown) => "order unknown\n",
+    }
+}
+
 /// The text of a judgement.
 #[tactic(auto, unfolding(crate::specs::Telling::judgement_text))]
 fn judgement_text(alloc: Global, judgement: &Judgement) -> Result<Vec<u8>, AllocError>
@@ -214,7 +265,10 @@ fn judgement_text(alloc: Global, judgement: &Judgement) -> Result<Vec<u8>, Alloc
 {
     let mut text = Vec::new(alloc);
     match judgement {
-        Judgement::Coherent(_) => push_text(&mut text, "coherent\n")?,
+        Judgement::Coherent(sites) => {
+            push_text(&mut text, "coherent\n")?;
+            push_text(&mut text, versions_words(sites))?;
+        }
         Judgement::NotCoherent {
             address,
             accesses,
@@ -234,15 +288,21 @@ fn judgement_text(alloc: Global, judgement: &Judgement) -> Result<Vec<u8>, Alloc
     Ok(text)
 }
 
-/// What is written of a judgement, and how the command ends then.
-pub fn told(alloc: Global, judgement: &Judgement) -> Result<Answer, AllocError>
-    ensures text { IfOk result (λ answer. answer.text.items ≡ judgement_text_of judgement.now) }
-    ensures ends { IfOk result (λ answer. answer.outcome ≡ outcome_of judgement.now) }
+/// What is written of a judgement and of an order of all operations, and how the command ends then.
+pub fn told(
+    alloc: Global,
+    judgement: &Judgement,
+    consistency: Option<Consistency>,
+) -> Result<Answer, AllocError>
+    ensures text { IfOk result (λ answer.
+        answer.text.items ≡ judgement_text_of judgement.now ++ consistency_text consistency) }
+    ensures ends { IfOk result (λ answer. answer.outcome ≡ outcome_of judgement.now consistency) }
 {
-    let outcome = match judgement {
-        Judgement::Coherent(_) => Outcome::Done,
-        Judgement::NotCoherent { .. } | Judgement::Undecided { .. } => Outcome::Unlawful,
+    let outcome = match (judgement, consistency) {
+        (Judgement::Coherent(_), None | Some(Consistency::Sequential)) => Outcome::Done,
+        _ => Outcome::Unlawful,
     };
-    let text = judgement_text(alloc, judgement)?;
+    let mut text = judgement_text(alloc, judgement)?;
+    push_text(&mut text, consistency_words(consistency))?;
     Ok(Answer { text, outcome })
 }

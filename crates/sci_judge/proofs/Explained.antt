@@ -97,7 +97,7 @@ same_entry e n m x y did_x did_y same =
 -- ---- versions
 
 -- the version of an operation
-pub version_in : (e : Explanation) (i : ℕ) (a : Access) → IsAt e.accesses i a → ℕ
+abbrev pub version_in : (e : Explanation) (i : ℕ) (a : Access) → IsAt e.accesses i a → ℕ
 version_in e i a at = (entry_in e i a at).entry.version
 
 left_same : (kind : Kind) → (k : ℕ) (a : Access) → a.kind ≡ kind → left_by_entry (entry_of k a) ≡ left_by kind

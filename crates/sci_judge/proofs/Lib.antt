@@ -5,4 +5,6 @@ pub mod Once
 pub mod Stamps
 pub mod Runs
 pub mod Timely
+pub mod Forced
+pub mod ForcedChecks
 pub mod TraceLogs

@@ -21,17 +21,17 @@ use Rattle.sci_judge.proofs.Explained.{written_at, written_once}
 -- ---- claims
 
 -- all versions with the one word are below all with the other
-abbrev Holds : Explanation → Claim → Type 0
+abbrev pub Holds : Explanation → Claim → Type 0
 Holds e claim = (i j : ℕ) → i ≤ top_of e → j ≤ top_of e → word_in e i ≡ claim.low → word_in e j ≡ claim.high → i < j
 
 -- and there is a version with the other
-record IsShown (e : Explanation) (claim : Claim) : Type 0 where
-  holds : Holds e claim
-  place : ℕ
-  within : place ≤ top_of e
-  there : word_in e place ≡ claim.high
+pub record IsShown (e : Explanation) (claim : Claim) : Type 0 where
+  pub holds : Holds e claim
+  pub place : ℕ
+  pub within : place ≤ top_of e
+  pub there : word_in e place ≡ claim.high
 
-abbrev IsShownSoFar : Explanation → Option Claim → Type 0
+abbrev pub IsShownSoFar : Explanation → Option Claim → Type 0
 IsShownSoFar e None = Unit {0}
 IsShownSoFar e (Some claim) = IsShown e claim
 
@@ -185,7 +185,7 @@ leads e once (Ends place) from to shown h =
     goes_on e once from (left_by h.0.kind) h.1 (entry_in e place h.0 h.2).entry.version (top_of e) to shown here.within (omega arith) here.leaves
     (at_top e h.1 h.3) h.4
 
-path : (e : Explanation) → AreWrittenOnce e.accesses → (steps : List Step) (from : Option Claim) (end : Claim) → IsShownSoFar e from
+pub path : (e : Explanation) → AreWrittenOnce e.accesses → (steps : List Step) (from : Option Claim) (end : Claim) → IsShownSoFar e from
     → IsPath e.timed e.accesses e.last from steps end → IsShown e end
 path e once [] from end shown is = subst (IsShownSoFar e) is shown
 path e once (step ∷ steps) from end shown is = path e once steps (Some is.0) end (leads e once step from is.0 shown is.1) is.2
@@ -223,7 +223,7 @@ unwritten e word place within at none =
 
 -- ---- a word that is left before it is written
 
-stored_not_got : (kind : Kind) (word : ℕ) → kind ≡ Store word → reply_of kind ≡ Got word → ⊥
+pub stored_not_got : (kind : Kind) (word : ℕ) → kind ≡ Store word → reply_of kind ≡ Got word → ⊥
 stored_not_got kind word stores got = let is : Stored ≡ Got word = sym (ap reply_of stores) ∙ got in absurd cc
 
 early : (e : Explanation) (reader writer word : ℕ) (y x : Access) (at_y : IsAt e.accesses reader y) (at_x : IsAt e.accesses writer x)

@@ -176,7 +176,7 @@ at_serial accesses entries x same among =
       same = is ∙ ap (λ (k : ℕ). entry_of k found.access) serial;
     }
 
-among_logs : (accesses : List Access) (versions : List ℕ) (logs : List (List Entry)) (node : ℕ) (x : Entry) (is : AreStamped accesses versions logs)
+pub among_logs : (accesses : List Access) (versions : List ℕ) (logs : List (List Entry)) (node : ℕ) (x : Entry) (is : AreStamped accesses versions logs)
     → DidOn logs 0 node x → IsAmong x is.entries
 among_logs accesses versions logs node x is did =
     among_whole (is_of_node node) x is.entries

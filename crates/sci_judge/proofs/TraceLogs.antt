@@ -2,6 +2,7 @@
 use Rattle.std.proofs.Common.{◌≡◌, ◌≢◌, ℕ, zero, suc, ◌+◌, ◌<◌, ◌≤◌, Bool, cond, eqb, List, [], ◌∷◌, ◌++◌, length, map, Some}
 use Rattle.std.proofs.Common.{get_or, set, take, refl, sym, ap, subst, ◌∙◌, arith, inl, inr, append_assoc}
 use Rattle.std.proofs.lemmas.Bool.{cases_eq, eq-eqb, ne_eqb}
+use Rattle.std.proofs.Math.Nat.{le-max_right}
 use Rattle.std.proofs.lemmas.List.{append-nil, get_or-map, get_or-set_other, get_or-set_same, length-map, length-set, length-take-le, map-append}
 use Rattle.std.proofs.lemmas.List.{take_all, take_more}
 use Rattle.std.proofs.lemmas.List.{Elements.{All-from_recursion}, Sums.{count_by_more_yes, length-filter, sum_by-cons}}
@@ -12,9 +13,9 @@ use Rattle.sci_history.specs.{declared.entry.Entry.{Entry}, Audit.{AreWithin, Is
 use Rattle.sci_history.proofs.Order.{all-filter}
 use Rattle.sci_history.proofs.Oracles.{filter_push_no, filter_push_yes, log_of-logs_of}
 use Rattle.sci_judge.specs.declared.{access.Access.{Access}, judging.SiteVersions.{SiteVersions}, trace.Trace.{Trace}}
-use Rattle.sci_judge.specs.declared.logging.NoLog.{NoLog}
+use Rattle.sci_judge.specs.declared.logging.{Log.{Log}, NoLog.{NoLog}}
 use Rattle.sci_judge.specs.declared.logging.NoLog.TheVariants as none
-use Rattle.sci_judge.specs.{Judgement.{addresses_of}, Logged.{AreAllUsed, AreEntriesOf, AreLogged, HaveVersions, IsEntryOf, IsFullOf}}
+use Rattle.sci_judge.specs.{Judgement.{addresses_of}, Logged.{AreAllUsed, AreEntriesOf, AreLogged, HaveVersions, IsEntryOf, IsFullOf, IsLogOf}}
 use Rattle.sci_judge.specs.Logged.{IsNext, IsNoLog, versions_on}
 use Rattle.sci_judge.proofs.Stamps.{by_node_push, in_log}
 
@@ -213,3 +214,15 @@ full trace sites i d used logs node none.Operations lt is same small many =
 full trace sites i d used logs node (none.Memory error) lt is same small many = tt
 full trace sites i d used logs node none.Addresses lt is same small many = elim many [ ]
 full trace sites i d used logs node none.NotFound lt is same small many = elim many [ ]
+
+-- ---- a log of a trace
+
+pub log_within : (trace : Trace) (sites : List SiteVersions) (log : Log) → IsLogOf trace sites log → AreWithin (length log.last) log.logs
+log_within trace sites log is = λ node.
+    let long : length (addresses_of sites) ≡ length sites = length-map sites (λ (s : SiteVersions). s.address) in
+    let lines = is.lines in
+    let most = le-max_right 1 (length sites) in
+    All-from_recursion (IsWithin (length log.last)) (log_of log.logs node)
+    (in_log (IsWithin (length log.last)) is.entries log.logs node is.logged
+    (all-filter (IsWithin (length log.last)) (is_of_node node) is.entries
+    (entries_within (addresses_of sites) (length log.last) (omega arith) [] trace.accesses.items is.entries is.same)))

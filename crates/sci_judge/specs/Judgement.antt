@@ -1,15 +1,34 @@
 -- What the judge answers.
-use Rattle.std.specs.Prelude.{◌≡◌, ◌⊎◌, ◌==◌, ℕ, Bool, true, List, map, Option, IsSome, filter}
+use Rattle.std.specs.Prelude.{◌≡◌, ◌⊎◌, ◌==◌, ℕ, Bool, true, false, List, map, Option, IsSome, filter}
 use Rattle.std.specs.{BTreeMap.{get}, List.{All, Contains, list_any}, Ordering.{nat_cmp}}
-use Rattle.sci_judge.specs.declared.{access.Access.{Access}, finding.Finding.{Finding}, trace.Trace.{Trace}}
+use Rattle.sci_judge.specs.declared.{access.Access.{Access}, finding.{Finding.{Finding}, Freedom.{Freedom}}, trace.Trace.{Trace}}
 use Rattle.sci_judge.specs.declared.finding.Finding.TheVariants as found
+use Rattle.sci_judge.specs.declared.finding.Freedom.TheVariants as freedom
 use Rattle.sci_judge.specs.declared.judging.{SiteVersions.{SiteVersions}, Judgement.{Judgement}}
 use Rattle.sci_judge.specs.declared.judging.Judgement.TheVariants as judged
-use Rattle.sci_judge.specs.{Coherent.{IsCoherent}, Stamped.{IsExplainedBy}, Witness.{IsWitness}}
+use Rattle.sci_judge.specs.{Coherent.{IsCoherent}, Forced.{AreForced, AreFree}, Stamped.{IsExplainedBy}, Witness.{IsWitness}}
+
+-- what is said of other versions than these holds
+abbrev pub IsFreedom : (timed : Bool) → List Access → (last : Option ℕ) → (versions : List ℕ) → Freedom → Type 0
+IsFreedom timed accesses last versions freedom.Forced = AreForced timed accesses last versions
+IsFreedom timed accesses last versions (freedom.Free others) = AreFree timed accesses last versions others.items
+IsFreedom timed accesses last versions freedom.Unknown = Unit {0}
+
+-- others are known; or nothing is
+abbrev pub is_free : Freedom → Bool
+is_free freedom.Forced = false
+is_free (freedom.Free others) = true
+is_free freedom.Unknown = false
+
+abbrev pub is_unknown : Freedom → Bool
+is_unknown freedom.Forced = false
+is_unknown (freedom.Free others) = false
+is_unknown freedom.Unknown = true
 
 -- what is found of operations at one address holds of them
 abbrev pub IsFinding : (timed : Bool) → List Access → (last : Option ℕ) → Finding → Type 0
-IsFinding timed accesses last (found.Coherent versions) = IsExplainedBy timed accesses last versions.items
+IsFinding timed accesses last (found.Coherent versions freedom) =
+    IsExplainedBy timed accesses last versions.items × IsFreedom timed accesses last versions.items freedom
 IsFinding timed accesses last (found.NotCoherent witness) = IsWitness timed accesses last witness × (IsCoherent timed accesses last → ⊥)
 IsFinding timed accesses last found.Undecided = Unit {0}
 
@@ -41,7 +60,7 @@ addresses_of explained = map (λ there. there.address) explained
 -- versions explain the operations at each address that a trace names
 pub record AreExplained (timed : Bool) (trace : Trace) (explained : List SiteVersions) : Type 0 where
   pub named : (address : ℕ) → Names trace address → Contains (addresses_of explained) address
-  pub each : All (λ there. IsFoundAt timed trace there.address (found.Coherent there.versions)) explained
+  pub each : All (λ there. IsFoundAt timed trace there.address (found.Coherent there.versions there.freedom)) explained
 
 -- what is answered of a trace holds of it: at each address that it names, or at the one that is answered
 abbrev pub IsJudgement : (timed : Bool) → Trace → Judgement → Type 0

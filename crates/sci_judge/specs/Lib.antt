@@ -4,4 +4,6 @@ pub mod Witness
 pub mod Stamped
 pub mod Judgement
 pub mod Times
+pub mod Forced
 pub mod Logged
+pub mod Consistency

@@ -1,7 +1,7 @@
 //! Operations of a trace, as the processors saw them.
 
 ghost use Rattle.std.specs.Prelude.{◌≡◌};
-ghost use Rattle.sci_judge.specs.Access.{found_by, is_writing, left_by};
+ghost use Rattle.sci_judge.specs.Access.{found_by, is_making, is_writing, left_by};
 
 use sci_words::Word;
 
@@ -46,6 +46,13 @@ impl Kind {
             Kind::Store(_) => true,
             Kind::Atomic { read, wrote } => read != wrote,
         }
+    }
+
+    /// Whether the operation makes a version: a store or an atomic.
+    pub fn is_making(self) -> bool
+        ensures { result ≡ is_making self }
+    {
+        !matches!(self, Kind::Load(_))
     }
 }
 

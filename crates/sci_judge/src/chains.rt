@@ -2,7 +2,6 @@
 //!
 //! Nothing here is relied on: what is found is checked.
 
-use crate::access::Kind;
 use crate::site::Site;
 use crate::stretches::{Stop, Stretches, element, replace};
 use crate::witness::{Step, Witness};
@@ -36,6 +35,8 @@ pub struct Chains<'a> {
     rank: Vec<usize>,
     /// Of each chain its first stretch.
     pub heads: Vec<usize>,
+    /// Of each chain its last stretch.
+    tails: Vec<usize>,
     edges: Vec<Edge>,
     /// Of each chain the operation that ends first, if times count.
     pub first_ends: Vec<Option<usize>>,
@@ -52,7 +53,10 @@ fn walk(chains: &mut Chains, head: usize) -> Result<(), Stop> {
         replace(&mut chains.chain, stretch, number)?;
         replace(&mut chains.rank, stretch, rank)?;
         match element(&chains.stretches.leaver, stretch)? {
-            None => return Ok(()),
+            None => {
+                chains.tails.push(stretch)?;
+                return Ok(());
+            }
             Some(atomic) => stretch = element(&chains.stretches.left, atomic)?,
         }
     }
@@ -81,6 +85,7 @@ impl<'a> Chains<'a> {
             chain: Vec::from_elem(alloc, usize::MAX, count)?,
             rank: Vec::from_elem(alloc, 0, count)?,
             heads: Vec::new(alloc),
+            tails: Vec::new(alloc),
             edges: Vec::new(alloc),
             first_ends: Vec::new(alloc),
             last_begins: Vec::new(alloc),
@@ -235,6 +240,19 @@ impl Chains<'_> {
         self.heads.len()
     }
 
+    /// The last stretch of a chain.
+    pub fn tail(&self, chain: usize) -> Result<usize, Stop> {
+        element(&self.tails, chain)
+    }
+
+    /// Whether a chain has the last word, if that is known.
+    pub fn is_last(&self, chain: usize) -> Result<bool, Stop> {
+        match self.stretches.last {
+            None => Ok(false),
+            Some(stretch) => Ok(self.chain_of(stretch)? == chain),
+        }
+    }
+
     /// The edges between chains.
     pub fn edges(&self) -> &[Edge] {
         &self.edges
@@ -302,7 +320,7 @@ impl Chains<'_> {
     fn is_maker(&self, place: usize) -> Result<u64, Stop> {
         match self.site.at(place) {
             None => Err(Stop::GaveUp),
-            Some(access) => Ok(u64::from(!matches!(access.kind, Kind::Load(_)))),
+            Some(access) => Ok(u64::from(access.kind.is_making())),
         }
     }
 

@@ -86,7 +86,7 @@ impl Site<'_> {
     }
 
     /// The claim after all steps, or None if one doesn't fit.
-    fn led_by(&self, steps: &[Step]) -> Option<Claim>
+    pub fn led_by(&self, steps: &[Step]) -> Option<Claim>
         ensures { IfSome result
             (IsPath self.now.timed self.now.accesses.now self.now.last None steps.now) }
     {

@@ -6,12 +6,14 @@ ghost use Rattle.std.specs.List.Sorted.{IsNonDecreasingBy};
 ghost use Rattle.sci_judge.specs.{Access.{AreKnown}, Judgement.{IsJudgement, Names, at_address, is_at}};
 
 use crate::access::Access;
-use crate::finding::Finding;
+use crate::finding::{Finding, Freedom};
+use crate::searching::Search;
 use crate::site::Site;
+use crate::stretches::Stop;
 use crate::trace::Trace;
 use crate::witness::Witness;
 use std::alloc::{AllocError, Global};
-use std::collections::BTreeSet;
+use std::collections::{BTreeMap, BTreeSet};
 
 /// Versions that explain the operations at an address.
 #[derive(Debug, Drop)]
@@ -20,6 +22,8 @@ pub struct SiteVersions {
     pub address: u64,
     /// Of each operation there its version, in the order of the trace.
     pub versions: Vec<u64>,
+    /// Whether other versions explain them as well.
+    pub freedom: Freedom,
 }
 
 /// What is found of a trace.
@@ -86,25 +90,77 @@ fn named(alloc: Global, trace: &Trace) -> Result<BTreeSet<u64>, AllocError>
     Ok(addresses)
 }
 
+/// How a trace is judged.
+#[derive(Clone, Copy)]
+pub struct Way {
+    /// Whether what ended before another operation at its address began has to stand before it.
+    pub timed: bool,
+    /// Whether versions are taken from one order of all operations, where one is found.
+    pub ordered: bool,
+    /// How many choices a search makes at most: for such an order, and for one at an address where a word is written twice.
+    pub limit: u64,
+}
+
+/// Versions of all operations by one order of them, if one was found.
+fn order_versions(alloc: Global, trace: &Trace, way: Way) -> Result<Vec<u64>, Stop> {
+    let mut search = Search::new(alloc, &trace.accesses, way.timed, way.limit)?;
+    for (address, word) in trace.last.iter() {
+        search.end_with(*address, *word)?;
+    }
+    search.run(alloc)
+}
+
+/// At each address a guess at the versions of the operations there; none if they aren't to be of one order.
+fn guesses(alloc: Global, trace: &Trace, way: Way) -> Result<BTreeMap<u64, Vec<u64>>, AllocError> {
+    let mut guesses = BTreeMap::new(alloc);
+    if !way.ordered {
+        return Ok(guesses);
+    }
+    let versions = match order_versions(alloc, trace, way) {
+        Ok(versions) => versions,
+        Err(Stop::Memory(error)) => return Err(error),
+        Err(Stop::GaveUp | Stop::Refuted(_)) => return Ok(guesses),
+    };
+    for (access, version) in trace.accesses.iter().zip(versions.iter()) {
+        match guesses.get_mut(&access.address) {
+            Some(there) => there.push(*version)?,
+            None => {
+                guesses.insert(access.address, vec![in alloc; *version]?)?;
+            }
+        }
+    }
+    Ok(guesses)
+}
+
 /// Judges a trace: Coherent if the operations at each address are, with the last word there if it is known, and else the lowest
-/// address at which they aren't, or at which nothing was found. Refused only if memory is. If `timed` is set, what ended before
-/// another operation at its address began has to stand before it.
-pub fn judge(alloc: Global, trace: &Trace, timed: bool) -> Result<Judgement, AllocError>
+/// address at which they aren't, or at which nothing was found. Refused only if memory is.
+pub fn judge(alloc: Global, trace: &Trace, way: Way) -> Result<Judgement, AllocError>
     requires { AreKnown trace.now.accesses.items }
-    ensures { IfOk result (IsJudgement timed trace.now) }
+    ensures { IfOk result (IsJudgement way.timed trace.now) }
 {
     let sorted = by_address(alloc, &trace.accesses)?;
     let addresses = named(alloc, trace)?;
+    let guesses = guesses(alloc, trace, way)?;
     let mut explained = Vec::new(alloc);
     for at in addresses.iter() {
         let address = *at;
         let site = Site {
             accesses: operations_at(&sorted, address),
             last: trace.last.get(&address).copied(),
-            timed,
+            timed: way.timed,
         };
-        match site.judge(alloc)? {
-            Finding::Coherent(versions) => explained.push(SiteVersions { address, versions })?,
+        let guess = match guesses.get(&address) {
+            Some(versions) => versions.as_slice(),
+            None => &[],
+        };
+        match site.judge(alloc, way.limit, guess)? {
+            Finding::Coherent { versions, freedom } => {
+                explained.push(SiteVersions {
+                    address,
+                    versions,
+                    freedom,
+                })?;
+            }
             Finding::NotCoherent(witness) => {
                 let accesses = Vec::from_slice(alloc, site.accesses)?;
                 return Ok(Judgement::NotCoherent {

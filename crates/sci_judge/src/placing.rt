@@ -3,6 +3,7 @@
 //! Nothing here is relied on: what is found is checked.
 
 use crate::chains::{Chains, Edge};
+use crate::freeing::Hint;
 use crate::stretches::{Stop, element, replace};
 use crate::witness::{Step, Witness};
 use std::alloc::Global;
@@ -214,8 +215,15 @@ fn circle(alloc: Global, chains: &Chains, edges: &[Edge]) -> Result<Witness, Sto
     Ok(Witness::Circle(steps))
 }
 
-/// Versions for the operations at an address, by their places, or why there are none.
-pub fn versions(alloc: Global, chains: &Chains) -> Result<Vec<u64>, Stop> {
+/// Versions for the operations at an address, by their places, and what seems to hold of them.
+#[derive(Drop)]
+pub struct Found {
+    pub versions: Vec<u64>,
+    pub hint: Hint,
+}
+
+/// Versions for the operations at an address, or why there are none.
+pub fn find(alloc: Global, chains: &Chains) -> Result<Found, Stop> {
     let mut placing = Placing::new(alloc, chains)?;
     placing.place_all(chains)?;
     if placing.order.len() < chains.count() {
@@ -223,5 +231,7 @@ pub fn versions(alloc: Global, chains: &Chains) -> Result<Vec<u64>, Stop> {
         return Err(Stop::Refuted(circle(alloc, chains, &edges)?));
     }
     let order = chains.ended(alloc, &placing.order)?;
-    chains.versions(alloc, &order)
+    let versions = chains.versions(alloc, &order)?;
+    let hint = chains.hint(alloc, &order, &versions)?;
+    Ok(Found { versions, hint })
 }

@@ -8,8 +8,8 @@ use Rattle.sci_options.specs.declared.argument.Argument.TheVariants as arguments
 use Rattle.sci_options.specs.declared.argument.Value.{Value}
 use Rattle.sci_options.specs.declared.argument.Value.TheVariants as values
 use Rattle.sci_options.specs.declared.option_name.OptionName.{OptionName}
-use Rattle.sci_options.specs.declared.option_name.OptionName.TheVariants.{AllOutcomes, BySerial, Dead, Events, InOrder, Json, Line, Log, Node, Runs}
-use Rattle.sci_options.specs.declared.option_name.OptionName.TheVariants.{Seed, Show, Strict, Threads, Times, Turns}
+use Rattle.sci_options.specs.declared.option_name.OptionName.TheVariants.{AllOutcomes, BySerial, Dead, Events, InOrder, Json, Limit, Line, Log, Node}
+use Rattle.sci_options.specs.declared.option_name.OptionName.TheVariants.{Order, Runs, Seed, Show, Strict, Threads, Times, Turns}
 use Rattle.sci_options.specs.declared.setting.{OptionRow.{OptionRow}, Setting.{Setting}}
 
 -- the word of an option
@@ -20,9 +20,11 @@ option_word Dead = codes "--dead"
 option_word Events = codes "--events"
 option_word InOrder = codes "--in-order"
 option_word Json = codes "--json"
+option_word Limit = codes "--limit"
 option_word Line = codes "--line"
 option_word Log = codes "--log"
 option_word Node = codes "--node"
+option_word Order = codes "--order"
 option_word Runs = codes "--runs"
 option_word Seed = codes "--seed"
 option_word Show = codes "--show"
@@ -49,6 +51,8 @@ option_place Threads = 12
 option_place Times = 13
 option_place Turns = 14
 option_place Log = 15
+option_place Order = 16
+option_place Limit = 17
 
 abbrev pub is_option : OptionName → OptionName → Bool
 is_option name other = option_place other == option_place name

@@ -19,12 +19,16 @@ pub enum OptionName {
     InOrder,
     /// One JSON object a line.
     Json,
+    /// How far a search goes.
+    Limit,
     /// A line of memory.
     Line,
     /// The log in place of a verdict.
     Log,
     /// A node.
     Node,
+    /// Whether one order explains all.
+    Order,
     /// How many runs.
     Runs,
     /// The seed of what is drawn.
@@ -53,9 +57,11 @@ impl OptionName {
             "--events" => Some(OptionName::Events),
             "--in-order" => Some(OptionName::InOrder),
             "--json" => Some(OptionName::Json),
+            "--limit" => Some(OptionName::Limit),
             "--line" => Some(OptionName::Line),
             "--log" => Some(OptionName::Log),
             "--node" => Some(OptionName::Node),
+            "--order" => Some(OptionName::Order),
             "--runs" => Some(OptionName::Runs),
             "--seed" => Some(OptionName::Seed),
             "--show" => Some(OptionName::Show),
@@ -78,9 +84,11 @@ impl OptionName {
             OptionName::Events => "--events",
             OptionName::InOrder => "--in-order",
             OptionName::Json => "--json",
+            OptionName::Limit => "--limit",
             OptionName::Line => "--line",
             OptionName::Log => "--log",
             OptionName::Node => "--node",
+            OptionName::Order => "--order",
             OptionName::Runs => "--runs",
             OptionName::Seed => "--seed",
             OptionName::Show => "--show",

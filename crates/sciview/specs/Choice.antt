@@ -52,7 +52,7 @@ two_numbers name = record { name = name; argument = TwoNumbers }
 -- the options of each command
 abbrev pub options_of : Verb → List OptionRow
 options_of Order = flag options.BySerial ∷ flag options.Show ∷ []
-options_of Judge = flag options.Times ∷ flag options.Log ∷ []
+options_of Judge = flag options.Times ∷ flag options.Order ∷ number_from options.Limit 0 0xffff_ffff_ffff_ffff ∷ flag options.Log ∷ []
 options_of Run = number_from options.Seed 0 0xffff_ffff_ffff_ffff ∷ flag options.InOrder ∷ number_from options.Turns 0 0xffff_ffff_ffff_ffff ∷ []
 options_of Outcomes = number_from options.Runs 1 MAX_RUNS ∷ number_from options.Seed 0 0xffff_ffff_ffff_ffff ∷ flag options.Threads
     ∷ flag options.InOrder ∷ flag options.AllOutcomes ∷ []
@@ -101,7 +101,12 @@ outcomes_asked settings turns = commands.Outcomes (record {
 abbrev pub command_of : Verb → List Setting → Option Command
 command_of Order settings = Some (commands.Order (record { keeps = asked_order settings; shows = is_given options.Show settings }))
 command_of Explain settings = Some commands.Explain
-command_of Judge settings = Some (commands.Judge (record { timed = is_given options.Times settings; logs = is_given options.Log settings }))
+command_of Judge settings = Some (commands.Judge (record {
+  timed = is_given options.Times settings;
+  ordered = is_given options.Order settings;
+  limit = asked_number options.Limit settings;
+  logs = is_given options.Log settings;
+}))
 command_of Run settings = Some (commands.Run (record {
   seed = asked_number options.Seed settings;
   issuing = asked_issuing settings;

@@ -164,6 +164,8 @@ fn command_of(verb: Verb, given: &Given) -> Option<Command>
         Verb::Explain => Command::Explain,
         Verb::Judge => Command::Judge(JudgeRequest {
             timed: given.has(OptionName::Times),
+            ordered: given.has(OptionName::Order),
+            limit: given.number(OptionName::Limit),
             logs: given.has(OptionName::Log),
         }),
         Verb::Run => Command::Run(RunRequest {

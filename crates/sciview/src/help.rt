@@ -71,15 +71,22 @@ memory of one thread gives there, and the entries around it.
 
 /// What `judge --help` writes.
 pub const JUDGE: &str = "\
-usage: sciview judge [--times] [--log] [FILE]
+usage: sciview judge [--times] [--order] [--limit K] [--log] [FILE]
 
 Of a trace of another machine, which has no versions: `coherent`,
 `undecided at A`, or `not coherent at A` with the operations that show it, each
-with its line. The text is in the notation of Axe: `0: M[8] := 5 @ 100:110` is a
-store, `1: M[8] == 5` a load, `final M[8] == 5` the last word at an address.
+with its line. A coherent trace has a second line: `versions forced` if no other
+versions explain it, `versions free` if others do, or `versions undecided`. The
+text is in the notation of Axe: `0: M[8] := 5 @ 100:110` is a store,
+`1: M[8] == 5` a load, `final M[8] == 5` the last word at an address.
 
   --times       what ended before another operation at its address began has to
                 stand before it
+  --order       a third line: `sequentially consistent`, `order unknown`, or
+                `not sequentially consistent`
+  --limit K     a search makes at most K choices (1,000,000 if it isn't said): the
+                search for an order, and the one at an address where a word is
+                written twice
   --log         the log of a coherent trace in place of the verdict, with versions
                 that explain it; and on standard error the address of each line
 ";

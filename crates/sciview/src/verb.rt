@@ -72,6 +72,14 @@ const JSON: OptionRow = OptionRow {
     argument: Argument::Nothing,
 };
 
+const LIMIT: OptionRow = OptionRow {
+    name: OptionName::Limit,
+    argument: Argument::Number {
+        least: 0,
+        greatest: u64::MAX,
+    },
+};
+
 const LINE: OptionRow = OptionRow {
     name: OptionName::Line,
     argument: Argument::Place { count: MAX_LINES },
@@ -85,6 +93,11 @@ const LOG: OptionRow = OptionRow {
 const NODE: OptionRow = OptionRow {
     name: OptionName::Node,
     argument: Argument::Place { count: MAX_NODES },
+};
+
+const ORDER: OptionRow = OptionRow {
+    name: OptionName::Order,
+    argument: Argument::Nothing,
 };
 
 const RUNS: OptionRow = OptionRow {
@@ -168,7 +181,7 @@ impl Verb {
     {
         match self {
             Verb::Order => &[BY_SERIAL, SHOW],
-            Verb::Judge => &[TIMES, LOG],
+            Verb::Judge => &[TIMES, ORDER, LIMIT, LOG],
             Verb::Run => &[SEED, IN_ORDER, TURNS],
             Verb::Outcomes => &[RUNS, SEED, THREADS, IN_ORDER, ALL_OUTCOMES],
             Verb::Allowed => &[IN_ORDER, SHOW_ROW],

@@ -1,4 +1,5 @@
-use Rattle.std.proofs.Common.{◌≡◌, sym, ◌∙◌}
+use Rattle.std.proofs.Common.{◌≡◌, Option, None, Some, sym, ◌∙◌}
+use Rattle.sci_judge.specs.declared.consistency.Consistency.{Consistency, TheVariants.{Sequential, NotSequential, Unknown}}
 use Rattle.sci_text.specs.Tap.{has_failed, tapped}
 use Rattle.sci_command.specs.declared.outcome.Outcome.{TheVariants.{Refused}}
 use Rattle.sci_command.proofs.Answers.{answer_made}
@@ -7,10 +8,13 @@ use Rattle.sci_axe.specs.{JudgeAnswer.{IsJudgeRefusal, IsJudged}, Telling.{outco
 use Rattle.sci_axe.proofs.Logs.{log_answered, verdict_told}
 use Rattle.sci_axe.proofs.judging.judge_trace.Goals as goal
 
-not_refused : (judgement : Judgement) → outcome_of judgement ≡ Refused → ⊥
-not_refused (Coherent sites) is = cc
-not_refused (NotCoherent address accesses witness) is = cc
-not_refused (Undecided address) is = cc
+not_refused : (judgement : Judgement) (consistency : Option Consistency) → outcome_of judgement consistency ≡ Refused → ⊥
+not_refused (Coherent sites) None is = cc
+not_refused (Coherent sites) (Some Sequential) is = cc
+not_refused (Coherent sites) (Some NotSequential) is = cc
+not_refused (Coherent sites) (Some Unknown) is = cc
+not_refused (NotCoherent address accesses witness) consistency is = cc
+not_refused (Undecided address) consistency is = cc
 
 pub returns-in-Some : goal.returns-in-Some
 returns-in-Some g c =
@@ -32,9 +36,10 @@ returns g c =
     let answer = told.field-0 in
     let lines = c.clear.new.self.items in
     let trace = c.in_ok-trace.trace in
+    let consistency = c.in_ok-consistency-in-None.consistency in
     let judgement = c.in_ok-judgement.judgement in (
       answer_made (IsJudged c.args.request lines) (IsJudgeRefusal c.args.request) known unread answer.text.items answer.outcome
-          (λ is. not_refused judgement (sym told.ensures.ends ∙ is)) (
+          (λ is. not_refused judgement consistency (sym told.ensures.ends ∙ is)) (
             c.in_ok-bytes.ensures.unfailed,
             (
               c.in_ok-bytes.bytes.items,
@@ -44,7 +49,9 @@ returns g c =
                 read = rw (sym c.deref.ensures.value) c.in_ok-trace.ensures.ok;
                 judgement = judgement;
                 holds = c.in_ok-judgement.ensures;
-                told = verdict_told c.args.request.logs trace judgement lines answer.text.items answer.outcome c.in-None.ensures (record {
+                told = verdict_told c.args.request trace judgement lines answer.text.items answer.outcome c.in-None.ensures (record {
+                  consistency = consistency;
+                  ordering = c.in_ok-consistency-in-None.ensures;
                   written = told.ensures.text;
                   ends = told.ensures.ends;
                   no_lines = c.clear.ensures.items;

@@ -52,33 +52,36 @@ returns-in-NotCoherent c =
     c.operations_at.ensures ∙ (ap (at_address address) c.deref-in-loop-at.ensures.value
     ∙ (c.in_ok-sorted.ensures.same address ∙ ap (at_address address) c.deref.ensures.value)) in
     let last : c.copied.result ≡ last_at address trace = c.copied.ensures ∙ c.get.ensures.value in
-    let finding : IsFinding c.args.timed c.operations_at.result.now c.copied.result (NotCoherent witness) =
+    let finding : IsFinding c.args.way.timed c.operations_at.result.now c.copied.result (NotCoherent witness) =
     rw c.in-NotCoherent.is at c.in_ok-versions.ensures in
-    let there : IsFinding c.args.timed (at_address address trace.accesses.items) c.copied.result (NotCoherent witness) =
-    subst (λ (xs : List Access). IsFinding c.args.timed xs c.copied.result (NotCoherent witness)) is finding in (
+    let there : IsFinding c.args.way.timed (at_address address trace.accesses.items) c.copied.result (NotCoherent witness) =
+    subst (λ (xs : List Access). IsFinding c.args.way.timed xs c.copied.result (NotCoherent witness)) is finding in (
       c.in_ok-accesses-in-NotCoherent.ensures.items ∙ is,
-      subst (λ (known : Option ℕ). IsFinding c.args.timed (at_address address trace.accesses.items) known (NotCoherent witness)) last there,
+      subst (λ (known : Option ℕ). IsFinding c.args.way.timed (at_address address trace.accesses.items) known (NotCoherent witness)) last there,
     )
 
 pub loop-at-preserved : goal.loop-at-preserved
 loop-at-preserved c =
     let address = c.in-Some.at.now in
     let trace = c.args.trace.now in
-    let there : SiteVersions = record { address = address; versions = c.in-Coherent.versions } in
+    let there : SiteVersions = record { address = address; versions = c.in-Coherent.versions; freedom = c.in-Coherent.freedom } in
     let is : c.operations_at.result.now ≡ at_address address trace.accesses.items =
     c.operations_at.ensures ∙ (ap (at_address address) c.deref-in-loop-at.ensures.value
     ∙ (c.in_ok-sorted.ensures.same address ∙ ap (at_address address) c.deref.ensures.value)) in
     let last : c.copied.result ≡ last_at address trace = c.copied.ensures ∙ c.get.ensures.value in
-    let finding : IsFinding c.args.timed c.operations_at.result.now c.copied.result (Coherent c.in-Coherent.versions) =
+    let finding : IsFinding c.args.way.timed c.operations_at.result.now c.copied.result (Coherent c.in-Coherent.versions c.in-Coherent.freedom) =
     rw c.in-Coherent.is at c.in_ok-versions.ensures in
-    let found : IsFinding c.args.timed (at_address address trace.accesses.items) (last_at address trace) (Coherent c.in-Coherent.versions) =
-    subst (λ (known : Option ℕ). IsFinding c.args.timed (at_address address trace.accesses.items) known (Coherent c.in-Coherent.versions)) last
-    (subst (λ (xs : List Access). IsFinding c.args.timed xs c.copied.result (Coherent c.in-Coherent.versions)) is finding) in
+    let versions = c.in-Coherent.versions in
+    let freedom = c.in-Coherent.freedom in
+    let found : IsFinding c.args.way.timed (at_address address trace.accesses.items) (last_at address trace) (Coherent versions freedom) =
+    subst (λ (known : Option ℕ). IsFinding c.args.way.timed (at_address address trace.accesses.items) known (Coherent versions freedom)) last
+    (subst (λ (xs : List Access). IsFinding c.args.way.timed xs c.copied.result (Coherent versions freedom)) is finding) in
     let pushed = c.in_ok-push-in-Coherent.ensures.items in
     let rest : c.loop-at.at-iterator ≡ address ∷ c.next.new.self = c.in-Some.ensures.steps in
     record {
       named = named_more trace c.loop-at.explained.items there c.push.new.self.items c.loop-at.at-iterator c.next.new.self pushed rest
           c.loop-at.invariant.named;
-      each = subst (All (λ e. IsFoundAt c.args.timed trace e.address (Coherent e.versions))) (sym pushed)
-          (All-push (λ e. IsFoundAt c.args.timed trace e.address (Coherent e.versions)) c.loop-at.explained.items there c.loop-at.invariant.each found);
+      each = subst (All (λ e. IsFoundAt c.args.way.timed trace e.address (Coherent e.versions e.freedom))) (sym pushed)
+          (All-push (λ e. IsFoundAt c.args.way.timed trace e.address (Coherent e.versions e.freedom)) c.loop-at.explained.items there
+          c.loop-at.invariant.each found);
     }

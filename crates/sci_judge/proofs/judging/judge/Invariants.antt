@@ -8,5 +8,5 @@ use Rattle.sci_judge.proofs.judging.judge.Given as goal
 abbrev pub invariant-loop-at : goal.invariant-loop-at
 invariant-loop-at l = record {
   named : (address : ℕ) → Names l.trace address → Contains (addresses_of l.explained.items) address ⊎ Contains l.at-iterator address;
-  each : All (λ there. IsFoundAt l.timed l.trace there.address (Coherent there.versions)) l.explained.items;
+  each : All (λ there. IsFoundAt l.way.timed l.trace there.address (Coherent there.versions there.freedom)) l.explained.items;
 }

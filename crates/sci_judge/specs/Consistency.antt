@@ -1,0 +1,25 @@
+-- Whether one order of all operations explains a trace.
+use Rattle.std.specs.Prelude.{◌≡◌, List, All}
+use Rattle.sci_history.specs.Sequential.{IsSequentiallyConsistent}
+use Rattle.sci_judge.specs.declared.{consistency.Consistency.{Consistency}, judging.SiteVersions.{SiteVersions}, logging.Log.{Log}, trace.Trace.{Trace}}
+use Rattle.sci_judge.specs.declared.consistency.Consistency.TheVariants as consistency
+use Rattle.sci_judge.specs.declared.finding.Freedom.TheVariants.{Forced}
+use Rattle.sci_judge.specs.Logged.{IsLogOf}
+
+-- a log of the trace by these versions is sequentially consistent
+abbrev pub HasOrder : Trace → List SiteVersions → Type 0
+HasOrder trace sites = (log : Log) × IsLogOf trace sites log × IsSequentiallyConsistent log.logs log.last
+
+-- no other versions explain the operations at any address
+abbrev pub AreAllForced : List SiteVersions → Type 0
+AreAllForced sites = All (λ there. there.freedom ≡ Forced) sites
+
+-- the versions are forced, and the log by them is not sequentially consistent
+abbrev pub HasNoOrder : Trace → List SiteVersions → Type 0
+HasNoOrder trace sites = AreAllForced sites × (log : Log) × IsLogOf trace sites log × (IsSequentiallyConsistent log.logs log.last → ⊥)
+
+-- what is answered holds
+abbrev pub IsConsistency : Trace → List SiteVersions → Consistency → Type 0
+IsConsistency trace sites consistency.Sequential = HasOrder trace sites
+IsConsistency trace sites consistency.NotSequential = HasNoOrder trace sites
+IsConsistency trace sites consistency.Unknown = Unit {0}
