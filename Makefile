@@ -46,25 +46,29 @@ $(PROGRAMS): $(SOURCES)
 	@cd crates/$(@F) && { rt run -- $$(cat args) < stdin > /dev/null; [ $$? -eq $$(cat status 2> /dev/null || echo 0) ]; } && touch out/$(@F)
 	@install -D crates/$(@F)/out/$(@F) out/bin/$(@F)
 
-# The C library: libsci.a, libsci.so and sci.pc in out/library.
-library: out/library/libsci.so
+# The C library: liblichenknit.a, liblichenknit.so, and what pkg-config and CMake read, in out/library.
+library: out/library/liblichenknit.so
 
 crates/sci_c/out/libsci_c.a: $(SOURCES)
 	@$(NEED_RT)
 	@cd crates/sci_c && rt lib > out.log 2>&1 || { cat out.log; rm -f out.log; exit 1; }; rm -f out.log && touch out/libsci_c.a
 
-out/library/libsci.so: crates/sci_c/out/libsci_c.a include/sci.h library/support.c library/sci.map library/sci.pc.in scripts/make/library.py
-	@PREFIX="$(PREFIX)" scripts/make/library.py && touch out/library/libsci.so
+out/library/liblichenknit.so: crates/sci_c/out/libsci_c.a include/lichenknit.h $(wildcard library/*.*) scripts/make/library.py
+	@PREFIX="$(PREFIX)" scripts/make/library.py && touch out/library/liblichenknit.so
 
-# Puts the C library, its header and sci.pc alone into PREFIX/lib, PREFIX/include and PREFIX/lib/pkgconfig, below DESTDIR if that is set.
+# Puts the C library, its header and its manual page into PREFIX/lib, PREFIX/include and PREFIX/share/man, and what pkg-config and CMake
+# read into PREFIX/lib, below DESTDIR if that is set.
 install-library: library
-	@install -d "$(DESTDIR)$(PREFIX)/lib/pkgconfig" "$(DESTDIR)$(PREFIX)/include"
-	@install -m 644 include/sci.h "$(DESTDIR)$(PREFIX)/include"
-	@install -m 644 out/library/libsci.a "$(DESTDIR)$(PREFIX)/lib"
-	@install -m 755 out/library/libsci.so.* "$(DESTDIR)$(PREFIX)/lib"
-	@ln -sf "$$(basename out/library/libsci.so.*)" "$(DESTDIR)$(PREFIX)/lib/libsci.so"
-	@sed 's|^prefix=.*|prefix=$(PREFIX)|' out/library/sci.pc > "$(DESTDIR)$(PREFIX)/lib/pkgconfig/sci.pc"
-	@echo "installed libsci.a, libsci.so, sci.h and sci.pc below $(DESTDIR)$(PREFIX)"
+	@install -d "$(DESTDIR)$(PREFIX)/lib/pkgconfig" "$(DESTDIR)$(PREFIX)/lib/cmake/lichenknit" "$(DESTDIR)$(PREFIX)/include" "$(DESTDIR)$(PREFIX)/share/man/man3"
+	@install -m 644 include/lichenknit.h "$(DESTDIR)$(PREFIX)/include"
+	@install -m 644 out/library/liblichenknit.a "$(DESTDIR)$(PREFIX)/lib"
+	@install -m 755 out/library/liblichenknit.so.* "$(DESTDIR)$(PREFIX)/lib"
+	@ln -sf "$$(basename out/library/liblichenknit.so.*)" "$(DESTDIR)$(PREFIX)/lib/liblichenknit.so"
+	@sed 's|^prefix=.*|prefix=$(PREFIX)|' out/library/lichenknit.pc > "$(DESTDIR)$(PREFIX)/lib/pkgconfig/lichenknit.pc"
+	@install -m 644 library/lichenknit-config.cmake out/library/lichenknit-config-version.cmake "$(DESTDIR)$(PREFIX)/lib/cmake/lichenknit"
+	@scripts/make/library_page.py > "$(DESTDIR)$(PREFIX)/share/man/man3/sci.3"
+	@echo ".so man3/sci.3" > "$(DESTDIR)$(PREFIX)/share/man/man3/lichenknit.3"
+	@echo "installed liblichenknit, lichenknit.h and sci(3) below $(DESTDIR)$(PREFIX)"
 
 # Runs the programs on the stored cases alone.
 cases: build
@@ -88,7 +92,7 @@ install:
 	@install -m 644 docs/scimem.1 docs/sciview.1 "$(DESTDIR)$(PREFIX)/share/man/man1"
 	@scripts/make/manual_page.py > "$(DESTDIR)$(PREFIX)/share/man/man5/scimem.5"
 	@echo "installed scimem and sciview in $(DESTDIR)$(PREFIX)/bin, and scimem(1), sciview(1) and scimem(5) in $(DESTDIR)$(PREFIX)/share/man"
-	@if [ -f out/library/libsci.a ]; then $(MAKE) --no-print-directory -o library install-library; fi
+	@if [ -f out/library/liblichenknit.a ]; then $(MAKE) --no-print-directory -o library install-library; fi
 
 # Builds tests and the programs over what earlier checks kept, and has memory, reads and writes refused. With CRATE=NAME
 # it tries that crate alone.

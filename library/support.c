@@ -1,7 +1,7 @@
 /* What the library needs beside the proved part: the heap, and texts of statuses. */
 #include <stdlib.h>
 
-#include "sci.h"
+#include "lichenknit.h"
 
 /* What the proved part's calls for memory answer: ok is 1 if at leads to the block. */
 struct room {

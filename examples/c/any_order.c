@@ -1,13 +1,13 @@
 /* Four nodes and a network that keeps no order: all packets under way lie in one bag, and any of them comes next. Then the same
 ** with a network that loses some packets. Nodes issue, perform and ask at random. At the end the logs are audited.
 **
-**     cc -o any_order any_order.c $(pkg-config --cflags --libs sci) && ./any_order
+**     cc -o any_order any_order.c $(pkg-config --cflags --libs lichenknit) && ./any_order
 */
 #include <stdio.h>
 #include <stdlib.h>
 #include <string.h>
 
-#include "sci.h"
+#include "lichenknit.h"
 
 /* A node has at most one packet about each of its lines under way, for no more lines than it has slots. So the bag never has
 ** more than NODES * SLOTS packets. */

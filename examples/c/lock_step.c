@@ -1,12 +1,12 @@
 /* Four nodes in lock step: each packet takes three cycles. What a node does is its policy's to say, so that all operations end.
 ** The driver of a node is the function cycle.
 **
-**     cc -o lock_step lock_step.c $(pkg-config --cflags --libs sci) && ./lock_step
+**     cc -o lock_step lock_step.c $(pkg-config --cflags --libs lichenknit) && ./lock_step
 */
 #include <stdio.h>
 #include <string.h>
 
-#include "sci.h"
+#include "lichenknit.h"
 
 enum { NODES = 4, LINES = 2, SLOTS = 2, OPERATIONS = 1000, DELAY = 3, ROOM = NODES * SLOTS };
 

@@ -1,11 +1,11 @@
 // A machine as a C++ class owns it: it stores a word, comes to rest, and its logs are audited.
 //
-//     c++ -std=c++17 -o machine machine.cpp $(pkg-config --cflags --libs sci) && ./machine
+//     c++ -std=c++17 -o machine machine.cpp $(pkg-config --cflags --libs lichenknit) && ./machine
 #include <cstdio>
 #include <new>
 #include <stdexcept>
 
-#include "sci.h"
+#include "lichenknit.h"
 
 // Throws unless a call has answered SCI_OK.
 static void must(sci_status status) {

@@ -1,10 +1,10 @@
 /* Two nodes and the wires between them. Node 1 stores a word of line 0, whose home is at node 0, and then node 0 loads it.
 **
-**     cc -o two_nodes two_nodes.c $(pkg-config --cflags --libs sci) && ./two_nodes
+**     cc -o two_nodes two_nodes.c $(pkg-config --cflags --libs lichenknit) && ./two_nodes
 */
 #include <stdio.h>
 
-#include "sci.h"
+#include "lichenknit.h"
 
 enum { NODES = 2 };
 

@@ -1,13 +1,13 @@
 // The two nodes of two_nodes.c as C++ classes own them: node 1 stores a word of line 0, and then node 0 loads it.
 //
-//     c++ -std=c++17 -o two_nodes two_nodes.cpp $(pkg-config --cflags --libs sci) && ./two_nodes
+//     c++ -std=c++17 -o two_nodes two_nodes.cpp $(pkg-config --cflags --libs lichenknit) && ./two_nodes
 #include <array>
 #include <cstdio>
 #include <initializer_list>
 #include <new>
 #include <stdexcept>
 
-#include "sci.h"
+#include "lichenknit.h"
 
 // Throws unless a call has answered SCI_OK.
 static void must(sci_status status) {

@@ -1,7 +1,7 @@
 /* The structs lie as the library has them: sizes and offsets, and the sizes that the library itself reports. */
 #include <stdio.h>
 
-#include "sci.h"
+#include "lichenknit.h"
 
 #define AT(type, member, offset) _Static_assert(offsetof(type, member) == (offset), #type "." #member)
 #define SIZE(type, size) _Static_assert(sizeof(type) == (size), #type)

@@ -3,7 +3,7 @@
 #include <stdio.h>
 #include <stdlib.h>
 
-#include "sci.h"
+#include "lichenknit.h"
 
 void *__real_malloc(size_t size);
 void *__real_realloc(void *at, size_t size);

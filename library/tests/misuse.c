@@ -3,7 +3,7 @@
 #include <stdio.h>
 #include <string.h>
 
-#include "sci.h"
+#include "lichenknit.h"
 
 static int failed = 0;
 

@@ -22,8 +22,9 @@ import tempfile
 TOP = os.path.dirname(os.path.dirname(os.path.dirname(os.path.abspath(__file__))))
 sys.path.insert(0, f"{TOP}/scripts/make")
 import library  # noqa: E402
+from header import HEADER, declared, enum, header, number_of, read, structs  # noqa: E402
+from tally import Tally  # noqa: E402
 
-HEADER = f"{TOP}/include/sci.h"
 CALLS = "200000"
 C = ["-std=c11", "-Wall", "-Wextra", "-Wpedantic", "-Werror", "-O2"]
 CXX = ["-std=c++17", "-Wall", "-Wextra", "-Wpedantic", "-Werror", "-O2"]
@@ -33,47 +34,10 @@ HELPERS = {"sci_status_text", *(f"sci_{it}_name" for it in ("status", "command",
 TYPES = {"u8": "uint8_t", "u16": "uint16_t", "u32": "uint32_t", "u64": "uint64_t", "usize": "size_t"}
 
 
-class Tally:
-    def __init__(self):
-        self.passed = self.failed = 0
-
-    def count(self, what, wrong):
-        """Counts a check, which passed if nothing is wrong."""
-        if wrong:
-            self.failed += 1
-            print(f"{what} FAILED: {wrong}", flush=True)
-        else:
-            self.passed += 1
-
-    def run(self, what, words, **how):
-        """Runs a program, which has to end well. Its output."""
-        ran = subprocess.run(words, stdout=subprocess.PIPE, stderr=subprocess.STDOUT, text=True, **how)
-        self.count(what, ran.returncode and f"status {ran.returncode}: {ran.stdout[-600:]}")
-        return ran.stdout
-
-
-def read(path):
-    with open(path, encoding="utf-8") as file:
-        return file.read()
-
-
-def header():
-    return re.sub(r"/\*.*?\*/", "", read(HEADER), flags=re.DOTALL)
-
-
 def rattle(crate):
     """The sources of a crate, without comments."""
     folder = f"{TOP}/crates/{crate}/src"
     return "\n".join(re.sub(r"^\s*//.*", "", read(f"{folder}/{name}"), flags=re.MULTILINE) for name in sorted(os.listdir(folder)))
-
-
-def declared():
-    """The functions of the header: what each answers, and the types of its parameters, an array as its length."""
-    found = {}
-    for result, name, parameters in re.findall(r"^(\w[\w ]*?[ *]+)(sci_\w+)\(([^)]*)\);", header(), re.MULTILINE):
-        words = [re.sub(r"\s*\b\w+(\[\w+\])?$", r"\1", it.strip()) for it in parameters.split(",")]
-        found[name] = re.sub(r"\s*\*\s*", " *", result.strip()), [it for it in words if it not in ("void", "")]
-    return found
 
 
 def c_types(name, written):
@@ -111,7 +75,7 @@ def plain(kind):
     """A type of the header without const, and an object's and an array's by what it is."""
     kind = re.sub(r"\bconst\b", "", kind).strip()
     kind = re.sub(r"\s*\*", " *", kind)
-    kind = re.sub(r"SCI_\w+", lambda it: re.search(it[0] + r" = (\w+)", header())[1], kind)
+    kind = re.sub(r"SCI_\w+", lambda it: str(number_of(it[0])), kind)
     return re.sub(r"^sci_(machine|node|logs) \*$", "object *", kind)
 
 
@@ -134,26 +98,21 @@ def contract(name):
     return text[start: text.index("\n{", start)]
 
 
-def fields_of(body, separator, swapped):
-    """Names and types of fields, arrays as `type[length]`."""
-    for part in body.split(separator):
+def fields_of(body):
+    """The fields of a struct of a crate, with their types as C has them."""
+    for part in body.split(",\n"):
         words = re.sub(r"\bpub\b", "", part).strip().rstrip(",")
         if not words or words.startswith("ghost"):
             continue
-        name, kind = (it.strip() for it in words.split(":")) if swapped else words.rsplit(" ", 1)[::-1]
-        if swapped:
-            array = re.fullmatch(r"\[(\w+); (\d+)\]", kind)
-            yield (name, f"{TYPES[array[1]]}[{array[2]}]") if array else (name, TYPES.get(kind) or c_name(kind))
-        else:
-            name, _, length = name.partition("[")
-            yield name, f"{kind}[8]" if length else kind
+        name, kind = (it.strip() for it in words.split(":"))
+        array = re.fullmatch(r"\[(\w+); (\d+)\]", kind)
+        yield (name, f"{TYPES[array[1]]}[{array[2]}]") if array else (name, TYPES.get(kind) or c_name(kind))
 
 
 def check_structs(tally):
-    values = rattle("sci_c_values")
-    of_header = {name: list(fields_of(body, ";", False)) for body, name in re.findall(r"typedef struct sci_\w+ \{(.*?)\} (sci_\w+);", header(), re.DOTALL)}
+    values, of_header = rattle("sci_c_values"), structs()
     for name, body in re.findall(r"#\[repr\(C\)\][^{]*pub struct (\w+) \{(.*?)\n\}", values, re.DOTALL):
-        wanted = list(fields_of(body, ",\n", True))
+        wanted = list(fields_of(body))
         tally.count(name, of_header.get(c_name(name)) != wanted and f"{of_header.get(c_name(name))} in the header, and {wanted}")
     numbers = dict(re.findall(r"pub const (SCI_\w+): u32 = (\d+);", values))
     wrong = [name for name, number in numbers.items() if not re.search(rf"\b{name} = {number}\b", header())]
@@ -170,12 +129,6 @@ def texts(crate, variant):
     """The texts that a match of a crate gives the variants of an enum."""
     found = re.findall(rf'{variant}::(\w+)(?:\(_\)| \{{ \.\. \}})? => "([^"]+)",', rattle(crate))
     return {re.sub(r"(?<!^)([A-Z])", r"_\1", name).upper(): text for name, text in found}
-
-
-def enum(name):
-    """The numbers of an enum of the header."""
-    body = re.search(rf"enum {name} \{{(.*?)\}};", header(), re.DOTALL)[1]
-    return {it: int(number, 0) for it, number in re.findall(r"SCI_(\w+) = (\w+)", body)}
 
 
 def table(function):
@@ -206,19 +159,23 @@ def check_names(tally):
 
 
 def check_symbols(tally):
+    """The names that the library shows are those of the header, and it has the hardening that distributions ask for."""
     if not shutil.which("nm"):
         print("nm is missing: the symbols of the library are left out")
         return
-    for words in (["-D", "--defined-only", "libsci.so"], ["-g", "--defined-only", "libsci.a"]):
+    for words in (["-D", "--defined-only", "liblichenknit.so"], ["-g", "--defined-only", "liblichenknit.a"]):
         text = subprocess.run(["nm", *words], cwd=library.OUT, stdout=subprocess.PIPE, text=True, check=True).stdout
-        found = {it.split("@")[0] for it in re.findall(r" T (\S+)", text)}
-        others = set() if "libsci.so" in words else {it for it in found if it.startswith("rattle_")}
-        tally.count(f"symbols of {words[-1]}", sorted((found - others) ^ set(declared())))
+        found = {it.split("@")[0] for it in re.findall(r"^\w* [A-Z] (\S+)", text, re.MULTILINE)} - {"SCI_1"}
+        tally.count(f"symbols of {words[-1]}", sorted(found ^ set(declared())))
+    if shutil.which("readelf"):
+        text = tally.run("readelf", ["readelf", "-dlSW", f"{library.OUT}/liblichenknit.so"])
+        lacking = [it for it in ("GNU_RELRO", "BIND_NOW", ".debug_info") if it not in text]
+        tally.count("liblichenknit.so", lacking and f"it lacks {lacking}")
 
 
 def check_programs(tally, cc, room):
     """The header alone, the tests and the examples in C and C++."""
-    flags, archive = [f"-I{TOP}/include"], f"{library.OUT}/libsci.a"
+    flags, archive = [f"-I{TOP}/include"], f"{library.OUT}/liblichenknit.a"
     memory = "-Wl,--wrap=malloc,--wrap=realloc,--wrap=free"
     cxx = next((it for it in (os.environ.get("CXX"), "c++", "g++", "clang++") if it and shutil.which(it)), None)
     tally.run("the header as C11", [cc, *C, *flags, "-fsyntax-only", "-x", "c", HEADER])
@@ -250,10 +207,8 @@ def check_output(tally, name, output):
     tally.count(f"output of {name}", output != wanted and output)
 
 
-def check_python(tally):
-    settings = {**os.environ, "SCI_LIBRARY": f"{library.OUT}/libsci.so"}
-    script = [sys.executable, "examples/c/random_schedule.py", "examples/last-differs.log", "examples/purge.schedule"]
-    check_output(tally, "random_schedule.py", tally.run("random_schedule.py", script, cwd=TOP, env=settings))
+def check_random_calls(tally):
+    settings = {**os.environ, "LICHENKNIT_LIBRARY": f"{library.OUT}/liblichenknit.so", "PYTHONPATH": f"{TOP}/python"}
     scimem = f"{TOP}/crates/scimem/out/scimem"
     if not os.path.exists(scimem):
         print("scimem isn't built: the comparison with the text programs is left out")
@@ -278,9 +233,8 @@ def main():
     check_symbols(tally)
     with tempfile.TemporaryDirectory(prefix="library-") as room:
         check_programs(tally, cc, room)
-    check_python(tally)
-    print(f"{tally.passed} passed, {tally.failed} failed")
-    return 1 if tally.failed else 0
+    check_random_calls(tally)
+    return tally.end()
 
 
 sys.exit(main())

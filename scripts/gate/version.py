@@ -10,10 +10,12 @@ OTHERS = {
     "docs/scimem.1": r'^\.TH .* "Lichenknit (\S+)"',
     "docs/sciview.1": r'^\.TH .* "Lichenknit (\S+)"',
     "bench/Cargo.toml": r'^version = "(.*)"',
+    "python/pyproject.toml": r'^version = "(.*)"',
+    "bindings/rust/Cargo.toml": r'^version = "(.*)"',
     "cases/sciview-words.txt": r"^sciview (\d\S*)",
 }
 # The header of the C library has the first two numbers.
-HEADER = "include/sci.h"
+HEADER = "include/lichenknit.h"
 
 
 def found(path, pattern):

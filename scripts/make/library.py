@@ -1,6 +1,6 @@
 #!/usr/bin/env python3
-"""Builds the C library of crates/sci_c/out/libsci_c.a and library/: libsci.a, libsci.so and sci.pc in out/library. The compiler is
-$CC, or cc, or the kit's clang."""
+"""Builds the C library of crates/sci_c/out/libsci_c.a and library/: liblichenknit.a, liblichenknit.so, and what pkg-config and CMake read, in
+out/library. It takes a C compiler, which is $CC, or cc, or the kit's clang, and ar, ld and objcopy."""
 
 import os
 import re
@@ -30,7 +30,7 @@ def compiler():
 
 def version():
     """The numbers of the version, as the header has them."""
-    with open(f"{TOP}/include/sci.h", encoding="utf-8") as file:
+    with open(f"{TOP}/include/lichenknit.h", encoding="utf-8") as file:
         text = file.read()
     return [re.search(rf"#define SCI_VERSION_{part} (\d+)", text)[1] for part in ("MAJOR", "MINOR")]
 
@@ -39,29 +39,52 @@ def run(*words):
     subprocess.run(words, check=True, cwd=OUT)
 
 
+def build_archive(cc):
+    """One object with the proved part and support.c. No other name than sci_* is seen outside it."""
+    run(cc, "-std=c11", "-O2", "-g", "-fno-eliminate-unused-debug-types", f"-ffile-prefix-map={TOP}=.", "-fPIC", "-Wall", "-Wextra", "-Werror",
+        f"-I{TOP}/include", "-c", f"{TOP}/library/support.c", "-o", "support.o")
+    run("ld", "-r", "-o", "lichenknit.o", "--whole-archive", f"{TOP}/crates/sci_c/out/libsci_c.a", "--no-whole-archive", "support.o")
+    run("objcopy", "--wildcard", "--keep-global-symbol=sci_*", "lichenknit.o")
+    if os.path.exists(f"{OUT}/liblichenknit.a"):
+        os.remove(f"{OUT}/liblichenknit.a")
+    run("ar", "rcs", "liblichenknit.a", "lichenknit.o")
+
+
+def build_shared(cc, major):
+    name = f"liblichenknit.so.{major}"
+    run(cc, "-shared", "-o", name, f"-Wl,-soname,{name}", f"-Wl,--version-script={TOP}/library/lichenknit.map", "-Wl,-z,defs,-z,relro,-z,now",
+        "-Wl,--whole-archive", "liblichenknit.a", "-Wl,--no-whole-archive")
+    if os.path.lexists(f"{OUT}/liblichenknit.so"):
+        os.remove(f"{OUT}/liblichenknit.so")
+    os.symlink(name, f"{OUT}/liblichenknit.so")
+
+
+def fill_in(name, **values):
+    """Writes a file of library/ with what stands between @ in it."""
+    with open(f"{TOP}/library/{name}.in", encoding="utf-8") as file:
+        text = file.read()
+    for key, value in values.items():
+        text = text.replace(f"@{key}@", value)
+    with open(f"{OUT}/{name}", "w", encoding="utf-8") as file:
+        file.write(text)
+
+
 def build(cc):
     major, minor = version()
     os.makedirs(OUT, exist_ok=True)
-    run(cc, "-std=c11", "-O2", "-fPIC", "-Wall", "-Wextra", "-Werror", f"-I{TOP}/include", "-c", f"{TOP}/library/support.c", "-o", "support.o")
-    if os.path.exists(f"{OUT}/libsci.a"):
-        os.remove(f"{OUT}/libsci.a")
-    shutil.copyfile(f"{TOP}/crates/sci_c/out/libsci_c.a", f"{OUT}/libsci.a")
-    run("ar", "r", "libsci.a", "support.o")
-    run(cc, "-shared", "-o", f"libsci.so.{major}", f"-Wl,-soname,libsci.so.{major}", f"-Wl,--version-script={TOP}/library/sci.map",
-        "-Wl,-z,defs", "-Wl,--whole-archive", "libsci.a", "-Wl,--no-whole-archive")
-    if os.path.lexists(f"{OUT}/libsci.so"):
-        os.remove(f"{OUT}/libsci.so")
-    os.symlink(f"libsci.so.{major}", f"{OUT}/libsci.so")
-    with open(f"{TOP}/library/sci.pc.in", encoding="utf-8") as file:
-        text = file.read()
-    with open(f"{OUT}/sci.pc", "w", encoding="utf-8") as file:
-        file.write(text.replace("@PREFIX@", os.environ.get("PREFIX", "/usr/local")).replace("@VERSION@", f"{major}.{minor}"))
+    build_archive(cc)
+    build_shared(cc, major)
+    fill_in("lichenknit.pc", PREFIX=os.environ.get("PREFIX", "/usr/local"), VERSION=f"{major}.{minor}")
+    fill_in("lichenknit-config-version.cmake", VERSION=f"{major}.{minor}")
 
 
 def main():
     cc = compiler()
     if cc is None:
         print("there is no C compiler with the headers of the C library: install one, or set CC")
+        return 1
+    if lacking := [it for it in ("ar", "ld", "objcopy") if not shutil.which(it)]:
+        print(f"{' and '.join(lacking)} of binutils are missing: install them")
         return 1
     build(cc)
     return 0

@@ -1,0 +1,113 @@
+//! Machines: events, what they do, and what stands in their way.
+
+use lichenknit::{
+    Act, AskKind, Command, Error, Event, HomeState, Lane, Machine, Obstacle, Op, Size, State,
+};
+
+const SIZE: Size = Size { nodes: 2, lines: 4, slots: 2 };
+const STORE: Op = Op { line: 0, word: 3, act: Act::Store(42) };
+
+/// A machine in which node 1 has stored to line 0, whose home is at node 0.
+fn stored() -> Machine {
+    let mut machine = Machine::new(SIZE, 16).unwrap();
+    let events = [
+        Event::Issue { node: 1, op: STORE },
+        Event::Ask { node: 1, line: 0, kind: AskKind::Mread },
+        Event::Serve { from: 1, node: 0 },
+        Event::Reply { node: 0 },
+        Event::Accept { from: 0, node: 1 },
+        Event::Perform { node: 1, line: 0 },
+    ];
+    for event in events {
+        assert_eq!(machine.obstacle(event), None);
+        machine.step(event).unwrap();
+    }
+    machine
+}
+
+#[test]
+fn sizes_out_of_range_are_refused() {
+    for (nodes, lines, slots, limit) in
+        [(0, 1, 1, 1), (17, 1, 1, 1), (1, 65, 1, 1), (1, 1, 9, 1), (1, 1, 1, 0), (1, 1, 1, 65_537)]
+    {
+        assert_eq!(
+            Machine::new(Size { nodes, lines, slots }, limit).unwrap_err(),
+            Error::OutOfRange
+        );
+    }
+    assert_eq!(Error::OutOfRange.to_string(), "SCI_RANGE: a number is outside its limits");
+}
+
+#[test]
+fn steps_say_what_they_did() {
+    let mut machine = Machine::new(SIZE, 16).unwrap();
+    assert_eq!(machine.step(Event::Issue { node: 1, op: STORE }).unwrap().packet, None);
+    assert_eq!(machine.pending(1, 0).unwrap(), Some((STORE, 0)));
+    let asked = machine
+        .step(Event::Ask { node: 1, line: 0, kind: AskKind::Mread })
+        .unwrap()
+        .packet
+        .unwrap();
+    assert_eq!((asked.command, asked.source, asked.target), (Command::Mread, 1, 0));
+    assert_eq!(machine.packets(Lane::Requests, 1, 0).collect::<Vec<_>>(), [asked]);
+    assert_eq!(machine.packets(Lane::Answers, 0, 1).count(), 0);
+    assert!(machine.held(1, 0).unwrap().waits);
+    machine.step(Event::Serve { from: 1, node: 0 }).unwrap();
+    assert_eq!(machine.answer(0).unwrap().unwrap().command, Command::Mdata);
+    assert_eq!(machine.answer(1).unwrap(), None);
+}
+
+#[test]
+fn a_store_is_seen() {
+    let mut machine = stored();
+    let held = machine.held(1, 0).unwrap();
+    assert_eq!(
+        (held.state, held.contents.unwrap().words[3], held.forward),
+        (State::Head, 42, None)
+    );
+    let home = machine.home(0, 0).unwrap().unwrap();
+    assert_eq!((home.state, home.head, home.contents), (HomeState::Gone, Some(1), None));
+    assert_eq!(machine.home(1, 0).unwrap(), None);
+    assert_eq!(machine.sharing(0).unwrap(), [1]);
+    assert_eq!(machine.authority(0).unwrap(), Some(1));
+    assert_eq!(machine.authority(1).unwrap(), None);
+    assert!(machine.settle().unwrap() > 0);
+    assert_eq!(machine.last(0).unwrap().words[3], 42);
+    let logs = machine.logs().unwrap();
+    assert!(logs.audit().unwrap().is_lawful());
+    assert_eq!(
+        logs.iter().map(|it| (it.node, it.op, it.version)).collect::<Vec<_>>(),
+        [(1, STORE, 1)]
+    );
+}
+
+#[test]
+fn what_is_not_enabled_changes_nothing() {
+    let mut machine = stored();
+    let event = Event::Perform { node: 1, line: 0 };
+    assert_eq!(machine.obstacle(event), Some(Obstacle::NothingPending));
+    assert_eq!(Obstacle::NothingPending.to_string(), "nothing-pending");
+    assert_eq!(machine.step(event).unwrap_err(), Error::NotEnabled);
+    assert!(!machine.try_step(event).unwrap());
+    assert_eq!(machine.held(2, 0).unwrap_err(), Error::OutOfRange);
+    assert_eq!(machine.logs().unwrap().iter().count(), 1);
+}
+
+#[test]
+fn copies_share_nothing() {
+    let machine = stored();
+    let mut copy = machine.try_clone().unwrap();
+    assert!(copy.try_step(Event::Issue { node: 0, op: STORE }).unwrap());
+    assert_eq!(
+        (machine.pending(0, 0).unwrap(), copy.pending(0, 0).unwrap()),
+        (None, Some((STORE, 0)))
+    );
+}
+
+#[test]
+fn machines_go_from_thread_to_thread() {
+    let threads: Vec<_> = (0..4).map(|_| std::thread::spawn(stored)).collect();
+    for thread in threads {
+        assert_eq!(thread.join().unwrap().last(0).unwrap().words[3], 42);
+    }
+}

@@ -1,0 +1,155 @@
+"""The logs of all nodes, of this machine or of any other."""
+
+from __future__ import annotations
+
+from collections.abc import Iterator, Sequence
+from ctypes import byref, c_size_t, c_uint8, c_uint32
+from typing import overload
+
+from . import _native
+from ._library import failed
+from ._owner import Owner
+from .errors import BadText
+from .numbers import MAX_NODES, OrderKind, Status, TextKind
+from .values import Contents, Entry, Order, Verdict
+
+# A cycle has at most as many entries.
+LONGEST_CYCLE = 32
+
+
+class Log(Sequence[Entry]):
+    """The log of one node: its entries in their order."""
+
+    def __init__(self, logs: Logs, node: int) -> None:
+        self._logs, self._node = logs, node
+
+    def __len__(self) -> int:
+        count = c_size_t()
+        self._logs._call("count", self._node, byref(count))
+        return count.value
+
+    @overload
+    def __getitem__(self, place: int) -> Entry: ...
+
+    @overload
+    def __getitem__(self, place: slice) -> list[Entry]: ...
+
+    def __getitem__(self, place: int | slice) -> Entry | list[Entry]:
+        if isinstance(place, slice):
+            return [self[it] for it in range(*place.indices(len(self)))]
+        count = len(self)
+        if not -count <= place < count:
+            raise IndexError(f"the log has {count} entries")
+        return self._entry(place % count)
+
+    def __iter__(self) -> Iterator[Entry]:
+        return (self._entry(it) for it in range(len(self)))
+
+    def _entry(self, place: int) -> Entry:
+        entry = _native.sci_entry()
+        self._logs._call("entry", self._node, place, entry)
+        return Entry._of(entry)
+
+
+class Logs(Owner):
+    """The logs of all nodes, with the last contents of each line. New ones have no entries, and zero words at version 0."""
+
+    _kind = "logs"
+    _struct = _native.sci_logs
+
+    def __init__(self, nodes: int, lines: int) -> None:
+        super().__init__()
+        self._call("open", nodes, lines)
+
+    @classmethod
+    def _empty(cls) -> Logs:
+        logs = cls.__new__(cls)
+        Owner.__init__(logs)
+        return logs
+
+    @classmethod
+    def read(cls, text: str | bytes) -> Logs:
+        """The logs of a text, in the format of `scimem replay`. If it is no log, BadText has its first fault."""
+        logs, fault = cls._empty(), _native.sci_text_fault()
+        data = text.encode() if isinstance(text, str) else text
+        status = logs._status("read", data, len(data), fault)
+        if status == Status.TEXT:
+            kind = TextKind(fault.kind)
+            raise BadText(f"sci_logs_read: {Status.TEXT}: the text is no log: line {fault.line}: {kind}", fault.line, kind)
+        if status:
+            raise failed("sci_logs_read", status)
+        return logs
+
+    def text(self) -> str:
+        """The text of the logs."""
+        used, room = c_size_t(), 0
+        while True:
+            data = (c_uint8 * room)()
+            status = self._status("write", data, room, byref(used))
+            if status == Status.OK:
+                return bytes(data[: used.value]).decode()
+            if status != Status.FULL:
+                raise failed("sci_logs_write", status)
+            room = used.value
+
+    def push(self, entry: Entry) -> None:
+        """Ends the log of the entry's node with the entry."""
+        self._call("push", entry._as_c())
+
+    def extend(self, entries: Sequence[Entry] | Iterator[Entry]) -> None:
+        """Pushes one entry after another."""
+        for it in entries:
+            self.push(it)
+
+    @property
+    def size(self) -> tuple[int, int]:
+        """How many nodes and lines there are."""
+        nodes, lines = c_uint8(), c_uint8()
+        self._call("size", byref(nodes), byref(lines))
+        return nodes.value, lines.value
+
+    def last(self, line: int) -> Contents:
+        """The last contents of a line."""
+        contents = _native.sci_stamped()
+        self._call("last", line, contents)
+        return Contents._of(contents)
+
+    def set_last(self, line: int, contents: Contents) -> None:
+        """Replaces the last contents of a line."""
+        self._call("set_last", line, contents._as_c())
+
+    def __getitem__(self, node: int) -> Log:
+        """The log of a node."""
+        nodes, _ = self.size
+        if not 0 <= node < nodes:
+            raise IndexError(f"there are {nodes} nodes")
+        return Log(self, node)
+
+    def __len__(self) -> int:
+        """How many entries there are in all."""
+        return sum(len(Log(self, it)) for it in range(MAX_NODES))
+
+    def __iter__(self) -> Iterator[Entry]:
+        """All entries, node after node."""
+        for node in range(self.size[0]):
+            yield from Log(self, node)
+
+    def audit(self) -> Verdict:
+        """Whether on each line one memory of one thread explains the logs and the last contents; else the first fault of the lowest
+        line that has one."""
+        verdict = _native.sci_verdict()
+        self._call("audit", verdict)
+        return Verdict._of(verdict)
+
+    def order(self) -> Order:
+        """One order of all entries that keeps each node's log and that one memory explains, or a cycle that shows that none does."""
+        room, kind, used = max(LONGEST_CYCLE, len(self)), c_uint32(), c_size_t()
+        entries = (_native.sci_entry * room)()
+        self._call("order", byref(kind), entries, room, byref(used))
+        return Order(OrderKind(kind.value), tuple(Entry._of(it) for it in entries[: used.value]))
+
+    def order_kind(self) -> OrderKind:
+        """What `order` would find."""
+        kind = c_uint32()
+        self._call("order_kind", byref(kind))
+        return OrderKind(kind.value)
