@@ -8,7 +8,7 @@ NEED_CARGO = command -v cargo > /dev/null || { echo "cargo is missing: install R
 PROGRAMS = crates/scimem/out/scimem crates/sciview/out/sciview crates/sci_circle/out/sci_circle
 SOURCES = crates.txt HANDLES $(shell find crates -name out -prune -o -path '*_tests' -prune -o \( -name '*.rt' -o -name '*.antt' \) -print)
 
-.PHONY: try run test check fmt bench growth instructions fuzz soak faults install build library install-library plants cases examples charts clean
+.PHONY: try run test check cosim bindings fmt bench growth instructions fuzz soak faults install build library install-library plants cases examples charts clean
 
 PREFIX = /usr/local
 
@@ -69,6 +69,15 @@ install-library: library
 	@scripts/make/library_page.py > "$(DESTDIR)$(PREFIX)/share/man/man3/sci.3"
 	@echo ".so man3/sci.3" > "$(DESTDIR)$(PREFIX)/share/man/man3/lichenknit.3"
 	@echo "installed liblichenknit, lichenknit.h and sci(3) below $(DESTDIR)$(PREFIX)"
+
+# Builds the C library, and runs the examples of docs/SYSTEMVERILOG.md and docs/SYSTEMC.md with it, if Verilator and SystemC are there.
+cosim: library
+	@scripts/gate/check_cosim.py
+
+# Builds the C library, and tries the package of Python, the crates of Rust, and the examples of the pages about them.
+bindings: library
+	@scripts/gate/check_signatures.py
+	@scripts/gate/check_bindings.py
 
 # Runs the programs on the stored cases alone.
 cases: build

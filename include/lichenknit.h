@@ -33,13 +33,15 @@
 extern "C" {
 #endif
 
-/** The version of this header. sci_version gives that of the library. */
+/** The version of this header: the first number. sci_version gives that of the library. */
 #define SCI_VERSION_MAJOR 0
+/** The second number. */
 #define SCI_VERSION_MINOR 1
 
 /** What a call answers. The numbers are of a fixed width, which those of an enum are not. */
 typedef uint32_t sci_status;
 
+/** The numbers of statuses. */
 enum sci_status_number {
     SCI_OK = 0,              /**< Done. */
     SCI_NO_MEMORY = 1,       /**< malloc or realloc refused memory. The call can be made again. */
@@ -308,18 +310,20 @@ typedef struct sci_text_fault {
 
 /* ---- objects */
 
-/** A machine, a node and logs, in the caller's memory. The three differ by name alone, so that a compiler finds a node where a
-** machine is wanted. The library finds it too. */
+/** A machine, in the caller's memory. The three objects differ by name alone, so that a compiler finds a node where a machine is
+** wanted. The library finds it too. */
 typedef struct sci_machine {
     void *at;
     uint32_t live;
 } sci_machine;
 
+/** A node's controller, in the caller's memory. */
 typedef struct sci_node {
     void *at;
     uint32_t live;
 } sci_node;
 
+/** Logs, in the caller's memory. */
 typedef struct sci_logs {
     void *at;
     uint32_t live;
@@ -343,14 +347,22 @@ void sci_layout_more(uint64_t sizes[4]);
 /** A short text in English, also for a number that is no status. It is static. */
 const char *sci_status_text(sci_status status);
 
-/** Names: of a status ("SCI_RANGE"), and as the programs print them, of a packet's command ("mread"), of a state of a cache
-** ("FreshHead") and of a home ("GONE"), of an obstacle ("no-slot") and of a verdict ("wrong-reply"). "?" stands for a number
-** that has none. They are static. */
+/** The name of a status: "SCI_RANGE", say. It is static, and "?" stands for a number that has none, as with the names below. */
 const char *sci_status_name(sci_status status);
+
+/** The name of a packet's command, as the programs print it: "mread". */
 const char *sci_command_name(uint32_t command);
+
+/** The name of a state of a cache: "FreshHead". */
 const char *sci_state_name(uint32_t state);
+
+/** The name of a state of a home: "GONE". */
 const char *sci_home_state_name(uint32_t state);
+
+/** The name of an obstacle: "no-slot". */
 const char *sci_obstacle_name(uint32_t obstacle);
+
+/** The name of a verdict: "wrong-reply". */
 const char *sci_verdict_name(uint32_t kind);
 
 /* ---- packets */
@@ -358,26 +370,28 @@ const char *sci_verdict_name(uint32_t kind);
 /** Reads the packet that the bytes begin with, and how many bytes it has: 16, or 88 with contents. Bytes after it aren't looked
 ** at. Contents that the packet doesn't carry are 0 (sci_packets::decode).
 **
-**   SCI_OK               packet and used are written.
-**   SCI_SHORT            There are fewer than 16 bytes, or fewer than 88 where contents follow.
-**   SCI_UNKNOWN_COMMAND, SCI_BAD_OFFSET, SCI_BAD_IDENTIFIER
-**                        The first fault of the bytes, in this order. Contents that are missing come last. */
+**   - SCI_OK               packet and used are written.
+**   - SCI_SHORT            There are fewer than 16 bytes, or fewer than 88 where contents follow.
+**   - SCI_UNKNOWN_COMMAND, SCI_BAD_OFFSET, SCI_BAD_IDENTIFIER
+**                          The first fault of the bytes, in this order. Contents that are missing come last. */
 sci_status sci_packet_decode(const uint8_t *bytes, size_t length, sci_packet *packet, size_t *used);
 
 /** Writes the packet over the first bytes, and how many: 16, or 88 with contents. The bytes after it stay
 ** (sci_packets::encode).
 **
-**   SCI_OK               bytes and used are written.
-**   SCI_RANGE            line is 2^42 or more, or has_contents is above 1.
-**   SCI_UNKNOWN_COMMAND, SCI_BAD_IDENTIFIER
-**                        The first fault of its words, in this order.
-**   SCI_SHORT            The command carries contents, and has_contents is 0.
-**   SCI_RANGE            has_contents is 1, and the command carries none. */
+**   - SCI_OK               bytes and used are written.
+**   - SCI_RANGE            line is 2^42 or more, or has_contents is above 1.
+**   - SCI_UNKNOWN_COMMAND, SCI_BAD_IDENTIFIER
+**                          The first fault of its words, in this order.
+**   - SCI_SHORT            The command carries contents, and has_contents is 0.
+**   - SCI_RANGE            has_contents is 1, and the command carries none. */
 sci_status sci_packet_encode(const sci_packet *packet, uint8_t bytes[SCI_PACKET_BYTES], size_t *used);
 
 /** The same for words: each eight bytes are one word, the highest byte first. A packet has 2 words, or 11 with contents
 ** (sci_packets::from_words and to_words). The statuses are those of sci_packet_decode and sci_packet_encode. */
 sci_status sci_packet_from_words(const uint64_t *words, size_t length, sci_packet *packet, size_t *used);
+
+/** Writes a packet as words (sci_packets::to_words). */
 sci_status sci_packet_to_words(const sci_packet *packet, uint64_t words[SCI_PACKET_WORDS], size_t *used);
 
 /* ---- machines: all nodes, and the packets between them. A machine is coherent after every call. */
@@ -385,25 +399,25 @@ sci_status sci_packet_to_words(const sci_packet *packet, uint64_t words[SCI_PACK
 /** Puts a machine of this size into an empty object. No line was touched. Each node may issue limit operations
 ** (sci_core::Machine::new).
 **
-**   SCI_OK          The object keeps the machine, until sci_machine_close.
-**   SCI_MISUSE      The object isn't empty.
-**   SCI_RANGE       Not 1 to 16 nodes, 1 to 64 lines, 1 to 8 slots, or a limit of 1 to 65,536.
-**   SCI_NO_MEMORY */
+**   - SCI_OK          The object keeps the machine, until sci_machine_close.
+**   - SCI_MISUSE      The object isn't empty.
+**   - SCI_RANGE       Not 1 to 16 nodes, 1 to 64 lines, 1 to 8 slots, or a limit of 1 to 65,536.
+**   - SCI_NO_MEMORY */
 sci_status sci_machine_open(sci_machine *machine, uint8_t nodes, uint8_t lines, uint8_t slots, uint32_t limit);
 
 /** Lets the machine go, and leaves the object empty: all zero. An empty object stays empty.
 **
-**   SCI_OK
-**   SCI_MISUSE      The object keeps something else. */
+**   - SCI_OK
+**   - SCI_MISUSE      The object keeps something else. */
 sci_status sci_machine_close(sci_machine *machine);
 
 /** Applies an event (Machine::apply).
 **
-**   SCI_OK          The machine has made the event.
-**   SCI_NOT_ENABLED The event is not enabled in the machine's state.
-**   SCI_RANGE       There is no such event: kind, act or ask is outside its table.
-**   SCI_NO_MEMORY   Only for SCI_ASK and SCI_REPLY. The event is enabled.
-**   SCI_MISUSE      The object keeps no machine. */
+**   - SCI_OK          The machine has made the event.
+**   - SCI_NOT_ENABLED The event is not enabled in the machine's state.
+**   - SCI_RANGE       There is no such event: kind, act or ask is outside its table.
+**   - SCI_NO_MEMORY   Only for SCI_ASK and SCI_REPLY. The event is enabled.
+**   - SCI_MISUSE      The object keeps no machine. */
 sci_status sci_machine_step(sci_machine *machine, const sci_event *event);
 
 /** Applies an event as sci_machine_step does, and gives the packet that it sent or took, and the entry that it logged
@@ -412,98 +426,98 @@ sci_status sci_machine_step_seen(sci_machine *machine, const sci_event *event, s
 
 /** Gives why an event is not enabled: a number of enum sci_obstacle (Machine::obstacle_to).
 **
-**   SCI_OK          obstacle is SCI_NO_OBSTACLE exactly if the event is enabled.
-**   SCI_RANGE       There is no such event: kind, act or ask is outside its table.
-**   SCI_MISUSE      The object keeps no machine. */
+**   - SCI_OK          obstacle is SCI_NO_OBSTACLE exactly if the event is enabled.
+**   - SCI_RANGE       There is no such event: kind, act or ask is outside its table.
+**   - SCI_MISUSE      The object keeps no machine. */
 sci_status sci_machine_obstacle(const sci_machine *machine, const sci_event *event, uint32_t *obstacle);
 
 /** Puts a copy of the machine into an empty object (Machine::try_clone).
 **
-**   SCI_OK          copy keeps it, until sci_machine_close. The two share nothing.
-**   SCI_MISUSE      machine keeps no machine, or copy isn't empty.
-**   SCI_NO_MEMORY */
+**   - SCI_OK          copy keeps it, until sci_machine_close. The two share nothing.
+**   - SCI_MISUSE      machine keeps no machine, or copy isn't empty.
+**   - SCI_NO_MEMORY */
 sci_status sci_machine_clone(const sci_machine *machine, sci_machine *copy);
 
 /** Reads what the cache of a node has of a line (Node::held).
 **
-**   SCI_OK
-**   SCI_RANGE       The machine has no such node or line.
-**   SCI_MISUSE      The object keeps no machine. */
+**   - SCI_OK
+**   - SCI_RANGE       The machine has no such node or line.
+**   - SCI_MISUSE      The object keeps no machine. */
 sci_status sci_machine_held(const sci_machine *machine, uint8_t node, uint8_t line, sci_held *held);
 
 /** Reads what the home of a line knows, if it is at this node (Node::home). The home of line l is at node l modulo the number of
 ** nodes.
 **
-**   SCI_OK
-**   SCI_RANGE       The machine has no such node or line.
-**   SCI_NOT_ENABLED The home is at another node.
-**   SCI_MISUSE      The object keeps no machine. */
+**   - SCI_OK
+**   - SCI_RANGE       The machine has no such node or line.
+**   - SCI_NOT_ENABLED The home is at another node.
+**   - SCI_MISUSE      The object keeps no machine. */
 sci_status sci_machine_home(const sci_machine *machine, uint8_t node, uint8_t line, sci_home *home);
 
 /** Gives the operation that is pending on a line at a node, and its serial, as sci_node_pending does (Node::pending).
 **
-**   SCI_OK
-**   SCI_RANGE       The machine has no such node.
-**   SCI_NOT_ENABLED None is pending there.
-**   SCI_MISUSE      The object keeps no machine. */
+**   - SCI_OK
+**   - SCI_RANGE       The machine has no such node.
+**   - SCI_NOT_ENABLED None is pending there.
+**   - SCI_MISUSE      The object keeps no machine. */
 sci_status sci_machine_pending(const sci_machine *machine, uint8_t node, uint8_t line, sci_op *op, uint32_t *serial);
 
 /** Reads the answer that waits at a node to be sent (Node::waiting).
 **
-**   SCI_OK
-**   SCI_RANGE       The machine has no such node.
-**   SCI_NOT_ENABLED No answer waits.
-**   SCI_MISUSE      The object keeps no machine. */
+**   - SCI_OK
+**   - SCI_RANGE       The machine has no such node.
+**   - SCI_NOT_ENABLED No answer waits.
+**   - SCI_MISUSE      The object keeps no machine. */
 sci_status sci_machine_answer(const sci_machine *machine, uint8_t node, sci_packet *packet);
 
 /** Reads the packet at a place of a lane from a node to a node. The oldest is at place 0. lane is SCI_REQUESTS or SCI_ANSWERS
 ** (Machine::lane).
 **
-**   SCI_OK
-**   SCI_RANGE       There is no such lane.
-**   SCI_NOT_ENABLED The lane has no more packets.
-**   SCI_MISUSE      The object keeps no machine. */
+**   - SCI_OK
+**   - SCI_RANGE       There is no such lane.
+**   - SCI_NOT_ENABLED The lane has no more packets.
+**   - SCI_MISUSE      The object keeps no machine. */
 sci_status sci_machine_packet(const sci_machine *machine, uint32_t lane, uint8_t from, uint8_t to, size_t place, sci_packet *packet);
 
 /** Writes the sharing list of a line over the first bytes, and how many nodes it has: from the home's head along the links of its
 ** members, each node once (Machine::sharing_list). SCI_MAX_NODES bytes are enough.
 **
-**   SCI_OK          nodes and used are written.
-**   SCI_RANGE       The machine has no such line.
-**   SCI_FULL        The list is longer than room. used says how long; nodes is as it was.
-**   SCI_NO_MEMORY
-**   SCI_MISUSE      The object keeps no machine. */
+**   - SCI_OK          nodes and used are written.
+**   - SCI_RANGE       The machine has no such line.
+**   - SCI_FULL        The list is longer than room. used says how long; nodes is as it was.
+**   - SCI_NO_MEMORY
+**   - SCI_MISUSE      The object keeps no machine. */
 sci_status sci_machine_sharing(const sci_machine *machine, uint8_t line, uint8_t *nodes, size_t room, size_t *used);
 
 /** Brings the machine to rest: every pending operation is performed, no cache has an entry, and each line's home has it
 ** alone. events is the number of events that it took (Machine::settle).
 **
-**   SCI_OK
-**   SCI_NO_MEMORY   The machine stands where the events made so far lead, and is coherent. events is as it was.
-**   SCI_MISUSE      The object keeps no machine. */
+**   - SCI_OK
+**   - SCI_NO_MEMORY   The machine stands where the events made so far lead, and is coherent. events is as it was.
+**   - SCI_MISUSE      The object keeps no machine. */
 sci_status sci_machine_settle(sci_machine *machine, uint32_t *events);
 
 /** Reads the last contents of a line (Machine::last_contents).
 **
-**   SCI_OK
-**   SCI_RANGE       The machine has no such line.
-**   SCI_MISUSE      The object keeps no machine. */
+**   - SCI_OK
+**   - SCI_RANGE       The machine has no such line.
+**   - SCI_MISUSE      The object keeps no machine. */
 sci_status sci_machine_last(const sci_machine *machine, uint8_t line, sci_stamped *contents);
 
 /** Gives the one node that may change a line or is about to (Machine::authority).
 **
-**   SCI_OK
-**   SCI_NOT_ENABLED No node may: the home has the line alone.
-**   SCI_RANGE       The machine has no such line.
-**   SCI_MISUSE      The object keeps no machine. */
+**   - SCI_OK
+**   - SCI_NOT_ENABLED No node may: the home has the line alone.
+**   - SCI_RANGE       The machine has no such line.
+**   - SCI_MISUSE      The object keeps no machine. */
 sci_status sci_machine_authority(const sci_machine *machine, uint8_t line, uint8_t *node);
 
 /** Puts the machine's logs and last contents into an empty object of logs. They are lawful, and sequentially consistent
 ** (Machine::logs and last).
 **
-**   SCI_OK          logs keeps them, until sci_logs_close.
-**   SCI_MISUSE      machine keeps no machine, or logs isn't empty.
-**   SCI_NO_MEMORY */
+**   - SCI_OK          logs keeps them, until sci_logs_close.
+**   - SCI_MISUSE      machine keeps no machine, or logs isn't empty.
+**   - SCI_NO_MEMORY */
 sci_status sci_machine_logs(const sci_machine *machine, sci_logs *logs);
 
 /* ---- nodes: the controller that a simulator has at each processor. The caller carries the packets. Their first two bytes are
@@ -521,60 +535,60 @@ sci_status sci_machine_logs(const sci_machine *machine, sci_logs *logs);
 /** Puts the controller of node me in a machine of this size into an empty object. Its processor may issue limit operations
 ** (sci_core::Node::new).
 **
-**   SCI_OK          The object keeps the node, until sci_node_close.
-**   SCI_MISUSE      The object isn't empty.
-**   SCI_RANGE       me is not below nodes, or not 1 to 16 nodes, 1 to 64 lines, 1 to 8 slots, or a limit of 1 to 65,536.
-**   SCI_NO_MEMORY */
+**   - SCI_OK          The object keeps the node, until sci_node_close.
+**   - SCI_MISUSE      The object isn't empty.
+**   - SCI_RANGE       me is not below nodes, or not 1 to 16 nodes, 1 to 64 lines, 1 to 8 slots, or a limit of 1 to 65,536.
+**   - SCI_NO_MEMORY */
 sci_status sci_node_open(sci_node *node, uint8_t me, uint8_t nodes, uint8_t lines, uint8_t slots, uint32_t limit);
 
 /** Lets the node go, and leaves the object empty: all zero. An empty object stays empty.
 **
-**   SCI_OK
-**   SCI_MISUSE      The object keeps something else. */
+**   - SCI_OK
+**   - SCI_MISUSE      The object keeps something else. */
 sci_status sci_node_close(sci_node *node);
 
 /** Issues an operation, and gives its serial: the count of operations issued before (Node::issue).
 **
-**   SCI_OK          The operation is pending on its line.
-**   SCI_NOT_ENABLED There is no such line or word, an operation is pending on the line, or limit operations were issued.
-**   SCI_RANGE       There is no such act.
-**   SCI_MISUSE      The object keeps no node. */
+**   - SCI_OK          The operation is pending on its line.
+**   - SCI_NOT_ENABLED There is no such line or word, an operation is pending on the line, or limit operations were issued.
+**   - SCI_RANGE       There is no such act.
+**   - SCI_MISUSE      The object keeps no node. */
 sci_status sci_node_issue(sci_node *node, const sci_op *op, uint32_t *serial);
 
 /** Performs the operation that is pending on a line, and gives its entry, which ends the node's log (Node::perform).
 **
-**   SCI_OK
-**   SCI_NOT_ENABLED None is pending there, or the state of the line doesn't allow it.
-**   SCI_MISUSE      The object keeps no node. */
+**   - SCI_OK
+**   - SCI_NOT_ENABLED None is pending there, or the state of the line doesn't allow it.
+**   - SCI_MISUSE      The object keeps no node. */
 sci_status sci_node_perform(sci_node *node, uint8_t line, sci_entry *entry);
 
 /** Makes a request of this kind about a line, and writes it over the first bytes, and how many. It is to be carried to its
 ** target (Node::ask and sci_packets::encode).
 **
-**   SCI_OK
-**   SCI_NOT_ENABLED There is no such line, its state doesn't ask this, or no version slot is free.
-**   SCI_RANGE       There is no such kind.
-**   SCI_MISUSE      The object keeps no node. */
+**   - SCI_OK
+**   - SCI_NOT_ENABLED There is no such line, its state doesn't ask this, or no version slot is free.
+**   - SCI_RANGE       There is no such kind.
+**   - SCI_MISUSE      The object keeps no node. */
 sci_status sci_node_ask(sci_node *node, uint8_t line, uint8_t ask, uint8_t packet[SCI_PACKET_BYTES], size_t *used);
 
 /** Takes the answer that waits, and writes it over the first bytes, and how many. It is to be carried to its target
 ** (Node::take_answer and sci_packets::encode).
 **
-**   SCI_OK
-**   SCI_NOT_ENABLED No answer waits.
-**   SCI_MISUSE      The object keeps no node. */
+**   - SCI_OK
+**   - SCI_NOT_ENABLED No answer waits.
+**   - SCI_MISUSE      The object keeps no node. */
 sci_status sci_node_take_answer(sci_node *node, uint8_t packet[SCI_PACKET_BYTES], size_t *used);
 
 /** Serves the request that the bytes begin with: its answer waits then (sci_packets::decode and Node::serve). The policy notes who
 ** sent it (Policy::served).
 **
-**   SCI_OK
-**   SCI_SHORT, SCI_UNKNOWN_COMMAND, SCI_BAD_OFFSET, SCI_BAD_IDENTIFIER
-**                   The bytes begin with no packet.
-**   SCI_RANGE       It is no request, not for this node, about a line that the machine hasn't, or for the home of a line that is
-**                   at another node; or the machine has no node of the number of its source or of its identifier.
-**   SCI_NOT_ENABLED An answer waits already.
-**   SCI_MISUSE      The object keeps no node. */
+**   - SCI_OK
+**   - SCI_SHORT, SCI_UNKNOWN_COMMAND, SCI_BAD_OFFSET, SCI_BAD_IDENTIFIER
+**                     The bytes begin with no packet.
+**   - SCI_RANGE       It is no request, not for this node, about a line that the machine hasn't, or for the home of a line that is
+**                     at another node; or the machine has no node of the number of its source or of its identifier.
+**   - SCI_NOT_ENABLED An answer waits already.
+**   - SCI_MISUSE      The object keeps no node. */
 sci_status sci_node_serve(sci_node *node, const uint8_t *packet, size_t length);
 
 /** Answers the request that the bytes begin with as busy: that answer waits then (Node::refuse). The statuses are those of
@@ -583,28 +597,28 @@ sci_status sci_node_refuse(sci_node *node, const uint8_t *packet, size_t length)
 
 /** Accepts the answer that the bytes begin with (Node::accept).
 **
-**   SCI_OK
-**   SCI_SHORT, SCI_UNKNOWN_COMMAND, SCI_BAD_OFFSET, SCI_BAD_IDENTIFIER
-**                   The bytes begin with no packet.
-**   SCI_RANGE       It is not for this node, or about a line that the machine hasn't; or the machine has no node of the number of
-**                   its source or of its identifier.
-**   SCI_NOT_ENABLED The node doesn't await it, or asked another node. A line that is Rolling or Fading doesn't know whom it asked.
-**   SCI_MISUSE      The object keeps no node. */
+**   - SCI_OK
+**   - SCI_SHORT, SCI_UNKNOWN_COMMAND, SCI_BAD_OFFSET, SCI_BAD_IDENTIFIER
+**                     The bytes begin with no packet.
+**   - SCI_RANGE       It is not for this node, or about a line that the machine hasn't; or the machine has no node of the number of
+**                     its source or of its identifier.
+**   - SCI_NOT_ENABLED The node doesn't await it, or asked another node. A line that is Rolling or Fading doesn't know whom it asked.
+**   - SCI_MISUSE      The object keeps no node. */
 sci_status sci_node_accept(sci_node *node, const uint8_t *packet, size_t length);
 
 /** Counts a turn of the node. A turn is what a node does at one time: it sends the answer that waits, accepts the answers that have
 ** come, looks at the requests that have come, and does what it wants. In one turn of 64 sci_node_decide keeps fewer requests
 ** (Policy::begin_turn).
 **
-**   SCI_OK
-**   SCI_MISUSE      The object keeps no node. */
+**   - SCI_OK
+**   - SCI_MISUSE      The object keeps no node. */
 sci_status sci_node_begin_turn(sci_node *node);
 
 /** Gives what the node does next. It is enabled: the call that it names answers SCI_OK (Policy::next). The node stays as it is; the
 ** policy counts that it was asked, and remembers a purge that it wants.
 **
-**   SCI_OK
-**   SCI_MISUSE      The object keeps no node. */
+**   - SCI_OK
+**   - SCI_MISUSE      The object keeps no node. */
 sci_status sci_node_next(sci_node *node, sci_want *want);
 
 /** Gives what the node does with the request that the bytes begin with: a number of enum sci_decision (Policy::decide). A setback
@@ -614,52 +628,52 @@ sci_status sci_node_decide(const sci_node *node, const uint8_t *packet, size_t l
 /** Gives the node whose requests are looked at first in a turn: the one after the sender that was served or refused last
 ** (Policy::first_sender).
 **
-**   SCI_OK
-**   SCI_MISUSE      The object keeps no node. */
+**   - SCI_OK
+**   - SCI_MISUSE      The object keeps no node. */
 sci_status sci_node_first_sender(const sci_node *node, uint8_t *from);
 
 /** Reads what the node's cache has of a line (Node::held).
 **
-**   SCI_OK
-**   SCI_RANGE       The machine has no such line.
-**   SCI_MISUSE      The object keeps no node. */
+**   - SCI_OK
+**   - SCI_RANGE       The machine has no such line.
+**   - SCI_MISUSE      The object keeps no node. */
 sci_status sci_node_held(const sci_node *node, uint8_t line, sci_held *held);
 
 /** Reads what the home of a line knows, if it is at this node (Node::home).
 **
-**   SCI_OK
-**   SCI_RANGE       The machine has no such line.
-**   SCI_NOT_ENABLED The home is at another node.
-**   SCI_MISUSE      The object keeps no node. */
+**   - SCI_OK
+**   - SCI_RANGE       The machine has no such line.
+**   - SCI_NOT_ENABLED The home is at another node.
+**   - SCI_MISUSE      The object keeps no node. */
 sci_status sci_node_home_state(const sci_node *node, uint8_t line, sci_home *home);
 
 /** Reads the answer that waits, and leaves it there (Node::waiting).
 **
-**   SCI_OK
-**   SCI_NOT_ENABLED No answer waits.
-**   SCI_MISUSE      The object keeps no node. */
+**   - SCI_OK
+**   - SCI_NOT_ENABLED No answer waits.
+**   - SCI_MISUSE      The object keeps no node. */
 sci_status sci_node_answer(const sci_node *node, sci_packet *packet);
 
 /** Gives the operation that is pending on a line, and its serial. An operand that its act doesn't have is 0 (Node::pending).
 **
-**   SCI_OK
-**   SCI_NOT_ENABLED None is pending there.
-**   SCI_MISUSE      The object keeps no node. */
+**   - SCI_OK
+**   - SCI_NOT_ENABLED None is pending there.
+**   - SCI_MISUSE      The object keeps no node. */
 sci_status sci_node_pending(const sci_node *node, uint8_t line, sci_op *op, uint32_t *serial);
 
 /** Reads the contents of a line whose home is at this node, if the home has them: nobody may have written since (Node::home and
 ** sci_home::Home::current). The home of line l is at node l modulo the number of nodes.
 **
-**   SCI_OK
-**   SCI_NOT_ENABLED The home is at another node, or another node may have written.
-**   SCI_RANGE       The machine has no such line.
-**   SCI_MISUSE      The object keeps no node. */
+**   - SCI_OK
+**   - SCI_NOT_ENABLED The home is at another node, or another node may have written.
+**   - SCI_RANGE       The machine has no such line.
+**   - SCI_MISUSE      The object keeps no node. */
 sci_status sci_node_home(const sci_node *node, uint8_t line, sci_stamped *contents);
 
 /** Gives whether no operation is pending and no line has an entry: 1, and else 0 (Node::is_at_rest).
 **
-**   SCI_OK
-**   SCI_MISUSE      The object keeps no node. */
+**   - SCI_OK
+**   - SCI_MISUSE      The object keeps no node. */
 sci_status sci_node_is_at_rest(const sci_node *node, uint32_t *at_rest);
 
 /* ---- logs: those of all nodes, with the last contents of each line, of this machine or of any other */
@@ -667,33 +681,33 @@ sci_status sci_node_is_at_rest(const sci_node *node, uint32_t *at_rest);
 /** Puts logs without entries into an empty object. Each line's last contents are zero words at version 0 (Logs::new and
 ** Last::zero).
 **
-**   SCI_OK          The object keeps the logs, until sci_logs_close.
-**   SCI_MISUSE      The object isn't empty.
-**   SCI_RANGE       Not 1 to 16 nodes or 1 to 64 lines.
-**   SCI_NO_MEMORY */
+**   - SCI_OK          The object keeps the logs, until sci_logs_close.
+**   - SCI_MISUSE      The object isn't empty.
+**   - SCI_RANGE       Not 1 to 16 nodes or 1 to 64 lines.
+**   - SCI_NO_MEMORY */
 sci_status sci_logs_open(sci_logs *logs, uint8_t nodes, uint8_t lines);
 
 /** Lets the logs go, and leaves the object empty: all zero. An empty object stays empty.
 **
-**   SCI_OK
-**   SCI_MISUSE      The object keeps something else. */
+**   - SCI_OK
+**   - SCI_MISUSE      The object keeps something else. */
 sci_status sci_logs_close(sci_logs *logs);
 
 /** Ends the log of the entry's node with the entry (Logs::push).
 **
-**   SCI_OK
-**   SCI_RANGE       The logs have no such node or line, the word is above 7, act is outside its table, or has_word is not 0 for
-**                   a store and 1 for any other operation.
-**   SCI_FULL        The entry is in range, and the node's log has 65,536 entries.
-**   SCI_NO_MEMORY
-**   SCI_MISUSE      The object keeps no logs. */
+**   - SCI_OK
+**   - SCI_RANGE       The logs have no such node or line, the word is above 7, act is outside its table, or has_word is not 0 for
+**                     a store and 1 for any other operation.
+**   - SCI_FULL        The entry is in range, and the node's log has 65,536 entries.
+**   - SCI_NO_MEMORY
+**   - SCI_MISUSE      The object keeps no logs. */
 sci_status sci_logs_push(sci_logs *logs, const sci_entry *entry);
 
 /** Replaces the last contents of a line (Last::set).
 **
-**   SCI_OK
-**   SCI_RANGE       There is no such line.
-**   SCI_MISUSE      The object keeps no logs. */
+**   - SCI_OK
+**   - SCI_RANGE       There is no such line.
+**   - SCI_MISUSE      The object keeps no logs. */
 sci_status sci_logs_set_last(sci_logs *logs, uint8_t line, const sci_stamped *contents);
 
 /** Reads the last contents of a line (Last::get). The statuses are those of sci_logs_set_last. */
@@ -701,65 +715,65 @@ sci_status sci_logs_last(const sci_logs *logs, uint8_t line, sci_stamped *conten
 
 /** Gives how many nodes and lines there are.
 **
-**   SCI_OK
-**   SCI_MISUSE      The object keeps no logs. */
+**   - SCI_OK
+**   - SCI_MISUSE      The object keeps no logs. */
 sci_status sci_logs_size(const sci_logs *logs, uint8_t *nodes, uint8_t *lines);
 
 /** Counts the entries of a node (Logs::of).
 **
-**   SCI_OK
-**   SCI_RANGE       The node is 16 or more.
-**   SCI_MISUSE      The object keeps no logs. */
+**   - SCI_OK
+**   - SCI_RANGE       The node is 16 or more.
+**   - SCI_MISUSE      The object keeps no logs. */
 sci_status sci_logs_count(const sci_logs *logs, uint8_t node, size_t *count);
 
 /** Reads the entry at a place of a node's log, from 0. A word that it doesn't have, and operands that its act doesn't have, are
 ** 0 (Logs::of).
 **
-**   SCI_OK
-**   SCI_RANGE       The node is 16 or more, or its log has no such place.
-**   SCI_MISUSE      The object keeps no logs. */
+**   - SCI_OK
+**   - SCI_RANGE       The node is 16 or more, or its log has no such place.
+**   - SCI_MISUSE      The object keeps no logs. */
 sci_status sci_logs_entry(const sci_logs *logs, uint8_t node, size_t place, sci_entry *entry);
 
 /** Audits the logs. kind is SCI_LAWFUL exactly if on each line one memory of one thread explains the logs and the last
 ** contents. Else the verdict is the first fault of the lowest line that has one (sci_history::audit).
 **
-**   SCI_OK
-**   SCI_NO_MEMORY
-**   SCI_MISUSE      The object keeps no logs. */
+**   - SCI_OK
+**   - SCI_NO_MEMORY
+**   - SCI_MISUSE      The object keeps no logs. */
 sci_status sci_logs_audit(const sci_logs *logs, sci_verdict *verdict);
 
 /** Looks for one order of all entries that keeps the order of each node's log and that one memory of one thread explains, and
 ** writes it over the first entries, or a cycle of entries, each of which would have to come after the next, and the last after
 ** the first. used is how many they are: all entries, or at most 32 (sci_history::sequential_order).
 **
-**   SCI_OK          kind, entries and used are written. used is 0 for SCI_UNLAWFUL.
-**   SCI_FULL        There is room for less. used says for how many; kind and entries are as they were.
-**   SCI_NO_MEMORY
-**   SCI_MISUSE      The object keeps no logs. */
+**   - SCI_OK          kind, entries and used are written. used is 0 for SCI_UNLAWFUL.
+**   - SCI_FULL        There is room for less. used says for how many; kind and entries are as they were.
+**   - SCI_NO_MEMORY
+**   - SCI_MISUSE      The object keeps no logs. */
 sci_status sci_logs_order(const sci_logs *logs, uint32_t *kind, sci_entry *entries, size_t room, size_t *used);
 
 /** Gives the kind alone that sci_logs_order would find, which needs no room (sci_history::sequential_order).
 **
-**   SCI_OK
-**   SCI_NO_MEMORY
-**   SCI_MISUSE      The object keeps no logs. */
+**   - SCI_OK
+**   - SCI_NO_MEMORY
+**   - SCI_MISUSE      The object keeps no logs. */
 sci_status sci_logs_order_kind(const sci_logs *logs, uint32_t *kind);
 
 /** Puts the logs whose text the bytes are into an empty object (sci_text::logs_of).
 **
-**   SCI_OK          The object keeps the logs, until sci_logs_close. fault is as it was.
-**   SCI_TEXT        The text is no log: fault is written, and the object stays empty.
-**   SCI_MISUSE      The object isn't empty.
-**   SCI_NO_MEMORY */
+**   - SCI_OK          The object keeps the logs, until sci_logs_close. fault is as it was.
+**   - SCI_TEXT        The text is no log: fault is written, and the object stays empty.
+**   - SCI_MISUSE      The object isn't empty.
+**   - SCI_NO_MEMORY */
 sci_status sci_logs_read(sci_logs *logs, const uint8_t *text, size_t length, sci_text_fault *fault);
 
 /** Writes the text of the logs over the first bytes, and how many. The bytes after it stay, and no zero ends the text
 ** (sci_text::logs_text).
 **
-**   SCI_OK          text and used are written.
-**   SCI_FULL        The text is longer than room. used says how long; text is as it was.
-**   SCI_NO_MEMORY
-**   SCI_MISUSE      The object keeps no logs. */
+**   - SCI_OK          text and used are written.
+**   - SCI_FULL        The text is longer than room. used says how long; text is as it was.
+**   - SCI_NO_MEMORY
+**   - SCI_MISUSE      The object keeps no logs. */
 sci_status sci_logs_write(const sci_logs *logs, uint8_t *text, size_t room, size_t *used);
 
 #ifdef __cplusplus

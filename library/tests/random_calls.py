@@ -14,13 +14,10 @@ import subprocess
 import sys
 from collections import deque
 
-EXAMPLES = os.path.join(os.path.dirname(os.path.abspath(__file__)), "..", "..", "examples")
-sys.path.insert(0, os.path.join(EXAMPLES, "c"))
-import sci  # noqa: E402
+from lichenknit import Act, BadText, Event, EventKind, Lane, Logs, Machine, Node, NotEnabled, Op, OrderKind, Packet, Status, packets
 
-ACTS = ("load", "store", "mask-swap", "compare-swap", "fetch-add", "bounded-add", "wrap-add")
+EXAMPLES = os.path.join(os.path.dirname(os.path.abspath(__file__)), "..", "..", "examples")
 ASKS = ("mread", "fread", "cread", "claim", "clear", "purge", "roll", "wback", "setback")
-FAULTS = {"syntax": 1, "range": 2, "too-many": 3}
 
 
 class Tally:
@@ -46,49 +43,47 @@ class Tally:
 
 def operation(op):
     """The text of an operation."""
-    operands = {"load": [], "store": [op.datum], "fetch-add": [op.datum]}.get(ACTS[op.act], [op.arg, op.datum])
-    return " ".join(str(part) for part in [ACTS[op.act], op.line, op.word, *operands])
+    operands = {Act.LOAD: [], Act.STORE: [op.datum], Act.FETCH_ADD: [op.datum]}.get(op.act, [op.arg, op.datum])
+    return " ".join(str(part) for part in [Act(op.act), op.line, op.word, *operands])
 
 
 def line_of(event):
     """The line of a schedule that says an event."""
     return {
-        sci.ISSUE: lambda: f"issue {event.node} {operation(event.op)}",
-        sci.PERFORM: lambda: f"perform {event.node} {event.line}",
-        sci.ASK: lambda: f"ask {event.node} {event.line} {ASKS[event.ask]}",
-        sci.SERVE: lambda: f"serve {event.from_} {event.node}",
-        sci.REFUSE: lambda: f"refuse {event.from_} {event.node}",
-        sci.REPLY: lambda: f"reply {event.node}",
-        sci.ACCEPT: lambda: f"accept {event.from_} {event.node}",
+        EventKind.ISSUE: lambda: f"issue {event.node} {operation(event.op)}",
+        EventKind.PERFORM: lambda: f"perform {event.node} {event.line}",
+        EventKind.ASK: lambda: f"ask {event.node} {event.line} {ASKS[event.asks]}",
+        EventKind.SERVE: lambda: f"serve {event.source} {event.node}",
+        EventKind.REFUSE: lambda: f"refuse {event.source} {event.node}",
+        EventKind.REPLY: lambda: f"reply {event.node}",
+        EventKind.ACCEPT: lambda: f"accept {event.source} {event.node}",
     }[event.kind]()
 
 
 def random_op(draw, lines):
-    return sci.Op(draw.randrange(7), draw.randrange(lines), draw.randrange(8), draw.randrange(256), draw.choice((0, 1, draw.getrandbits(64))),
-                  draw.choice((0, 1, draw.getrandbits(64))))
+    words = [draw.choice((0, 1, draw.getrandbits(64))) for _ in range(2)]
+    return Op(draw.randrange(7), draw.randrange(lines), draw.randrange(8), *words)
 
 
 def random_event(draw, nodes, lines):
     """An event, of which the fields that it doesn't have are random too."""
-    return sci.Event(draw.randrange(7), draw.randrange(nodes), draw.randrange(nodes), draw.randrange(lines), draw.randrange(9),
-                     random_op(draw, lines))
+    return Event(draw.randrange(7), draw.randrange(nodes), draw.randrange(nodes), draw.randrange(lines), draw.randrange(9), random_op(draw, lines))
 
 
 def verdict_line(verdict):
     """What `scimem audit` prints of a verdict, without the name of the fault."""
     if verdict:
         return b"lawful\n"
-    at = f" node {verdict.node} serial {verdict.serial}" if verdict.has_entry else ""
-    return f"fault {verdict.kind} line {verdict.line}{at}\n".encode()
+    at = f" node {verdict.node} serial {verdict.serial}" if verdict.node is not None else ""
+    return f"fault {int(verdict.kind)} line {verdict.line}{at}\n".encode()
 
 
 def judged(text):
     """What the library says of a text, in the words of `scimem audit`."""
     try:
-        return verdict_line(sci.Logs.read(text).audit())
-    except sci.BadText as error:
-        kind = next(name for name, number in FAULTS.items() if number == error.args[1])
-        return f"refused at line {error.args[0]}: {kind}\n".encode()
+        return verdict_line(Logs.read(text).audit())
+    except BadText as error:
+        return f"refused at line {error.line}: {error.kind}\n".encode()
 
 
 def printed(tally, text):
@@ -96,21 +91,26 @@ def printed(tally, text):
     return re.sub(rb"^(fault \d+) [a-z-]+", rb"\1", tally.ran("audit", text))
 
 
+def place_of(entry):
+    """Where an entry stands in the logs."""
+    return entry.node, entry.serial
+
+
 def entry_line(entry):
     """The line of a log that says an entry."""
-    reply = entry.word if entry.has_word else "-"
+    reply = "-" if entry.word is None else entry.word
     return f"{entry.node} {entry.serial} {operation(entry.op)} = {reply} @{entry.version}"
 
 
 def ordered(text):
     """What a look for one order finds, in the words of `sciview order --show`, but for a cycle's entries and an audit's fault."""
     try:
-        kind, entries = sci.Logs.read(text).order()
-    except sci.BadText:
+        kind, entries = Logs.read(text).order()
+    except BadText:
         return [b""]
-    if kind == sci.ORDER:
+    if kind == OrderKind.ORDER:
         return [b"sequentially consistent", *(entry_line(it).encode() for it in entries)]
-    return [b"not sequentially consistent"] if kind == sci.CYCLE else [b"fault"]
+    return [b"not sequentially consistent"] if kind == OrderKind.CYCLE else [b"fault"]
 
 
 def shown(tally, text):
@@ -136,27 +136,27 @@ def machine_run(tally, draw, calls):
     """A machine goes through random events, and so does the text program."""
     size = draw.randrange(1, 5), draw.randrange(1, 4), draw.randrange(1, 3)
     schedule = [f"machine {size[0]} {size[1]} {size[2]}"]
-    with sci.Machine(*size, 65536) as machine:
+    with Machine(*size, 65536) as machine:
         for _ in range(calls):
             event = random_event(draw, *size[:2])
             machine.try_step(event)
             schedule.append(line_of(event))
         logs = machine.logs()
-        text = logs.write()
+        text = logs.text().encode()
         tally.same(f"logs of a machine of {size}", text, tally.ran("replay", ("\n".join(schedule) + "\n").encode()))
         tally.same("verdict", verdict_line(logs.audit()), b"lawful\n")
         entries = list(logs)
-        copy = sci.Logs(size[0], size[1])
+        copy = Logs(size[0], size[1])
         for entry in entries:
             copy.push(entry)
         for line in range(size[1]):
             tally.same("last contents", machine.last(line), logs.last(line))
             copy.set_last(line, logs.last(line))
-        tally.same("logs that are pushed again", copy.write(), text)
+        tally.same("logs that are pushed again", copy.text().encode(), text)
         if tally.sciview:
             tally.same("the order of a log", ordered(text), shown(tally, text))
         kind, order = logs.order()
-        tally.same("an order", (kind, sorted(order, key=sci.Entry.values)), (sci.ORDER, sorted(entries, key=sci.Entry.values)))
+        tally.same("an order", (kind, sorted(order, key=place_of)), (OrderKind.ORDER, sorted(entries, key=place_of)))
         tally.same("the kind of order", logs.order_kind(), kind)
         for node in range(size[0]):
             tally.same("the order of a node", [it for it in order if it.node == node], list(logs.of(node)))
@@ -171,7 +171,7 @@ class Wires:
     """Controllers, and the packets between them on lanes of requests and of answers."""
 
     def __init__(self, size):
-        self.nodes = [sci.Node(n, *size, 65536) for n in range(size[0])]
+        self.nodes = [Node(n, *size, 65536) for n in range(size[0])]
         self.lanes = {(kind, a, b): deque() for kind in (0, 1) for a in range(size[0]) for b in range(size[0])}
         self.sent = []
 
@@ -180,9 +180,9 @@ class Wires:
         self.lanes[kind, packet[5], packet[1]].append(packet)
 
     def take(self, kind, event, how):
-        lane = self.lanes[kind, event.from_, event.node]
+        lane = self.lanes[kind, event.source, event.node]
         if not lane:
-            raise sci.NotEnabled()
+            raise NotEnabled("nothing has come", Status.NOT_ENABLED)
         how(lane[0])
         lane.popleft()
 
@@ -190,13 +190,13 @@ class Wires:
         """Makes an event by the calls of the nodes, or raises NotEnabled."""
         node = self.nodes[event.node]
         {
-            sci.ISSUE: lambda: node.issue(event.op),
-            sci.PERFORM: lambda: node.perform(event.line),
-            sci.ASK: lambda: self.send(0, node.ask(event.line, event.ask)),
-            sci.SERVE: lambda: self.take(0, event, node.serve),
-            sci.REFUSE: lambda: self.take(0, event, node.refuse),
-            sci.REPLY: lambda: self.send(1, node.take_answer()),
-            sci.ACCEPT: lambda: self.take(1, event, node.accept),
+            EventKind.ISSUE: lambda: node.issue(event.op),
+            EventKind.PERFORM: lambda: node.perform(event.line),
+            EventKind.ASK: lambda: self.send(0, node.ask(event.line, event.asks)),
+            EventKind.SERVE: lambda: self.take(0, event, node.serve),
+            EventKind.REFUSE: lambda: self.take(0, event, node.refuse),
+            EventKind.REPLY: lambda: self.send(1, node.take_answer()),
+            EventKind.ACCEPT: lambda: self.take(1, event, node.accept),
         }[event.kind]()
 
 
@@ -204,21 +204,21 @@ def wired_run(tally, draw, calls):
     """Nodes that are wired here go through the events of a machine, and the same ones are enabled."""
     size = draw.randrange(1, 5), draw.randrange(1, 4), draw.randrange(1, 3)
     wires, differ = Wires(size), 0
-    with sci.Machine(*size, 65536) as machine:
+    with Machine(*size, 65536) as machine:
         for _ in range(calls // 2):
             event = random_event(draw, *size[:2])
             before = len(wires.sent)
             try:
                 wires.make(event)
                 made = True
-            except sci.NotEnabled:
+            except NotEnabled:
                 made = False
             differ += made != (machine.obstacle(event) == 0)
             if made:
-                seen = machine.step_seen(event)
-                sent = [sci.decoded(packet)[0] for packet in wires.sent[before:]]
+                seen = machine.step(event)
+                sent = list(packets(b"".join(wires.sent[before:])))
                 differ += bool(sent) and [seen.packet] != sent
-                differ += seen.has_entry != (event.kind == sci.PERFORM)
+                differ += (seen.entry is not None) != (event.kind == EventKind.PERFORM)
             else:
                 differ += machine.try_step(event)
         for node, line in ((node, line) for node in range(size[0]) for line in range(size[1])):
@@ -226,13 +226,13 @@ def wired_run(tally, draw, calls):
             differ += here.held(line) != machine.held(node, line) or here.home_state(line) != machine.home(node, line)
             differ += here.pending(line) != machine.pending(node, line)
         for (kind, source, target), lane in wires.lanes.items():
-            differ += machine.packets(kind, source, target) != [sci.decoded(packet)[0] for packet in lane]
+            differ += list(machine.packets(Lane(kind), source, target)) != list(packets(b"".join(lane)))
         copy = machine.clone()
-        tally.same("a copy", copy.logs().write(), machine.logs().write())
+        tally.same("a copy", copy.logs().text(), machine.logs().text())
     tally.same("events that are enabled, and what they do", differ, 0)
     data = b"".join(wires.sent)
     tally.same("packets", tally.ran("decode", data).count(b"\n"), len(wires.sent))
-    again = b"".join(sci.encoded(sci.decoded(packet)[0]) for packet in wires.sent)
+    again = b"".join(Packet.decode(packet)[0].encode() for packet in wires.sent)
     tally.same("packets that are encoded again", again, data)
 
 
@@ -243,8 +243,8 @@ def main():
         machine_run(tally, draw, calls // 20)
         wired_run(tally, draw, calls // 20)
     with open(os.path.join(EXAMPLES, "store-buffer.log"), "rb") as file:
-        kind, cycle = sci.Logs.read(file.read()).order()
-    tally.same("a cycle", (kind, [(it.node, it.serial) for it in cycle]), (sci.CYCLE, [(0, 0), (1, 1), (1, 0), (0, 1)]))
+        kind, cycle = Logs.read(file.read()).order()
+    tally.same("a cycle", (kind, [(it.node, it.serial) for it in cycle]), (OrderKind.CYCLE, [(0, 0), (1, 1), (1, 0), (0, 1)]))
     if not tally.sciview:
         print("sciview isn't built: the comparison of orders is left out")
     print(f"{tally.passed} passed, {tally.failed} failed")

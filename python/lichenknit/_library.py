@@ -4,6 +4,7 @@ from __future__ import annotations
 
 import ctypes
 import os
+from collections.abc import Sequence
 from functools import cache
 from operator import index
 from typing import Any
@@ -53,6 +54,13 @@ LIMITS = {it: 1 << (8 * ctypes.sizeof(it)) for it in (ctypes.c_uint8, ctypes.c_u
 def filled(struct: Any, *values: Any) -> Any:
     """A struct with these values, each of which has to fit its field."""
     return struct(*(fitting(f"{struct.__name__}.{field}", kind, it) for (field, kind), it in zip(struct._fields_, values)))
+
+
+def words_of(words: Sequence[int], count: int) -> Any:
+    """As many words, as C has them."""
+    if len(words) != count:
+        raise ValueError(f"{count} words are wanted, and not {len(words)}")
+    return (ctypes.c_uint64 * count)(*(fitting("word", ctypes.c_uint64, it) for it in words))
 
 
 def status_of(name: str, *arguments: Any) -> int:

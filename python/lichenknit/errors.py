@@ -40,7 +40,7 @@ class BadPacket(Error, ValueError):
 class BadText(Error, ValueError):
     """A text is no log: its first fault."""
 
-    def __init__(self, message: str, line: int, kind: TextKind) -> None:
+    def __init__(self, message: str, line: int = 0, kind: TextKind = TextKind.SYNTAX) -> None:
         super().__init__(message, Status.TEXT)
         self.line = line
         self.kind = kind

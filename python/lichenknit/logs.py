@@ -75,7 +75,7 @@ class Logs(Owner):
         status = logs._status("read", data, len(data), fault)
         if status == Status.TEXT:
             kind = TextKind(fault.kind)
-            raise BadText(f"sci_logs_read: {Status.TEXT}: the text is no log: line {fault.line}: {kind}", fault.line, kind)
+            raise BadText(f"{failed('sci_logs_read', status)}: line {fault.line}: {kind}", fault.line, kind)
         if status:
             raise failed("sci_logs_read", status)
         return logs
@@ -118,7 +118,7 @@ class Logs(Owner):
         """Replaces the last contents of a line."""
         self._call("set_last", line, contents._as_c())
 
-    def __getitem__(self, node: int) -> Log:
+    def of(self, node: int) -> Log:
         """The log of a node."""
         nodes, _ = self.size
         if not 0 <= node < nodes:
@@ -143,7 +143,7 @@ class Logs(Owner):
 
     def order(self) -> Order:
         """One order of all entries that keeps each node's log and that one memory explains, or a cycle that shows that none does."""
-        room, kind, used = max(LONGEST_CYCLE, len(self)), c_uint32(), c_size_t()
+        kind, used, room = c_uint32(), c_size_t(), max(LONGEST_CYCLE, len(self))
         entries = (_native.sci_entry * room)()
         self._call("order", byref(kind), entries, room, byref(used))
         return Order(OrderKind(kind.value), tuple(Entry._of(it) for it in entries[: used.value]))

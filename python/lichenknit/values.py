@@ -3,12 +3,12 @@
 from __future__ import annotations
 
 from collections.abc import Iterator, Sequence
-from ctypes import byref, c_size_t, c_uint64
+from ctypes import byref, c_size_t
 from typing import NamedTuple
 
 from . import _native
-from ._library import call, filled
-from .numbers import LINE_WORDS, NO_NODE, Act, AskKind, Command, Decision, EventKind, HomeState, OrderKind, State, VerdictKind, WantKind
+from ._library import call, filled, words_of
+from .numbers import LINE_WORDS, NO_NODE, PACKET_BYTES, Act, AskKind, Command, EventKind, HomeState, OrderKind, State, VerdictKind, WantKind
 
 __all__ = ["Contents", "Entry", "Event", "Held", "Home", "Op", "Order", "Packet", "Seen", "Verdict", "Want", "packets"]
 
@@ -123,18 +123,11 @@ class Contents(NamedTuple):
     words: tuple[int, ...]
 
     def _as_c(self) -> _native.sci_stamped:
-        return filled(_native.sci_stamped, self.version, words_of(self.words))
+        return filled(_native.sci_stamped, self.version, words_of(self.words, LINE_WORDS))
 
     @classmethod
     def _of(cls, it: _native.sci_stamped | _native.sci_packet) -> Contents:
         return cls(it.version, tuple(it.words))
-
-
-def words_of(words: Sequence[int]) -> object:
-    """The words of a line, as C has them."""
-    if len(words) != LINE_WORDS:
-        raise ValueError(f"a line has {LINE_WORDS} words, and not {len(words)}")
-    return (c_uint64 * LINE_WORDS)(*words)
 
 
 class Packet(NamedTuple):
@@ -170,7 +163,7 @@ class Packet(NamedTuple):
     def from_words(cls, words: Sequence[int]) -> tuple[Packet, int]:
         """The packet that the words begin with, and how many words it has."""
         packet, used = _native.sci_packet(), c_size_t()
-        call("sci_packet_from_words", (c_uint64 * len(words))(*words), len(words), packet, byref(used))
+        call("sci_packet_from_words", words_of(words, len(words)), len(words), packet, byref(used))
         return cls._of(packet), used.value
 
     def to_words(self) -> tuple[int, ...]:
@@ -182,7 +175,7 @@ class Packet(NamedTuple):
     def _as_c(self) -> _native.sci_packet:
         version, words = self.contents or (0, (0,) * LINE_WORDS)
         return filled(_native.sci_packet, self.target, self.command, self.source, self.control, self.line, self.identifier,
-                      int(self.contents is not None), 0, version, words_of(words))
+                      int(self.contents is not None), 0, version, words_of(words, LINE_WORDS))
 
     @classmethod
     def _of(cls, it: _native.sci_packet) -> Packet:
@@ -194,7 +187,7 @@ def packets(data: bytes) -> Iterator[Packet]:
     """The packets that stand one after another in bytes. What is no packet is raised as BadPacket."""
     place = 0
     while place < len(data):
-        packet, used = Packet.decode(data[place : place + 88])
+        packet, used = Packet.decode(data[place : place + PACKET_BYTES])
         yield packet
         place += used
 

@@ -5,7 +5,7 @@
 - each name that a page about code has between backticks stands in the sources, and each file that it names is there. In the
   README of a crate, and below a heading that names crates, a file is in these crates or in those that the paragraph names, and
   a name is in these or in those that they stand on;
-- each run of lines of Rust in a page stands in the sources, one line after another, whatever the indentation; a line `..`
+- each run of lines of code in a page stands in the sources, one line after another, whatever the indentation; a line `..`
   stands for lines that are left out;
 - each crate has a README of at most 60 lines;
 - no line of a definition or a proof is longer than 160 columns;
@@ -28,6 +28,8 @@ BUILT = {".git", "out", "target", "__pycache__"}
 # The pages about code, beside those of crates, and names in them that aren't of this code but of the standard library.
 ABOUT_CODE = {"docs/PROOFS.md", "docs/DECISIONS.md", "docs/EMBEDDING.md"}
 OTHER = {"Mutex", "Read", "Write", "for_each_mut"}
+# Where the code of a page stands, by the language of its block.
+CODE = {"rust": (".rt", ".rs"), "c": (".c",), "cpp": (".cpp",), "python": (".py",), "systemverilog": (".sv",), "cmake": ("CMakeLists.txt",)}
 
 
 def files_of_repository():
@@ -61,12 +63,19 @@ def wrong_links(path):
             yield f"no such heading: {link}"
 
 
-def wrong_code(path, sources):
-    """Lines of Rust in a page that stand nowhere in the sources."""
-    for block in re.findall(r"^```rust\n(.*?)^```", read(path), re.MULTILINE | re.DOTALL):
-        for part in re.split(r"^\s*\.\.\n", block, flags=re.MULTILINE):
+def code_of(files):
+    """All lines of code of each language, without indentation and without empty ones."""
+    for language, ends in CODE.items():
+        lines = [it.strip() for path in files if path.endswith(ends) for it in read(path).splitlines()]
+        yield language, "\n" + "\n".join(it for it in lines if it) + "\n"
+
+
+def wrong_code(path, code):
+    """Lines of code in a page that stand nowhere in the sources."""
+    for language, block in re.findall(r"^```(\w+)\n(.*?)^```", read(path), re.MULTILINE | re.DOTALL):
+        for part in re.split(r"^\s*\.\.\n", block, flags=re.MULTILINE) if language in code else []:
             lines = [it.strip() for it in part.splitlines() if it.strip()]
-            if "\n" + "\n".join(lines) + "\n" not in sources:
+            if "\n" + "\n".join(lines) + "\n" not in code[language]:
                 yield f"no such code: {lines[0]}"
 
 
@@ -145,13 +154,12 @@ def wrong_edit(path):
 
 def main():
     files = list(files_of_repository())
-    sources = "\n" + "\n".join(it.strip() for path in files if path.endswith(".rt") for it in read(path).splitlines()) + "\n"
-    crates = Sources(files)
+    code, crates = dict(code_of(files)), Sources(files)
     wrong = {"version": list(wrong_versions())}
     wrong["width"] = [f"{path}: {it}" for path in files if path.endswith(".antt") for it in wide_lines(path)]
     wrong["edits"] = [f"{path}: {it}" for path in files if path.endswith(".edit") for it in wrong_edit(path)]
     for path in (it for it in files if it.endswith(".md")):
-        wrong[path] = [*wrong_links(path), *wrong_code(path, sources)]
+        wrong[path] = [*wrong_links(path), *wrong_code(path, code)]
         if path.startswith("crates/") or path in ABOUT_CODE:
             wrong[path] += wrong_names(path, crates)
         if path.startswith("crates/") and read(path).count("\n") > MOST_LINES:

@@ -1,7 +1,8 @@
 #!/usr/bin/env python3
 """The gate. First the pages are checked, and their table of definitions. Then rt ci proves every crate and its tests, tries
 the must-fail edits, and runs the tests. The programs that it built run on the stored cases, on the examples and for charts.
-The C library is built over the libraries that it built, and tried. Then programs and tests run with memory, reads and writes
+The C library is built over the libraries that it built, and tried, and so is what stands on it: Python, Rust, and simulators if there
+are any. Then programs and tests run with memory, reads and writes
 refused. At the end stands how long each stage took; the last line is 'N passed, M failed', of all stages."""
 
 import os
@@ -16,6 +17,7 @@ from collections import namedtuple
 TOP = os.path.dirname(os.path.dirname(os.path.dirname(os.path.abspath(__file__))))
 STAGES = {
     "pages": ["scripts/gate/check_pages.py"],
+    "signatures": ["scripts/gate/check_signatures.py"],
     "statements": ["scripts/gate/statement.py", "--check"],
     "proofs, edits and tests": ["rt", "ci"],
     "stored cases": ["scripts/gate/run_cases.py"],
@@ -23,6 +25,8 @@ STAGES = {
     "charts": ["scripts/gate/check_charts.py"],
     "the C library, built": ["scripts/gate/build_library.py"],
     "the C library": ["scripts/gate/check_library.py"],
+    "Python and Rust": ["scripts/gate/check_bindings.py"],
+    "simulators": ["scripts/gate/check_cosim.py"],
     "refusals": ["scripts/gate/try_faults.py"],
 }
 

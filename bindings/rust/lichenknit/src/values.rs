@@ -1,5 +1,7 @@
 //! Operations, events, entries of logs, and what calls answer.
 
+use std::fmt;
+
 use lichenknit_sys as sys;
 
 use crate::kinds::{AskKind, HomeState, State, VerdictKind};
@@ -271,6 +273,19 @@ impl Verdict {
     pub(crate) fn of(raw: &sys::sci_verdict) -> Option<Self> {
         let entry = (raw.has_entry != 0).then_some((raw.node, raw.serial));
         VerdictKind::of(raw.kind).map(|kind| Verdict { kind, line: raw.line, entry })
+    }
+}
+
+impl fmt::Display for Verdict {
+    fn fmt(&self, f: &mut fmt::Formatter<'_>) -> fmt::Result {
+        write!(f, "{}", self.kind)?;
+        if !self.is_lawful() {
+            write!(f, " line {}", self.line)?;
+        }
+        match self.entry {
+            Some((node, serial)) => write!(f, " node {node} serial {serial}"),
+            None => Ok(()),
+        }
     }
 }
 

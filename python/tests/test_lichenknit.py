@@ -1,0 +1,255 @@
+"""Tests of the package, over the library of $LICHENKNIT_LIBRARY."""
+
+import gc
+import os
+import random
+import threading
+import unittest
+
+import lichenknit
+from lichenknit import (Act, AskKind, BadPacket, BadText, Command, Contents, Decision, Entry, Event, HomeState, Lane, Logs, Machine, Misuse, NoMemory, Node,
+                        NotEnabled, Obstacle, Op, OrderKind, OutOfRange, Packet, State, Status, TextKind, VerdictKind, WantKind, packets)
+
+LOG = "log 2 2 1\nlast 0 @1 7 0 0 0 0 0 0 0\n0 0 store 0 0 7 = - @1\n1 0 load 0 0 = 7 @1\n"
+EXAMPLES = os.path.join(os.path.dirname(os.path.abspath(__file__)), "..", "..", "examples")
+STORE = Op.store(line=0, word=3, datum=42)
+
+
+def example(name):
+    with open(os.path.join(EXAMPLES, name), encoding="utf-8") as file:
+        return file.read()
+
+
+def stored():
+    """A machine in which node 1 has stored to line 0, whose home is at node 0."""
+    machine = Machine(2, 4, 2, 16)
+    for event in (Event.issue(1, STORE), Event.ask(1, 0, AskKind.MREAD), Event.serve(1, 0), Event.reply(0), Event.accept(0, 1), Event.perform(1, 0)):
+        machine.step(event)
+    return machine
+
+
+class Values(unittest.TestCase):
+    def test_names_are_those_of_the_library(self):
+        library = lichenknit.library
+        self.assertEqual(lichenknit.library_version(), tuple(int(it) for it in lichenknit.__version__.split(".")[:2]))
+        names = {"status": Status, "command": Command, "state": State, "home_state": HomeState, "obstacle": Obstacle, "verdict": VerdictKind}
+        for what, numbers in names.items():
+            for it in numbers:
+                self.assertEqual(getattr(library(), f"sci_{what}_name")(it).decode(), str(it))
+
+    def test_enums_print_their_names(self):
+        self.assertEqual(f"{State.FRESH_HEAD} {HomeState.GONE} {Command.MREAD} {Obstacle.NO_SLOT} {Status.RANGE}", "FreshHead GONE mread no-slot SCI_RANGE")
+
+    def test_operations_have_their_operands(self):
+        self.assertEqual(Op.compare_swap(1, 2, expected=3, datum=4), Op(Act.COMPARE_SWAP, 1, 2, 3, 4))
+        self.assertEqual(len({Op.load(0, 0), Op.load(0, 0), Op.store(0, 0, 1)}), 2)
+
+
+class Refusals(unittest.TestCase):
+    def assert_refused(self, kind, words, call, *arguments):
+        with self.assertRaises(kind) as caught:
+            call(*arguments)
+        self.assertIn(words, str(caught.exception))
+        return caught.exception
+
+    def test_numbers_out_of_range_are_refused_with_the_status(self):
+        words = "sci_machine_open: SCI_RANGE: a number is outside its limits"
+        self.assertEqual(self.assert_refused(OutOfRange, words, Machine, 17, 1, 1, 1).status, Status.RANGE)
+        for size in ((258, 1, 1, 1), (-1, 1, 1, 1), (1, 1, 1, 1 << 32)):
+            self.assert_refused(ValueError, words, Machine, *size)
+        machine = stored()
+        self.assert_refused(OutOfRange, "sci_op.line: SCI_RANGE", machine.step, Event.issue(0, Op.load(256, 0)))
+        self.assert_refused(OutOfRange, "sci_op.datum: SCI_RANGE", machine.step, Event.issue(0, Op.store(0, 0, 1 << 64)))
+        self.assert_refused(OutOfRange, "SCI_RANGE", machine.held, 2, 0)
+        self.assert_refused(OutOfRange, "SCI_RANGE", machine.step, Event(9, 0))
+        self.assert_refused(OutOfRange, "SCI_RANGE", Logs(1, 1).set_last, 0, Contents(0, (1 << 64,) * 8))
+        self.assert_refused(ValueError, "8 words are wanted, and not 3", Logs(1, 1).set_last, 0, Contents(0, (1, 2, 3)))
+
+    def test_other_types_are_refused(self):
+        for size in (("2", 1, 1, 1), (1.5, 1, 1, 1), (None, 1, 1, 1)):
+            self.assertRaises(TypeError, Machine, *size)
+        self.assertRaises(TypeError, Machine)
+        self.assertRaises(TypeError, Node(0, 1, 1, 1, 1).issue, Op("load", 0, 0))
+
+    def test_what_is_not_enabled_changes_nothing(self):
+        machine = stored()
+        before = machine.logs().text()
+        self.assert_refused(NotEnabled, "sci_machine_step_seen: SCI_NOT_ENABLED: not enabled, or not there", machine.step, Event.perform(1, 0))
+        self.assertFalse(machine.try_step(Event.perform(1, 0)))
+        self.assertEqual(machine.obstacle(Event.perform(1, 0)), Obstacle.NOTHING_PENDING)
+        self.assertEqual(machine.logs().text(), before)
+
+    def test_what_is_closed_is_refused(self):
+        with stored() as machine:
+            self.assertEqual(machine.last(0).words[3], 42)
+        machine.close()
+        for call in (machine.settle, machine.clone, machine.logs, lambda: machine.try_step(Event.reply(0)), lambda: next(machine.packets(Lane.ANSWERS, 0, 0))):
+            self.assert_refused(Misuse, "SCI_MISUSE: the object is empty", call)
+        logs = Logs.read(LOG)
+        entries = iter(logs)
+        next(entries)
+        logs.close()
+        self.assert_refused(Misuse, "SCI_MISUSE", lambda: list(entries))
+
+    def test_memory_errors_are_those_of_python(self):
+        self.assertTrue(issubclass(NoMemory, MemoryError))
+
+
+class Machines(unittest.TestCase):
+    def test_steps_say_what_they_did(self):
+        machine = Machine(2, 4, 2, 16)
+        self.assertEqual(machine.step(Event.issue(1, STORE)), (None, None))
+        self.assertEqual(machine.pending(1, 0), (STORE, 0))
+        asked = machine.step(Event.ask(1, 0, AskKind.MREAD)).packet
+        self.assertEqual((asked.command, asked.source, asked.target, asked.is_request), (Command.MREAD, 1, 0, True))
+        self.assertEqual(list(machine.packets(Lane.REQUESTS, 1, 0)), [asked])
+        self.assertEqual(list(machine.packets(Lane.ANSWERS, 0, 1)), [])
+        self.assertTrue(machine.held(1, 0).waits)
+        machine.step(Event.serve(1, 0))
+        self.assertEqual(machine.answer(0).command, Command.MDATA)
+        self.assertIsNone(machine.answer(1))
+
+    def test_states_are_seen(self):
+        machine = stored()
+        held = machine.held(1, 0)
+        self.assertEqual((held.state, held.contents.words[3], held.forward), (State.HEAD, 42, None))
+        self.assertEqual(machine.home(0, 0), (HomeState.GONE, 1, None))
+        self.assertIsNone(machine.home(1, 0))
+        self.assertEqual((machine.sharing(0), machine.authority(0), machine.authority(1)), ([1], 1, None))
+
+    def test_a_machine_comes_to_rest(self):
+        machine = stored()
+        machine.step(Event.issue(0, Op.load(0, 3)))
+        self.assertGreater(machine.settle(), 0)
+        self.assertEqual([(it.node, it.op, it.word, it.version) for it in machine.logs()], [(0, Op.load(0, 3), 42, 1), (1, STORE, None, 1)])
+        self.assertTrue(machine.logs().audit())
+
+    def test_copies_share_nothing(self):
+        machine = stored()
+        copy = machine.clone()
+        self.assertTrue(copy.try_step(Event.issue(0, STORE)))
+        self.assertEqual((machine.pending(0, 0), copy.pending(0, 0)), (None, (STORE, 0)))
+
+
+class Nodes(unittest.TestCase):
+    def test_requests_go_out_and_answers_come_back(self):
+        home, node = Node(0, 2, 4, 2, 16), Node(1, 2, 4, 2, 16)
+        self.assertEqual(node.issue(STORE), 0)
+        self.assertRaises(NotEnabled, node.issue, STORE)
+        want = node.next()
+        self.assertEqual((want.kind, want.line, want.asks), (WantKind.ASK, 0, AskKind.MREAD))
+        request = node.ask(0, AskKind.MREAD)
+        self.assertEqual((request[1], len(request), node.held(0).waits), (0, 16, True))
+        self.assertEqual(home.decide(request), Decision.TO_SERVE)
+        self.assertRaises(BadPacket, home.serve, request[:15])
+        self.assertRaises(OutOfRange, node.serve, request)
+        self.assertIsNone(home.take_answer())
+        home.serve(request)
+        self.assertEqual((home.answer().command, home.home_state(0).state, home.first_sender()), (Command.MDATA, HomeState.GONE, 0))
+        node.accept(home.take_answer())
+        self.assertEqual([node.perform(it.line).version for it in node.wants() if it.kind == WantKind.PERFORM], [1])
+        self.assertEqual((home.home(0), home.home(2).version, node.home_state(0), node.pending(0)), (None, 0, None, None))
+        self.assertEqual((home.is_at_rest, node.is_at_rest), (True, False))
+
+    def test_packets_are_read_and_written(self):
+        node = Node(1, 2, 4, 2, 16)
+        node.issue(Op.load(0, 0))
+        data = node.ask(0, AskKind.FREAD)
+        packet, used = Packet.decode(data + b"beyond")
+        self.assertEqual((packet.command, used, packet.contents), (Command.FREAD, 16, None))
+        self.assertEqual((packet.encode(), Packet.from_words(packet.to_words())), (data, (packet, 2)))
+        self.assertEqual(list(packets(data + data)), [packet, packet])
+        full = packet._replace(command=Command.MDATA, contents=Contents(3, tuple(range(8))))
+        self.assertEqual((Packet.decode(full.encode()), len(full.to_words())), ((full, 88), 11))
+        for wrong, status in ((data[:15], Status.SHORT), (b"\0" * 16, Status.UNKNOWN_COMMAND), (data[:13] + b"\1" + data[14:], Status.BAD_OFFSET)):
+            with self.assertRaises(BadPacket) as caught:
+                Packet.decode(wrong)
+            self.assertEqual(caught.exception.status, status)
+        self.assertRaises(OutOfRange, packet._replace(line=1 << 42).encode)
+        self.assertRaises(BadPacket, packet._replace(command=0x55).encode)
+
+
+class Log(unittest.TestCase):
+    def test_texts_are_read_and_written(self):
+        logs = Logs.read(LOG)
+        self.assertEqual((logs.text(), logs.size, len(logs), logs.last(0).words[0]), (LOG, (2, 1), 2, 7))
+        self.assertEqual(Logs.read(LOG.encode()).text(), LOG)
+        self.assertEqual((len(logs.of(1)), logs.of(1)[-1].word, logs.of(1)[:5], logs.of(0)[0].word), (1, 7, list(logs)[1:], None))
+        self.assertRaises(IndexError, logs.of, 2)
+        self.assertRaises(IndexError, logs.of(0).__getitem__, 1)
+
+    def test_what_is_no_log_is_refused_with_its_first_fault(self):
+        with self.assertRaises(BadText) as caught:
+            Logs.read(LOG.replace("load", "zero"))
+        self.assertEqual((caught.exception.line, caught.exception.kind), (4, TextKind.SYNTAX))
+        self.assertEqual(str(caught.exception), "sci_logs_read: SCI_TEXT: the text is no log: line 4: syntax")
+
+    def test_entries_are_pushed_and_judged(self):
+        logs, copy = Logs.read(LOG), Logs(2, 1)
+        copy.extend(logs)
+        copy.set_last(0, logs.last(0))
+        self.assertEqual(copy.text(), LOG)
+        copy.push(Entry(1, 1, Op.load(0, 0), 8, 1))
+        verdict = copy.audit()
+        self.assertFalse(verdict)
+        self.assertEqual((verdict, str(verdict)), ((VerdictKind.WRONG_REPLY, 0, 1, 1), "wrong-reply line 0 node 1 serial 1"))
+        self.assertEqual((copy.order(), copy.order_kind()), ((OrderKind.UNLAWFUL, ()), OrderKind.UNLAWFUL))
+        self.assertRaises(OutOfRange, copy.push, Entry(1, 2, Op.load(0, 0), None, 1))
+        self.assertEqual(str(Logs.read(example("last-differs.log")).audit()), "last-differs line 0")
+
+    def test_orders_and_cycles_are_found(self):
+        order = Logs.read(LOG).order()
+        self.assertTrue(order)
+        self.assertEqual([it.node for it in order.entries], [0, 1])
+        logs = Logs.read(example("store-buffer.log"))
+        self.assertEqual((logs.order().kind, logs.order_kind(), bool(logs.audit())), (OrderKind.CYCLE, OrderKind.CYCLE, True))
+        self.assertEqual([(it.node, it.serial) for it in logs.order().entries], [(0, 0), (1, 1), (1, 0), (0, 1)])
+
+
+def pages():
+    with open("/proc/self/statm", encoding="ascii") as file:
+        return int(file.read().split()[1])
+
+
+class ManyCalls(unittest.TestCase):
+    def test_a_hundred_thousand_calls_keep_nothing(self):
+        draw = random.Random(1)
+        machine = Machine(2, 2, 2, 65536)
+
+        def calls(count):
+            for _ in range(count):
+                machine.try_step(Event(draw.randrange(2, 7), draw.randrange(2), draw.randrange(2), draw.randrange(2), draw.randrange(9)))
+                machine.held(0, 0)
+            for _ in range(count // 50):
+                Logs.read(LOG).order()
+                machine.clone().close()
+            gc.collect()
+
+        calls(5000)
+        before = pages()
+        calls(50000)
+        self.assertLess(pages() - before, 256)
+
+    def test_threads_may_share_an_object(self):
+        machine, counts = Machine(4, 4, 2, 65536), []
+
+        def drive(node):
+            draw = random.Random(node)
+            made = 0
+            for _ in range(4000):
+                op = Op.fetch_add(draw.randrange(4), 0, 1)
+                event = Event(draw.randrange(7), draw.randrange(4), draw.randrange(4), op.line, draw.randrange(9), op)
+                made += machine.try_step(event) and event.kind == 1
+            counts.append(made)
+
+        threads = [threading.Thread(target=drive, args=(it,)) for it in range(4)]
+        for it in threads:
+            it.start()
+        for it in threads:
+            it.join()
+        logs = machine.logs()
+        self.assertEqual((len(counts), len(logs), bool(logs.audit())), (4, sum(counts), True))
+
+
+if __name__ == "__main__":
+    unittest.main()
