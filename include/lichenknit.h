@@ -606,8 +606,9 @@ sci_status sci_node_refuse(sci_node *node, const uint8_t *packet, size_t length)
 **   - SCI_MISUSE      The object keeps no node. */
 sci_status sci_node_accept(sci_node *node, const uint8_t *packet, size_t length);
 
-/** Counts a turn of the node. A turn is what a node does at one time: it sends the answer that waits, accepts the answers that have
-** come, looks at the requests that have come, and does what it wants. In one turn of 64 sci_node_decide keeps fewer requests
+/** Counts a turn of the node. A turn is what a node does at one time, in this order: it sends the answer that waits, accepts the answers
+** that have come, looks at the requests that have come, and does what it wants. In another order nodes can go on for ever without an
+** operation: a claim that was answered wbno is made again at once, and the cread that was kept has to be looked at in between. In one turn of 64 sci_node_decide keeps fewer requests
 ** (Policy::begin_turn).
 **
 **   - SCI_OK

@@ -48,10 +48,13 @@ static void answer(int n) {
     }
 }
 
-/* Node n takes a packet that has come, if its policy doesn't keep it for later. The commands of answers are 0x100 and more. */
+/* The commands of requests are below 0x100. */
+static int is_request(const struct sent *packet) { return packet->bytes[2] == 0; }
+
+/* Node n takes a packet that has come, if its policy doesn't keep it for later. */
 static int takes(int n, const struct sent *packet) {
     uint32_t decision = SCI_KEEP;
-    if (packet->bytes[2] != 0) {
+    if (!is_request(packet)) {
         expect("accept", sci_node_accept(&node[n], packet->bytes, packet->length));
         return 1;
     }
@@ -65,7 +68,19 @@ static int takes(int n, const struct sent *packet) {
     return decision != SCI_KEEP;
 }
 
-/* What node n does in a cycle. Gives how many operations it performed. */
+/* Node n takes the requests, or the answers, that have come. */
+static void take_all(int n, int requests) {
+    for (int i = 0; i < count[n];) {
+        if (way[n][i].comes <= now && is_request(&way[n][i]) == requests && takes(n, &way[n][i])) {
+            memmove(&way[n][i], &way[n][i + 1], (size_t)(--count[n] - i) * sizeof way[n][i]);
+        } else {
+            i++;
+        }
+    }
+}
+
+/* What node n does in a cycle. Answers come first: a claim that was refused is made again at once, and a request that waits for its
+** answer is looked at in between. Gives how many operations it performed. */
 static int cycle(int n) {
     uint8_t bytes[SCI_PACKET_BYTES];
     size_t length;
@@ -73,13 +88,8 @@ static int cycle(int n) {
     sci_want want;
     int performed = 0;
     expect("begin_turn", sci_node_begin_turn(&node[n]));
-    for (int i = 0; i < count[n];) {
-        if (way[n][i].comes <= now && takes(n, &way[n][i])) {
-            memmove(&way[n][i], &way[n][i + 1], (size_t)(--count[n] - i) * sizeof way[n][i]);
-        } else {
-            i++;
-        }
-    }
+    take_all(n, 0);
+    take_all(n, 1);
     while (sci_node_next(&node[n], &want) == SCI_OK && want.kind != SCI_WANT_NOTHING) {
         if (want.kind == SCI_WANT_PERFORM) {
             expect("perform", sci_node_perform(&node[n], want.line, &entry));

@@ -19,11 +19,8 @@ class Station:
             self.node.issue(op)
             self.issued += 1
 
-    def takes(self, packet):
-        """The packet is taken, if the policy doesn't keep it for later. An answer's command is 0x100 or more."""
-        if packet[2]:
-            self.node.accept(packet)
-            return True
+    def serves(self, packet):
+        """The request is served or refused, if the policy doesn't keep it for later."""
         decision = self.node.decide(packet)
         if decision == Decision.TO_SERVE:
             self.node.serve(packet)
@@ -32,21 +29,30 @@ class Station:
         return decision != Decision.KEEP
 
     def cycle(self, now, logs):
-        """What the node does in a cycle. Gives the packets that it sends."""
-        sent, kept = [], []
+        """What the node does in a cycle: it accepts answers, looks at requests, and does what it wants. Gives the packets that it sends. A
+        packet whose third byte isn't 0 is an answer."""
+        came, sent = [it for it in self.way if it[0] <= now], []
+        self.way = [it for it in self.way if it[0] > now]
         self.node.begin_turn()
-        for comes, packet in self.way:
-            if comes > now or not self.takes(packet):
-                kept.append((comes, packet))
-            elif answer := self.node.take_answer():
-                sent.append(answer)
-        self.way = kept
+        for _, packet in came:
+            if packet[2]:
+                self.node.accept(packet)
+        for comes, packet in came:
+            if not packet[2] and self.serves(packet):
+                sent.append(self.node.take_answer())
+            elif not packet[2]:
+                self.way.append((comes, packet))
         for want in self.node.wants():
             if want.kind == WantKind.PERFORM:
                 logs.push(self.node.perform(want.line))
             else:
                 sent.append(self.node.ask(want.line, want.asks))
         return sent
+
+
+def newest(stations, line):
+    """The newest contents of a line that a home or a cache has: the last ones, when all operations are performed."""
+    return max(it for station in stations for it in (station.node.home(line), station.node.held(line).contents) if it)
 
 
 def main():
@@ -58,7 +64,9 @@ def main():
                 stations[packet[1]].way.append((now + DELAY, packet))
                 packets += 1
         now += 1
-    print(f"{len(logs)} operations in {now} cycles and {packets} packets: {logs.order_kind()}")
+    for line in range(LINES):
+        logs.set_last(line, newest(stations, line))
+    print(f"{len(logs)} operations in {now} cycles and {packets} packets: {logs.audit()}, {logs.order_kind()}")
 
 
 if __name__ == "__main__":

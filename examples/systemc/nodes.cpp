@@ -92,8 +92,8 @@ class Station : public sc_core::sc_module {
     void turn() {
         must("begin_turn", sci_node_begin_turn(&node));
         issue();
-        for (auto it = came.begin(); it != came.end() && it->first <= sc_core::sc_time_stamp();)
-            it = takes(it->second) ? came.erase(it) : std::next(it);
+        take_all(false);
+        take_all(true);
         sci_want want;
         for (must("next", sci_node_next(&node, &want)); want.kind != SCI_WANT_NOTHING; must("next", sci_node_next(&node, &want))) act(want);
         next_trigger(1, SC_NS);
@@ -105,6 +105,13 @@ class Station : public sc_core::sc_module {
         const sci_op op = {acts[random.below(4)], static_cast<uint8_t>(random.below(size.lines)), static_cast<uint8_t>(random.below(8)), 0, 0, random.below(100)};
         uint32_t serial;
         if (sci_node_issue(&node, &op, &serial) == SCI_OK) issued++;
+    }
+
+    // Takes the requests, or the answers, that have come. Answers come first in a turn: a claim that was refused is made again at once, and a
+    // request that waits for its answer is looked at in between.
+    void take_all(bool requests) {
+        for (auto it = came.begin(); it != came.end() && it->first <= sc_core::sc_time_stamp();)
+            it = it->second.is_request() == requests && takes(it->second) ? came.erase(it) : std::next(it);
     }
 
     // Takes a packet, unless the policy keeps it for later.

@@ -2,7 +2,7 @@
 """Builds the C library (`make library`), of sources that rt ci has proved, and checks it:
 
 - the header compiles by itself as C11 and as C++17, without a warning;
-- the header declares the functions that the library has, no more and no less (nm), and each has the parameters of its export in
+- the header declares the functions that the library has, and no other global name is in it (nm), and each has the parameters of its export in
   crates/sci_c; the numbers of statuses and the fields of structs are those of crates/sci_c_values;
 - the numbers of states, obstacles, commands and kinds of requests are those of the crates, and so are their names in
   library/support.c;
@@ -180,7 +180,7 @@ def check_programs(tally, cc, room):
     cxx = next((it for it in (os.environ.get("CXX"), "c++", "g++", "clang++") if it and shutil.which(it)), None)
     tally.run("the header as C11", [cc, *C, *flags, "-fsyntax-only", "-x", "c", HEADER])
     made = [(cc, C, f"library/tests/{name}.c", [memory] if name == "memory" else []) for name in ("layout", "misuse", "memory")]
-    made += [(cc, C, f"examples/c/{name}.c", []) for name in ("two_nodes", "any_order", "lock_step")]
+    made += [(cc, C, f"examples/c/{name}.c", []) for name in ("first", "two_nodes", "any_order", "lock_step")]
     if cxx:
         tally.run("the header as C++17", [cxx, *CXX, *flags, "-fsyntax-only", "-x", "c++", HEADER])
         made += [(cxx, CXX, f"examples/c/{name}.cpp", []) for name in ("two_nodes", "machine")]

@@ -1,7 +1,5 @@
 //! Controllers, and packets that the test carries.
 
-use std::collections::VecDeque;
-
 use lichenknit::{
     Act, AskKind, Command, Decision, Error, Logs, Node, Op, Packet, PacketBytes, Packets, Size,
     Want,
@@ -14,12 +12,12 @@ const OPERATIONS: u32 = 200;
 struct Station {
     node: Node,
     issued: u32,
-    came: VecDeque<PacketBytes>,
+    came: Vec<PacketBytes>,
 }
 
 impl Station {
     fn new(me: u8) -> Self {
-        Station { node: Node::new(me, SIZE, OPERATIONS).unwrap(), issued: 0, came: VecDeque::new() }
+        Station { node: Node::new(me, SIZE, OPERATIONS).unwrap(), issued: 0, came: Vec::new() }
     }
 
     /// One turn of the node: it takes what has come, and does what it wants. What it performs goes to the logs.
@@ -33,14 +31,14 @@ impl Station {
         if self.node.issue(op).is_ok() {
             self.issued += 1;
         }
-        for _ in 0..self.came.len() {
-            let packet = self.came.pop_front().unwrap();
-            if !packet.is_request() {
-                self.node.accept(&packet).unwrap();
-                continue;
-            }
+        let (requests, answers): (Vec<_>, Vec<_>) =
+            self.came.drain(..).partition(|it| it.is_request());
+        for packet in answers {
+            self.node.accept(&packet).unwrap();
+        }
+        for packet in requests {
             match self.node.decide(&packet).unwrap() {
-                Decision::Keep => self.came.push_back(packet),
+                Decision::Keep => self.came.push(packet),
                 Decision::Refuse => self.node.refuse(&packet).unwrap(),
                 Decision::Serve => self.node.serve(&packet).unwrap(),
             }
@@ -63,14 +61,20 @@ fn nodes_do_all_their_operations() {
     for _ in 0..10_000 {
         stations.iter_mut().for_each(|it| it.turn(&mut logs, &mut sent));
         for packet in sent.drain(..) {
-            stations[usize::from(packet.target())].came.push_back(packet);
+            stations[usize::from(packet.target())].came.push(packet);
         }
         if logs.iter().count() == all {
             break;
         }
     }
     assert_eq!(logs.iter().count(), all);
-    assert!(logs.has_order().unwrap() || logs.audit().unwrap().entry.is_none());
+    for line in 0..SIZE.lines {
+        let held = stations
+            .iter()
+            .flat_map(|it| [it.node.home(line).unwrap(), it.node.held(line).unwrap().contents]);
+        logs.set_last(line, held.flatten().max_by_key(|it| it.version).unwrap()).unwrap();
+    }
+    assert!(logs.audit().unwrap().is_lawful() && logs.has_order().unwrap());
 }
 
 #[test]
