@@ -13,9 +13,6 @@ from .errors import BadText
 from .numbers import MAX_NODES, OrderKind, Status, TextKind
 from .values import Contents, Entry, Order, Verdict
 
-# A cycle has at most as many entries.
-LONGEST_CYCLE = 32
-
 
 class Log(Sequence[Entry]):
     """The log of one node: its entries in their order."""
@@ -143,7 +140,7 @@ class Logs(Owner):
 
     def order(self) -> Order:
         """One order of all entries that keeps each node's log and that one memory explains, or a cycle that shows that none does."""
-        kind, used, room = c_uint32(), c_size_t(), max(LONGEST_CYCLE, len(self))
+        kind, used, room = c_uint32(), c_size_t(), len(self)
         entries = (_native.sci_entry * room)()
         self._call("order", byref(kind), entries, room, byref(used))
         return Order(OrderKind(kind.value), tuple(Entry._of(it) for it in entries[: used.value]))

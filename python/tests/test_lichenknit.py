@@ -105,6 +105,9 @@ class Machines(unittest.TestCase):
         self.assertEqual(list(machine.packets(Lane.REQUESTS, 1, 0)), [asked])
         self.assertEqual(list(machine.packets(Lane.ANSWERS, 0, 1)), [])
         self.assertTrue(machine.held(1, 0).waits)
+        machine.step(Event.issue(1, Op.load(2, 0)))
+        machine.step(Event.ask(1, 2, AskKind.FREAD))
+        self.assertEqual([it.line for it in machine.packets(Lane.REQUESTS, 1, 0)], [0, 2])
         machine.step(Event.serve(1, 0))
         self.assertEqual(machine.answer(0).command, Command.MDATA)
         self.assertIsNone(machine.answer(1))
@@ -115,6 +118,7 @@ class Machines(unittest.TestCase):
         self.assertEqual((held.state, held.contents.words[3], held.forward), (State.HEAD, 42, None))
         self.assertEqual(machine.home(0, 0), (HomeState.GONE, 1, None))
         self.assertIsNone(machine.home(1, 0))
+        self.assertEqual((machine.home(1, 3).state, machine.home(0, 3), machine.home(0, 2).state), (HomeState.HOME, None, HomeState.HOME))
         self.assertEqual((machine.sharing(0), machine.authority(0), machine.authority(1)), ([1], 1, None))
 
     def test_a_machine_comes_to_rest(self):
@@ -123,6 +127,21 @@ class Machines(unittest.TestCase):
         self.assertGreater(machine.settle(), 0)
         self.assertEqual([(it.node, it.op, it.word, it.version) for it in machine.logs()], [(0, Op.load(0, 3), 42, 1), (1, STORE, None, 1)])
         self.assertTrue(machine.logs().audit())
+
+    def test_operations_do_what_they_say(self):
+        ops = (Op.store(0, 0, 12), Op.mask_swap(0, 0, mask=10, datum=6), Op.compare_swap(0, 0, expected=6, datum=20), Op.fetch_add(0, 0, 5),
+               Op.bounded_add(0, 0, bound=25, datum=1), Op.bounded_add(0, 0, bound=0, datum=1), Op.wrap_add(0, 0, bound=26, datum=3), Op.load(0, 0))
+        machine = Machine(1, 1, 1, 16)
+        for op in ops:
+            machine.step(Event.issue(0, op))
+            machine.settle()
+        self.assertEqual([(it.op, it.word) for it in machine.logs()], list(zip(ops, (None, 12, 6, 20, 25, 25, 26, 3))))
+
+    def test_requests_may_be_refused(self):
+        machine = Machine(2, 1, 1, 16)
+        for event in (Event.issue(1, Op.load(0, 0)), Event.ask(1, 0, AskKind.FREAD), Event.refuse(1, 0)):
+            machine.step(event)
+        self.assertEqual((machine.answer(0).command, machine.answer(0).target), (Command.BUSY, 1))
 
     def test_copies_share_nothing(self):
         machine = stored()
@@ -161,6 +180,7 @@ class Nodes(unittest.TestCase):
         self.assertEqual(list(packets(data + data)), [packet, packet])
         full = packet._replace(command=Command.MDATA, contents=Contents(3, tuple(range(8))))
         self.assertEqual((Packet.decode(full.encode()), len(full.to_words())), ((full, 88), 11))
+        self.assertEqual(list(packets(full.encode() + data + full.encode())), [full, packet, full])
         for wrong, status in ((data[:15], Status.SHORT), (b"\0" * 16, Status.UNKNOWN_COMMAND), (data[:13] + b"\1" + data[14:], Status.BAD_OFFSET)):
             with self.assertRaises(BadPacket) as caught:
                 Packet.decode(wrong)
@@ -202,6 +222,7 @@ class Log(unittest.TestCase):
         self.assertTrue(order)
         self.assertEqual([it.node for it in order.entries], [0, 1])
         logs = Logs.read(example("store-buffer.log"))
+        self.assertEqual(Logs(1, 1).order(), (OrderKind.ORDER, ()))
         self.assertEqual((logs.order().kind, logs.order_kind(), bool(logs.audit())), (OrderKind.CYCLE, OrderKind.CYCLE, True))
         self.assertEqual([(it.node, it.serial) for it in logs.order().entries], [(0, 0), (1, 1), (1, 0), (0, 1)])
 
@@ -229,6 +250,19 @@ class ManyCalls(unittest.TestCase):
         before = pages()
         calls(50000)
         self.assertLess(pages() - before, 256)
+
+    def test_a_call_waits_until_the_one_before_has_ended(self):
+        machine = stored()
+        calls = (lambda: machine.try_step(Event.reply(0)), lambda: machine.held(0, 0), lambda: machine.logs().text())
+        with machine._lock:
+            threads = [threading.Thread(target=it) for it in calls]
+            for it in threads:
+                it.start()
+                it.join(0.05)
+            self.assertTrue(all(it.is_alive() for it in threads))
+        for it in threads:
+            it.join(5)
+        self.assertFalse(any(it.is_alive() for it in threads))
 
     def test_threads_may_share_an_object(self):
         machine, counts = Machine(4, 4, 2, 65536), []

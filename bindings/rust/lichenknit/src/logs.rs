@@ -7,9 +7,6 @@ use crate::error::{Error, Result, TextFault};
 use crate::kinds::TextKind;
 use crate::values::{Contents, Entry, Order, Verdict};
 
-/// A cycle has at most as many entries.
-const LONGEST_CYCLE: usize = 32;
-
 /// The logs of all nodes, with the last contents of each line.
 #[derive(Debug)]
 pub struct Logs {
@@ -116,7 +113,7 @@ impl Logs {
 
     /// One order of all entries that keeps each node's log and that one memory explains, or a cycle that shows that none does.
     pub fn order(&self) -> Result<Order> {
-        let room = LONGEST_CYCLE.max(self.iter().count());
+        let room = self.iter().count();
         let (mut kind, mut entries, mut used) = (0, vec![sys::sci_entry::default(); room], 0);
         checked(unsafe {
             sys::sci_logs_order(&self.raw, &mut kind, entries.as_mut_ptr(), room, &mut used)

@@ -57,6 +57,7 @@ fn orders_and_cycles_are_found() {
     let Order::Order(entries) = logs.order().unwrap() else { panic!("there is an order") };
     assert_eq!(entries.iter().map(|it| it.node).collect::<Vec<_>>(), [0, 1]);
     assert!(logs.has_order().unwrap());
+    assert_eq!(Logs::new(1, 1).unwrap().order().unwrap(), Order::Order(Vec::new()));
     let buffered: Logs = STORE_BUFFER.parse().unwrap();
     assert!(buffered.audit().unwrap().is_lawful() && !buffered.has_order().unwrap());
     let Order::Cycle(entries) = buffered.order().unwrap() else { panic!("there is a cycle") };

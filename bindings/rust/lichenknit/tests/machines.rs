@@ -52,6 +52,9 @@ fn steps_say_what_they_did() {
     assert_eq!(machine.packets(Lane::Requests, 1, 0).collect::<Vec<_>>(), [asked]);
     assert_eq!(machine.packets(Lane::Answers, 0, 1).count(), 0);
     assert!(machine.held(1, 0).unwrap().waits);
+    machine.step(Event::Issue { node: 1, op: Op { line: 2, word: 0, act: Act::Load } }).unwrap();
+    machine.step(Event::Ask { node: 1, line: 2, kind: AskKind::Fread }).unwrap();
+    assert_eq!(machine.packets(Lane::Requests, 1, 0).map(|it| it.line).collect::<Vec<_>>(), [0, 2]);
     machine.step(Event::Serve { from: 1, node: 0 }).unwrap();
     assert_eq!(machine.answer(0).unwrap().unwrap().command, Command::Mdata);
     assert_eq!(machine.answer(1).unwrap(), None);
@@ -68,6 +71,10 @@ fn a_store_is_seen() {
     let home = machine.home(0, 0).unwrap().unwrap();
     assert_eq!((home.state, home.head, home.contents), (HomeState::Gone, Some(1), None));
     assert_eq!(machine.home(1, 0).unwrap(), None);
+    assert_eq!(
+        (machine.home(0, 3).unwrap(), machine.home(1, 3).unwrap().map(|it| it.state)),
+        (None, Some(HomeState::Home))
+    );
     assert_eq!(machine.sharing(0).unwrap(), [1]);
     assert_eq!(machine.authority(0).unwrap(), Some(1));
     assert_eq!(machine.authority(1).unwrap(), None);
@@ -91,6 +98,44 @@ fn what_is_not_enabled_changes_nothing() {
     assert!(!machine.try_step(event).unwrap());
     assert_eq!(machine.held(2, 0).unwrap_err(), Error::OutOfRange);
     assert_eq!(machine.logs().unwrap().iter().count(), 1);
+}
+
+#[test]
+fn operations_do_what_they_say() {
+    let acts = [
+        Act::Store(12),
+        Act::MaskSwap { mask: 10, datum: 6 },
+        Act::CompareSwap { expected: 6, datum: 20 },
+        Act::FetchAdd(5),
+        Act::BoundedAdd { bound: 25, datum: 1 },
+        Act::BoundedAdd { bound: 0, datum: 1 },
+        Act::WrapAdd { bound: 26, datum: 3 },
+        Act::Load,
+    ];
+    let mut machine = Machine::new(Size { nodes: 1, lines: 1, slots: 1 }, 16).unwrap();
+    for act in acts {
+        machine.step(Event::Issue { node: 0, op: Op { line: 0, word: 0, act } }).unwrap();
+        machine.settle().unwrap();
+    }
+    let logs = machine.logs().unwrap();
+    assert_eq!(logs.iter().map(|it| it.op.act).collect::<Vec<_>>(), acts);
+    let words = [None, Some(12), Some(6), Some(20), Some(25), Some(25), Some(26), Some(3)];
+    assert_eq!(logs.iter().map(|it| it.word).collect::<Vec<_>>(), words);
+}
+
+#[test]
+fn requests_may_be_refused() {
+    let mut machine = Machine::new(SIZE, 16).unwrap();
+    let load = Op { line: 0, word: 0, act: Act::Load };
+    for event in [
+        Event::Issue { node: 1, op: load },
+        Event::Ask { node: 1, line: 0, kind: AskKind::Fread },
+        Event::Refuse { from: 1, node: 0 },
+    ] {
+        machine.step(event).unwrap();
+    }
+    let answer = machine.answer(0).unwrap().unwrap();
+    assert_eq!((answer.command, answer.target), (Command::Busy, 1));
 }
 
 #[test]
