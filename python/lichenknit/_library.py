@@ -27,7 +27,7 @@ def library() -> ctypes.CDLL:
     """The library, which is opened when it is first needed."""
     try:
         return _native.opened(path())
-    except OSError as error:
+    except (OSError, AttributeError) as error:
         raise ImportError(f"{error}: set LICHENKNIT_LIBRARY to the path of {NAME}, or install it by make install-library") from error
 
 
@@ -41,32 +41,54 @@ def failed(name: str, status: int) -> Exception:
     return error_of(Status(status), f"{name}: {text('sci_status_name', status)}: {text('sci_status_text', status)}")
 
 
-def fitting(name: str, kind: Any, value: Any) -> Any:
-    """The value, if it is no number of a C type or fits it. ctypes would cut it off."""
-    if kind in LIMITS and not 0 <= index(value) < LIMITS[kind]:
-        raise OutOfRange(f"{name}: {text('sci_status_name', Status.RANGE)}: {text('sci_status_text', Status.RANGE)} ({value})", Status.RANGE)
-    return value
-
-
 LIMITS = {it: 1 << (8 * ctypes.sizeof(it)) for it in (ctypes.c_uint8, ctypes.c_uint16, ctypes.c_uint32, ctypes.c_uint64, ctypes.c_size_t)}
+
+
+def check_fits(what: str, limit: int, value: Any) -> None:
+    """Raises a number that is too great for its type. ctypes would cut it off."""
+    if not 0 <= index(value) < limit:
+        raise OutOfRange(f"{failed(what, Status.RANGE)} ({value})", Status.RANGE)
+
+
+@cache
+def limits_of(kinds: tuple[Any, ...]) -> tuple[tuple[int, int], ...]:
+    """The places of numbers among these types of C, and how great they may be."""
+    return tuple((place, LIMITS[kind]) for place, kind in enumerate(kinds) if kind in LIMITS)
+
+
+@cache
+def kinds_of(struct: Any) -> tuple[Any, ...]:
+    """The types of a struct's fields."""
+    return tuple(kind for _, kind in struct._fields_)
 
 
 def filled(struct: Any, *values: Any) -> Any:
     """A struct with these values, each of which has to fit its field."""
-    return struct(*(fitting(f"{struct.__name__}.{field}", kind, it) for (field, kind), it in zip(struct._fields_, values)))
+    for place, limit in limits_of(kinds_of(struct)):
+        if not 0 <= index(values[place]) < limit:
+            check_fits(f"{struct.__name__}.{struct._fields_[place][0]}", limit, values[place])
+    return struct(*values)
+
+
+def buffer(data: bytes) -> tuple[bytes, int]:
+    """Bytes and how many they are. What is only like bytes is copied."""
+    return (data if isinstance(data, bytes) else memoryview(data).tobytes()), len(data)
 
 
 def words_of(words: Sequence[int], count: int) -> Any:
     """As many words, as C has them."""
     if len(words) != count:
         raise ValueError(f"{count} words are wanted, and not {len(words)}")
-    return (ctypes.c_uint64 * count)(*(fitting("word", ctypes.c_uint64, it) for it in words))
+    for it in words:
+        check_fits("word", LIMITS[ctypes.c_uint64], it)
+    return (ctypes.c_uint64 * count)(*words)
 
 
 def status_of(name: str, *arguments: Any) -> int:
     """The status that a function answers."""
-    takes = _native.FUNCTIONS[name]
-    return getattr(library(), name)(*(fitting(name, kind, it) for kind, it in zip(takes, arguments, strict=True)))
+    for place, limit in limits_of(_native.FUNCTIONS[name]):
+        check_fits(name, limit, arguments[place])
+    return getattr(library(), name)(*arguments)
 
 
 def call(name: str, *arguments: Any) -> None:

@@ -7,7 +7,7 @@ from ctypes import byref, c_size_t, c_uint8, c_uint32
 from typing import overload
 
 from . import _native
-from ._library import failed
+from ._library import buffer, failed
 from ._owner import Owner
 from .errors import BadText
 from .numbers import MAX_NODES, OrderKind, Status, TextKind
@@ -68,8 +68,7 @@ class Logs(Owner):
     def read(cls, text: str | bytes) -> Logs:
         """The logs of a text, in the format of `scimem replay`. If it is no log, BadText has its first fault."""
         logs, fault = cls._empty(), _native.sci_text_fault()
-        data = text.encode() if isinstance(text, str) else text
-        status = logs._status("read", data, len(data), fault)
+        status = logs._status("read", *buffer(text.encode() if isinstance(text, str) else text), fault)
         if status == Status.TEXT:
             kind = TextKind(fault.kind)
             raise BadText(f"{failed('sci_logs_read', status)}: line {fault.line}: {kind}", fault.line, kind)

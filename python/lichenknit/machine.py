@@ -49,6 +49,9 @@ class Machine(Owner):
 
     __copy__ = clone
 
+    def __deepcopy__(self, memo: object) -> Machine:
+        return self.clone()
+
     def held(self, node: int, line: int) -> Held:
         """What the cache of a node has of a line."""
         held = _native.sci_held()

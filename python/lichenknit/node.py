@@ -7,6 +7,7 @@ from ctypes import byref, c_size_t, c_uint8, c_uint32
 from typing import Any
 
 from . import _native
+from ._library import buffer
 from ._owner import Owner
 from .numbers import AskKind, Decision, WantKind
 from .values import Contents, Entry, Held, Home, Op, Packet, Want
@@ -48,15 +49,15 @@ class Node(Owner):
 
     def serve(self, packet: bytes) -> None:
         """Serves a request: its answer waits then."""
-        self._call("serve", packet, len(packet))
+        self._call("serve", *buffer(packet))
 
     def refuse(self, packet: bytes) -> None:
         """Answers a request as busy: the answer waits then."""
-        self._call("refuse", packet, len(packet))
+        self._call("refuse", *buffer(packet))
 
     def accept(self, packet: bytes) -> None:
         """Accepts an answer."""
-        self._call("accept", packet, len(packet))
+        self._call("accept", *buffer(packet))
 
     def begin_turn(self) -> None:
         """Counts a turn of the node."""
@@ -76,7 +77,7 @@ class Node(Owner):
     def decide(self, packet: bytes) -> Decision:
         """What the node does with a request by its policy."""
         decision = c_uint32()
-        self._call("decide", packet, len(packet), byref(decision))
+        self._call("decide", *buffer(packet), byref(decision))
         return Decision(decision.value)
 
     def first_sender(self) -> int:

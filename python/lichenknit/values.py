@@ -7,7 +7,7 @@ from ctypes import byref, c_size_t
 from typing import NamedTuple
 
 from . import _native
-from ._library import call, filled, words_of
+from ._library import buffer, call, filled, words_of
 from .numbers import LINE_WORDS, NO_NODE, PACKET_BYTES, Act, AskKind, Command, EventKind, HomeState, OrderKind, State, VerdictKind, WantKind
 
 __all__ = ["Contents", "Entry", "Event", "Held", "Home", "Op", "Order", "Packet", "Seen", "Verdict", "Want", "packets"]
@@ -150,7 +150,7 @@ class Packet(NamedTuple):
     def decode(cls, data: bytes) -> tuple[Packet, int]:
         """The packet that the bytes begin with, and how many bytes it has."""
         packet, used = _native.sci_packet(), c_size_t()
-        call("sci_packet_decode", data, len(data), packet, byref(used))
+        call("sci_packet_decode", *buffer(data), packet, byref(used))
         return cls._of(packet), used.value
 
     def encode(self) -> bytes:

@@ -5,6 +5,7 @@ import os
 import random
 import threading
 import unittest
+from copy import deepcopy
 
 import lichenknit
 from lichenknit import (Act, AskKind, BadPacket, BadText, Command, Contents, Decision, Entry, Event, HomeState, Lane, Logs, Machine, Misuse, NoMemory, Node,
@@ -69,7 +70,11 @@ class Refusals(unittest.TestCase):
         for size in (("2", 1, 1, 1), (1.5, 1, 1, 1), (None, 1, 1, 1)):
             self.assertRaises(TypeError, Machine, *size)
         self.assertRaises(TypeError, Machine)
-        self.assertRaises(TypeError, Node(0, 1, 1, 1, 1).issue, Op("load", 0, 0))
+        node = Node(0, 1, 1, 1, 1)
+        self.assertRaises(TypeError, node.issue, Op("load", 0, 0))
+        for packet in ("text", 16, None):
+            self.assertRaises(TypeError, node.serve, packet)
+        self.assertRaises(BadPacket, node.serve, bytearray(3))
 
     def test_what_is_not_enabled_changes_nothing(self):
         machine = stored()
@@ -145,7 +150,7 @@ class Machines(unittest.TestCase):
 
     def test_copies_share_nothing(self):
         machine = stored()
-        copy = machine.clone()
+        copy = deepcopy(machine)
         self.assertTrue(copy.try_step(Event.issue(0, STORE)))
         self.assertEqual((machine.pending(0, 0), copy.pending(0, 0)), (None, (STORE, 0)))
 
