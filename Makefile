@@ -153,4 +153,4 @@ fmt:
 # Removes what checks and builds made.
 clean:
 	@$(NEED_RT)
-	@rm -rf out crates/*/out bench/target
+	@rm -rf out crates/*/out bench/target bindings/rust/target

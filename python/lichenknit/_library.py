@@ -4,10 +4,10 @@ from __future__ import annotations
 
 import ctypes
 import os
-from collections.abc import Sequence
+from collections.abc import Iterable, Sequence
 from functools import cache
 from operator import index
-from typing import Any
+from typing import Any, NoReturn
 
 from . import _native
 from .errors import OutOfRange, error_of
@@ -44,29 +44,30 @@ def failed(name: str, status: int) -> Exception:
 LIMITS = {it: 1 << (8 * ctypes.sizeof(it)) for it in (ctypes.c_uint8, ctypes.c_uint16, ctypes.c_uint32, ctypes.c_uint64, ctypes.c_size_t)}
 
 
-def check_fits(what: str, limit: int, value: Any) -> None:
-    """Raises a number that is too great for its type. ctypes would cut it off."""
-    if not 0 <= index(value) < limit:
-        raise OutOfRange(f"{failed(what, Status.RANGE)} ({value})", Status.RANGE)
+def refuse(what: str, value: Any) -> NoReturn:
+    """Raises a number that doesn't fit its type. ctypes would cut it off."""
+    raise OutOfRange(f"{failed(what, Status.RANGE)} ({value})", Status.RANGE)
 
 
-@cache
-def limits_of(kinds: tuple[Any, ...]) -> tuple[tuple[int, int], ...]:
+def limits_of(kinds: Iterable[Any]) -> tuple[tuple[int, int], ...]:
     """The places of numbers among these types of C, and how great they may be."""
     return tuple((place, LIMITS[kind]) for place, kind in enumerate(kinds) if kind in LIMITS)
 
 
+OF_FUNCTION = {name: limits_of(takes) for name, takes in _native.FUNCTIONS.items()}
+
+
 @cache
-def kinds_of(struct: Any) -> tuple[Any, ...]:
-    """The types of a struct's fields."""
-    return tuple(kind for _, kind in struct._fields_)
+def of_struct(struct: Any) -> tuple[tuple[int, int], ...]:
+    """The same of a struct's fields."""
+    return limits_of(kind for _, kind in struct._fields_)
 
 
 def filled(struct: Any, *values: Any) -> Any:
     """A struct with these values, each of which has to fit its field."""
-    for place, limit in limits_of(kinds_of(struct)):
+    for place, limit in of_struct(struct):
         if not 0 <= index(values[place]) < limit:
-            check_fits(f"{struct.__name__}.{struct._fields_[place][0]}", limit, values[place])
+            refuse(f"{struct.__name__}.{struct._fields_[place][0]}", values[place])
     return struct(*values)
 
 
@@ -80,14 +81,16 @@ def words_of(words: Sequence[int], count: int) -> Any:
     if len(words) != count:
         raise ValueError(f"{count} words are wanted, and not {len(words)}")
     for it in words:
-        check_fits("word", LIMITS[ctypes.c_uint64], it)
+        if not 0 <= index(it) < LIMITS[ctypes.c_uint64]:
+            refuse("word", it)
     return (ctypes.c_uint64 * count)(*words)
 
 
 def status_of(name: str, *arguments: Any) -> int:
     """The status that a function answers."""
-    for place, limit in limits_of(_native.FUNCTIONS[name]):
-        check_fits(name, limit, arguments[place])
+    for place, limit in OF_FUNCTION[name]:
+        if not 0 <= index(arguments[place]) < limit:
+            refuse(name, arguments[place])
     return getattr(library(), name)(*arguments)
 
 
