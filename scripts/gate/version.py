@@ -10,6 +10,7 @@ OTHERS = {
     "docs/scimem.1": r'^\.TH .* "Lichenknit (\S+)"',
     "docs/sciview.1": r'^\.TH .* "Lichenknit (\S+)"',
     "bench/Cargo.toml": r'^version = "(.*)"',
+    "python/lichenknit/__init__.py": r'^__version__ = "(.*)"',
     "python/pyproject.toml": r'^version = "(.*)"',
     "bindings/rust/Cargo.toml": r'^version = "(.*)"',
     "cases/sciview-words.txt": r"^sciview (\d\S*)",
