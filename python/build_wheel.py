@@ -34,8 +34,8 @@ def written(folder, files):
     tag = "py3-none-linux_x86_64" if f"lichenknit/{LIBRARY}" in files else "py3-none-any"
     stem = f"{project()['name']}-{project()['version']}"
     info = f"{stem}.dist-info"
-    files = {**files, f"{info}/METADATA": metadata().encode(),
-             f"{info}/WHEEL": f"Wheel-Version: 1.0\nGenerator: build_wheel\nRoot-Is-Purelib: {str(tag.endswith('any')).lower()}\nTag: {tag}\n".encode()}
+    kind = f"Wheel-Version: 1.0\nGenerator: build_wheel\nRoot-Is-Purelib: {str(tag.endswith('any')).lower()}\nTag: {tag}\n"
+    files = {**files, f"{info}/METADATA": metadata().encode(), f"{info}/WHEEL": kind.encode()}
     record = ""
     with zipfile.ZipFile(f"{folder}/{stem}-{tag}.whl", "w", zipfile.ZIP_DEFLATED) as wheel:
         for name, data in files.items():

@@ -102,7 +102,8 @@ class Station : public sc_core::sc_module {
     void issue() {
         if (issued == size.operations || random.below(2) == 0) return;
         const uint8_t acts[] = {SCI_LOAD, SCI_LOAD, SCI_STORE, SCI_FETCH_ADD};
-        const sci_op op = {acts[random.below(4)], static_cast<uint8_t>(random.below(size.lines)), static_cast<uint8_t>(random.below(8)), 0, 0, random.below(100)};
+        const auto line = static_cast<uint8_t>(random.below(size.lines)), word = static_cast<uint8_t>(random.below(8));
+        const sci_op op = {acts[random.below(4)], line, word, 0, 0, random.below(100)};
         uint32_t serial;
         if (sci_node_issue(&node, &op, &serial) == SCI_OK) issued++;
     }

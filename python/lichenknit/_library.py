@@ -73,7 +73,8 @@ def filled(struct: Any, *values: Any) -> Any:
 
 def buffer(data: bytes) -> tuple[bytes, int]:
     """Bytes and how many they are. What is only like bytes is copied."""
-    return (data if isinstance(data, bytes) else memoryview(data).tobytes()), len(data)
+    data = data if isinstance(data, bytes) else memoryview(data).tobytes()
+    return data, len(data)
 
 
 def words_of(words: Sequence[int], count: int) -> Any:

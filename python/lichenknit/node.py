@@ -4,7 +4,6 @@ from __future__ import annotations
 
 from collections.abc import Iterator
 from ctypes import byref, c_size_t, c_uint8, c_uint32
-from typing import Any
 
 from . import _native
 from ._library import buffer
@@ -82,7 +81,9 @@ class Node(Owner):
 
     def first_sender(self) -> int:
         """The node whose requests are looked at first in a turn."""
-        return self._byte("first_sender")
+        node = c_uint8()
+        self._call("first_sender", byref(node))
+        return node.value
 
     def held(self, line: int) -> Held:
         """What the node's cache has of a line."""
@@ -116,8 +117,3 @@ class Node(Owner):
         at_rest = c_uint32()
         self._call("is_at_rest", byref(at_rest))
         return bool(at_rest.value)
-
-    def _byte(self, name: str, *arguments: Any) -> int:
-        found = c_uint8()
-        self._call(name, *arguments, byref(found))
-        return found.value

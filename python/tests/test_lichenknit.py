@@ -8,8 +8,8 @@ import unittest
 from copy import deepcopy
 
 import lichenknit
-from lichenknit import (Act, AskKind, BadPacket, BadText, Command, Contents, Decision, Entry, Event, HomeState, Lane, Logs, Machine, Misuse, NoMemory, Node,
-                        NotEnabled, Obstacle, Op, OrderKind, OutOfRange, Packet, State, Status, TextKind, VerdictKind, WantKind, packets)
+from lichenknit import (Act, AskKind, BadPacket, BadText, Command, Contents, Decision, Entry, Event, HomeState, Lane, Logs, Machine, Misuse,
+                        NoMemory, Node, NotEnabled, Obstacle, Op, OrderKind, OutOfRange, Packet, State, Status, TextKind, VerdictKind, WantKind, packets)
 
 LOG = "log 2 2 1\nlast 0 @1 7 0 0 0 0 0 0 0\n0 0 store 0 0 7 = - @1\n1 0 load 0 0 = 7 @1\n"
 EXAMPLES = os.path.join(os.path.dirname(os.path.abspath(__file__)), "..", "..", "examples")
@@ -39,7 +39,8 @@ class Values(unittest.TestCase):
                 self.assertEqual(getattr(library(), f"sci_{what}_name")(it).decode(), str(it))
 
     def test_enums_print_their_names(self):
-        self.assertEqual(f"{State.FRESH_HEAD} {HomeState.GONE} {Command.MREAD} {Obstacle.NO_SLOT} {Status.RANGE}", "FreshHead GONE mread no-slot SCI_RANGE")
+        text = f"{State.FRESH_HEAD} {HomeState.GONE} {Command.MREAD} {Obstacle.NO_SLOT} {Status.RANGE}"
+        self.assertEqual(text, "FreshHead GONE mread no-slot SCI_RANGE")
 
     def test_operations_have_their_operands(self):
         self.assertEqual(Op.compare_swap(1, 2, expected=3, datum=4), Op(Act.COMPARE_SWAP, 1, 2, 3, 4))
@@ -88,7 +89,8 @@ class Refusals(unittest.TestCase):
         with stored() as machine:
             self.assertEqual(machine.last(0).words[3], 42)
         machine.close()
-        for call in (machine.settle, machine.clone, machine.logs, lambda: machine.try_step(Event.reply(0)), lambda: next(machine.packets(Lane.ANSWERS, 0, 0))):
+        lane = machine.packets(Lane.ANSWERS, 0, 0)
+        for call in (machine.settle, machine.clone, machine.logs, lambda: machine.try_step(Event.reply(0)), lambda: next(lane)):
             self.assert_refused(Misuse, "SCI_MISUSE: the object is empty", call)
         logs = Logs.read(LOG)
         entries = iter(logs)

@@ -15,7 +15,8 @@ def is_built():
 
 def install(room):
     """Installs the library into a folder, and gives the settings by which compilers, pkg-config, CMake, cargo and Python find it there."""
-    subprocess.run(["make", "-s", "-o", "library", "install-library", f"PREFIX={room}", "DESTDIR="], cwd=TOP, check=True, stdout=subprocess.DEVNULL)
+    words = ["make", "-s", "-o", "library", "install-library", f"PREFIX={room}", "DESTDIR="]
+    subprocess.run(words, cwd=TOP, check=True, stdout=subprocess.DEVNULL)
     paths = {"PKG_CONFIG_PATH": "lib/pkgconfig", "LD_LIBRARY_PATH": "lib", "CMAKE_PREFIX_PATH": ""}
     return {**os.environ, **{name: f"{room}/{path}" for name, path in paths.items()}, "LICHENKNIT_LIB_DIR": f"{room}/lib",
             "LICHENKNIT_LIBRARY": f"{room}/lib/liblichenknit.so", "PIP_NO_INDEX": "1", "PIP_DISABLE_PIP_VERSION_CHECK": "1", "PIP_ROOT_USER_ACTION": "ignore",

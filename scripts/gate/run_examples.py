@@ -7,8 +7,8 @@ Without pages it runs those of all but the pages about the C library, which chec
 
 An example is a block of lines that are indented by four spaces and begin with `$ COMMAND`; what the command prints stands
 behind it, up to the next `$`. A page's commands run one after another in a folder of their own, which has
-copies of examples/, python/ and bindings/; those of a page of examples/ run in the first. The built programs are on the PATH. What `scimem threads` prints differs from run to run, so it isn't compared,
-nor is what follows a `..`. The last line is 'N passed, M failed', of commands.
+copies of examples/, python/ and bindings/; those of a page of examples/ run in the first. The built programs are on the PATH.
+What `scimem threads` prints differs from run to run, so it isn't compared, nor is what follows a `..`. The last line is 'N passed, M failed', of commands.
 """
 
 import os

@@ -67,7 +67,8 @@ def page():
             yield f".SH {plain(title).upper()}"
             yield from (paragraphs("/* " + rest[0] + "*/") if rest else [])
         else:
-            yield from [".SS", plain(", ".join(re.findall(r"\b(sci_\w+)\(", code))), ".nf", *(f".B {plain(it.strip())}" for it in code.splitlines()), ".fi"]
+            yield from [".SS", plain(", ".join(re.findall(r"\b(sci_\w+)\(", code))), ".nf"]
+            yield from [*(f".B {plain(it.strip())}" for it in code.splitlines()), ".fi"]
             yield from paragraphs(comment)
     yield '.SH "SEE ALSO"\n.BR scimem (1),\n.BR sciview (1),\n.BR scimem (5)'
 
