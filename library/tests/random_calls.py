@@ -176,6 +176,8 @@ class Wires:
         self.sent = []
 
     def send(self, kind, packet):
+        if packet is None:
+            raise NotEnabled("no answer waits", Status.NOT_ENABLED)
         self.sent.append(packet)
         self.lanes[kind, packet[5], packet[1]].append(packet)
 
