@@ -1,5 +1,6 @@
 """Tests of the package, over the library of $LICHENKNIT_LIBRARY."""
 
+import doctest
 import gc
 import os
 import random
@@ -232,6 +233,11 @@ class Log(unittest.TestCase):
         self.assertEqual(Logs(1, 1).order(), (OrderKind.ORDER, ()))
         self.assertEqual((logs.order().kind, logs.order_kind(), bool(logs.audit())), (OrderKind.CYCLE, OrderKind.CYCLE, True))
         self.assertEqual([(it.node, it.serial) for it in logs.order().entries], [(0, 0), (1, 1), (1, 0), (0, 1)])
+
+
+def load_tests(loader, tests, pattern):
+    tests.addTests(doctest.DocTestSuite(lichenknit))
+    return tests
 
 
 def pages():
