@@ -129,6 +129,19 @@ def check_rust(tally):
     compare(tally, "Rust", {**{f"SCI_{name}": it for of in enums().values() for name, it in of.items()}, **version()}, numbers)
 
 
+def check_rust_enums(tally):
+    """An enum of the safe crate has the header's names: SCI_CMD_MREAD is Command::Mread."""
+    text = read(f"{TOP}/bindings/rust/lichenknit/src/kinds.rs")
+    for block in text.split("numbered! {")[1:]:
+        name = re.search(r"^    (\w+)(?: by \w+)? \{", block, re.MULTILINE)[1]
+        pairs = re.findall(r"(\w+) = SCI_(\w+)", block)
+        of_header = next((it for it in enums().values() if pairs and pairs[0][1] in it), {})
+        found = [number for _, number in pairs]
+        wrong = [it for it, number in pairs if re.sub(r"^(CMD|TEXT|TO)_", "", number).replace("_", "").lower() != it.lower()]
+        lacking = sorted((set(of_header) - {"NO_OBSTACLE"}) ^ set(found))
+        tally.count(f"{name} of Rust", (wrong or lacking or not pairs) and f"names {wrong} or {lacking}")
+
+
 def version():
     text = read(f"{TOP}/include/lichenknit.h")
     return {name: int(number) for name, number in re.findall(r"#define (SCI_VERSION_M\w+) (\d+)", text)}
@@ -196,6 +209,7 @@ def main():
     tally = Tally()
     check_python(tally)
     check_rust(tally)
+    check_rust_enums(tally)
     check_verilog(tally)
     return tally.end()
 
