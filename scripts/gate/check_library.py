@@ -221,8 +221,8 @@ def check_random_calls(tally):
 
 def main():
     tally, cc = Tally(), library.compiler()
-    if cc is None:
-        print("there is no C compiler with the headers of the C library: our C library is left out\n0 passed, 0 failed")
+    if cc is None or library.lacking():
+        print("there is no C compiler with the headers of the C library, or no binutils: our C library is left out\n0 passed, 0 failed")
         return 0
     if subprocess.run(["make", "-s", "library"], cwd=TOP).returncode:
         print("0 passed, 1 failed")

@@ -28,6 +28,11 @@ def compiler():
     return None
 
 
+def lacking():
+    """What is missing of binutils."""
+    return [it for it in ("ar", "ld", "objcopy") if not shutil.which(it)]
+
+
 def version():
     """The numbers of the version, as the header has them."""
     with open(f"{TOP}/include/lichenknit.h", encoding="utf-8") as file:
@@ -83,8 +88,8 @@ def main():
     if cc is None:
         print("there is no C compiler with the headers of the C library: install one, or set CC")
         return 1
-    if lacking := [it for it in ("ar", "ld", "objcopy") if not shutil.which(it)]:
-        print(f"{' and '.join(lacking)} of binutils are missing: install them")
+    if lacking():
+        print(f"{' and '.join(lacking())} of binutils is missing: install it")
         return 1
     build(cc)
     return 0
