@@ -1,7 +1,7 @@
 #!/usr/bin/env python3
 """Compares include/lichenknit.h with those who declare it once more: the structs, functions and enums of python/lichenknit, of
-bindings/rust/lichenknit-sys and of examples/systemverilog, and the enums of bindings/rust/lichenknit. What is missing there, too much, or different is a failure. Nothing is built. The
-last line is 'N passed, M failed'."""
+bindings/rust/lichenknit-sys and of examples/systemverilog, and the enums of bindings/rust/lichenknit. What is missing there, too much,
+or different is a failure. Nothing is built. The last line is 'N passed, M failed'."""
 
 import ctypes
 import importlib
