@@ -68,7 +68,8 @@ enum sci_limit {
     SCI_NO_NODE = 0xFFFF /**< the identifier that is no node */
 };
 
-/* ---- values */
+/** @name Values
+** @{ */
 
 /** What an operation does, in sci_op.act. */
 enum sci_act {
@@ -308,7 +309,10 @@ typedef struct sci_text_fault {
     uint32_t reserved;
 } sci_text_fault;
 
-/* ---- objects */
+/** @} */
+
+/** @name Objects
+** @{ */
 
 /** A machine, in the caller's memory. The three objects differ by name alone, so that a compiler finds a node where a machine is
 ** wanted. The library finds it too. */
@@ -332,7 +336,10 @@ typedef struct sci_logs {
 /** An empty object. */
 #define SCI_INIT { 0, 0 }
 
-/* ---- the library */
+/** @} */
+
+/** @name The library
+** @{ */
 
 /** SCI_VERSION_MAJOR * 65536 + SCI_VERSION_MINOR of the library. */
 uint32_t sci_version(void);
@@ -365,7 +372,10 @@ const char *sci_obstacle_name(uint32_t obstacle);
 /** The name of a verdict: "wrong-reply". */
 const char *sci_verdict_name(uint32_t kind);
 
-/* ---- packets */
+/** @} */
+
+/** @name Packets
+** @{ */
 
 /** Reads the packet that the bytes begin with, and how many bytes it has: 16, or 88 with contents. Bytes after it aren't looked
 ** at. Contents that the packet doesn't carry are 0 (sci_packets::decode).
@@ -394,7 +404,11 @@ sci_status sci_packet_from_words(const uint64_t *words, size_t length, sci_packe
 /** Writes a packet as words (sci_packets::to_words). */
 sci_status sci_packet_to_words(const sci_packet *packet, uint64_t words[SCI_PACKET_WORDS], size_t *used);
 
-/* ---- machines: all nodes, and the packets between them. A machine is coherent after every call. */
+/** @} */
+
+/** @name Machines
+** All nodes, and the packets between them. A machine is coherent after every call.
+** @{ */
 
 /** Puts a machine of this size into an empty object. No line was touched. Each node may issue limit operations
 ** (sci_core::Machine::new).
@@ -520,7 +534,10 @@ sci_status sci_machine_authority(const sci_machine *machine, uint8_t line, uint8
 **   - SCI_NO_MEMORY */
 sci_status sci_machine_logs(const sci_machine *machine, sci_logs *logs);
 
-/* ---- nodes: the controller that a simulator has at each processor. The caller carries the packets. Their first two bytes are
+/** @} */
+
+/** @name Nodes
+** The controller that a simulator has at each processor. The caller carries the packets. Their first two bytes are
 ** the target, the higher one first. The nodes are together a coherent machine if the caller gives each packet to its target at
 ** most once: a request by sci_node_serve or sci_node_refuse, an answer by sci_node_accept. Packets may come in any order. Nothing
 ** goes on about a line of a node whose packet is never given. A call that answers another status than SCI_OK has not taken the
@@ -530,7 +547,8 @@ sci_status sci_machine_logs(const sci_machine *machine, sci_logs *logs);
 ** What a node does next, and which requests it keeps for later, is its policy's to say: sci_node_next and sci_node_decide. A policy
 ** of one's own may do other events, and the logs are lawful with any. But one that serves each request at once can go on for ever
 ** without an operation, in lock step with fixed delays for one: a node claims a line, another's cread comes while it waits, the
-** claim is answered wbno, and the node claims again. */
+** claim is answered wbno, and the node claims again.
+** @{ */
 
 /** Puts the controller of node me in a machine of this size into an empty object. Its processor may issue limit operations
 ** (sci_core::Node::new).
@@ -677,7 +695,11 @@ sci_status sci_node_home(const sci_node *node, uint8_t line, sci_stamped *conten
 **   - SCI_MISUSE      The object keeps no node. */
 sci_status sci_node_is_at_rest(const sci_node *node, uint32_t *at_rest);
 
-/* ---- logs: those of all nodes, with the last contents of each line, of this machine or of any other */
+/** @} */
+
+/** @name Logs
+** Those of all nodes, with the last contents of each line, of this machine or of any other.
+** @{ */
 
 /** Puts logs without entries into an empty object. Each line's last contents are zero words at version 0 (Logs::new and
 ** Last::zero).
@@ -776,6 +798,8 @@ sci_status sci_logs_read(sci_logs *logs, const uint8_t *text, size_t length, sci
 **   - SCI_NO_MEMORY
 **   - SCI_MISUSE      The object keeps no logs. */
 sci_status sci_logs_write(const sci_logs *logs, uint8_t *text, size_t room, size_t *used);
+
+/** @} */
 
 #ifdef __cplusplus
 }

@@ -50,7 +50,7 @@ def declarations(text):
     """What stands in the header, one after another: a headline of a part, or a comment with what it is about."""
     for part in re.finditer(r"(/\*(?:(?!\*/).)*\*/)\n((?:(?!/\*|\n\n).)*?)(?=\n\n|\n/\*|\Z)", text, re.DOTALL):
         comment, code = part[1], part[2].strip()
-        if comment.startswith("/* ----"):
+        if comment.startswith("/** @name"):
             yield "part", comment, ""
         elif re.search(r"^\w[\w *]*\bsci_\w+\(", code, re.MULTILINE):
             yield "functions", comment, code
@@ -61,11 +61,11 @@ def page():
         text = file.read()
     yield HEAD
     yield from list(paragraphs(text[: text.index("*/") + 2]))[1:]
-    for kind, comment, code in declarations(text[text.index("/* ---- the library") :]):
+    for kind, comment, code in declarations(text[text.index("/** @name The library") :]):
         if kind == "part":
-            title, *rest = "\n".join(lines_of(comment)).removeprefix("---- ").split(": ", 1)
-            yield f".SH {plain(title).upper()}"
-            yield from (paragraphs("/* " + rest[0] + "*/") if rest else [])
+            title, *rest = lines_of(comment)[:-1]
+            yield f".SH {plain(title.removeprefix('@name ')).upper()}"
+            yield from (paragraphs("\n".join(rest)) if rest else [])
         else:
             yield from [".SS", plain(", ".join(re.findall(r"\b(sci_\w+)\(", code))), ".nf"]
             yield from [*(f".B {plain(it.strip())}" for it in code.splitlines()), ".fi"]
