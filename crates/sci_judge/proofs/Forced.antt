@@ -209,7 +209,8 @@ rises e others versions makers shown index p q a b at_a at_b is_p is_q =
             | inr earlier ↦
                 let comes : ComesBefore e.timed p q a b =
                 subst (λ (x : Access). ComesBefore e.timed p q x b) previous.1 (subst (λ (x : Access). ComesBefore e.timed p q before.1 x) here.1
-                (subst (λ (k : ℕ). ComesBefore e.timed p k before.1 h.1) here.0 (subst (λ (k : ℕ). ComesBefore e.timed k h.0 before.1 h.1) previous.0 earlier))) in
+                (subst (λ (k : ℕ). ComesBefore e.timed p k before.1 h.1) here.0
+                (subst (λ (k : ℕ). ComesBefore e.timed k h.0 before.1 h.1) previous.0 earlier))) in
                 let has = entry_in e q b at_b in
                 (in_order e p q a b at_a at_b comes).1 (entry_makes has.entry q b has.same ∙ making)
           ]

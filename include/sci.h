@@ -1,1 +1,0 @@
-lichenknit.h
