@@ -115,12 +115,13 @@ soak: build
 	@scripts/measure/soak.py $(or $(SECONDS),60) $(or $(SEED),1)
 
 # Builds both programs, gives scimem hostile inputs for some seconds, and for as long each small traces to sciview judge and small
-# scripts to sciview allowed and outcomes, whose answers are checked by trying all orders: make fuzz SECONDS=600 SEED=2. It isn't
-# part of the gate.
+# scripts to sciview allowed and outcomes, whose answers are checked by trying all orders; then 1,000 of its own runs without their
+# versions to sciview judge: make fuzz SECONDS=600 SEED=2. It isn't part of the gate.
 fuzz: build
 	@scripts/measure/fuzz.py $(or $(SECONDS),60) $(or $(SEED),1)
 	@scripts/measure/fuzz_traces.py $(or $(SECONDS),60) $(or $(SEED),1)
 	@scripts/measure/fuzz_outcomes.py $(or $(SECONDS),60) $(or $(SEED),1)
+	@scripts/measure/judge_runs.py 1000 $(or $(SEED),1)
 
 # Builds both programs, and prints how the cost of each command grows with its input. It isn't part of the gate.
 growth: build
