@@ -13,7 +13,8 @@ mod state_words;
 mod tracing;
 
 pub use event_words::{LineWords, push_changes, standing};
-pub use listing::lists;
+pub use json_event::push_json;
+pub use listing::{ListPlace, listed_line, lists, push_list_behind};
 pub use node_states::{held_at, home_at};
 pub use sending::packets;
 pub use state_words::push_node;

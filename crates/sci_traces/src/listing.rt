@@ -1,6 +1,6 @@
 //! The command `lists`: the sharing list of a line behind each event that may have changed it.
 
-ghost use Rattle.std.specs.Prelude.{◌≡◌, ◌≤◌, ◌+◌, ◌++◌, ◌<◌, ℕ, List, [], codes, length, false, IfOk, IfSome, OnOk};
+ghost use Rattle.std.specs.Prelude.{◌≡◌, ◌≤◌, ◌+◌, ◌++◌, ◌<◌, ℕ, List, [], codes, length, false, Some, IfOk, IfSome, OnOk};
 ghost use Rattle.std.specs.List.{flat_map};
 ghost use Rattle.sci_words.specs.declared.limits.TheConstants.{MAX_TEXT_LINE_BYTES};
 ghost use Rattle.sci_core.specs.Core.{step, stepping};
@@ -35,7 +35,7 @@ fn line_concerned(machine: &Machine, event: &Event) -> Option<u8>
 }
 
 /// The line of which an event's list is shown: the one that it may change, if that is asked for.
-fn listed_line(machine: &Machine, asked: Option<u8>, event: &Event) -> Option<u8>
+pub fn listed_line(machine: &Machine, asked: Option<u8>, event: &Event) -> Option<u8>
     ensures shown { result ≡ listed_line_of asked machine.now event.now }
     ensures inside { IfSome result (λ line. line < machine.now.size.lines) }
 {
@@ -201,9 +201,30 @@ fn push_place(out: &mut Vec<u8>, number: u64, line: u8) -> Result<(), AllocError
 
 /// Where an event stands in the schedule, and the line of memory whose list is shown behind it, if one is.
 #[derive(Clone, Copy)]
-struct Place {
-    number: u64,
-    line: Option<u8>,
+pub struct ListPlace {
+    /// The number of the event's line in the schedule.
+    pub number: u64,
+    /// The line of memory.
+    pub line: Option<u8>,
+}
+
+/// Appends the line that is shown behind an event which led to this state: where it stands, and its list. Nothing if it shows no
+/// list. Refused if memory is.
+pub fn push_list_behind(
+    alloc: Global,
+    out: &mut Vec<u8>,
+    machine: &Machine,
+    place: ListPlace,
+) -> Result<(), AllocError>
+    requires { IfSome place.line (λ line. line < machine.now.size.lines) }
+    ensures { OnOk result ((text : List ℕ) × (out.new.items ≡ out.old.items ++ text)
+        × IsListed place.number place.line (Some machine.now) text) }
+{
+    let Some(line) = place.line else {
+        return Ok(());
+    };
+    push_place(out, place.number, line)?;
+    push_list(alloc, out, machine, line)
 }
 
 /// Takes a step, and appends the list that is shown behind it, if the event is enabled.
@@ -211,7 +232,7 @@ fn push_listed(
     alloc: Global,
     out: &mut Vec<u8>,
     machine: &mut Machine,
-    place: Place,
+    place: ListPlace,
     event: &Event,
 ) -> Result<(), AllocError>
     requires { IfSome place.line (λ line. line < machine.old.size.lines) }
@@ -224,11 +245,7 @@ fn push_listed(
         Err(ApplyFault::NotEnabled) => return Ok(()),
         Err(ApplyFault::Memory(refused)) => return Err(refused),
     }
-    let Some(line) = place.line else {
-        return Ok(());
-    };
-    push_place(out, place.number, line)?;
-    push_list(alloc, out, machine, line)
+    push_list_behind(alloc, out, machine, place)
 }
 
 /// The lists behind the events of a schedule: of the line that is asked for, or of all.
@@ -245,7 +262,7 @@ fn lists_of(alloc: Global, asked: Option<u8>, schedule: &Schedule) -> Result<Vec
             alloc,
             &mut text,
             &mut machine,
-            Place { number, line },
+            ListPlace { number, line },
             event,
         ) {
             Ok(()) => {}

@@ -1,6 +1,5 @@
-use Rattle.std.proofs.{Common.{sym}, lemmas.Result.{on_ok_weaker}}
 use Rattle.sci_core.specs.Core.{stepping}
-use Rattle.sci_traces.proofs.Listed.{none_listed, event_listed}
+use Rattle.sci_traces.proofs.Listed.{none_listed}
 use Rattle.sci_traces.proofs.listing.push_listed.Goals as goal
 
 pub returns-in-Err-NotEnabled-clause-text : goal.returns-in-Err-NotEnabled-clause-text
@@ -9,8 +8,4 @@ returns-in-Err-NotEnabled-clause-text c =
     none_listed c.args.place.number c.args.out.now.items c.args.place.line (stepping c.args.machine.now c.args.event.now) idle
 
 pub returns-clause-text : goal.returns-clause-text
-returns-clause-text c =
-    on_ok_weaker c.push_list.result
-    (λ list. event_listed c.args.place.number c.in-Some.line c.args.place.line (stepping c.args.machine.now c.args.event.now) c.apply.new.self _ _ _
-    (sym c.in-Some.is) c.in-Ok.ensures.done c.in_ok-push_place.ensures list)
-    c.push_list.ensures
+returns-clause-text c = rw (← c.in-Ok.ensures.done) at c.push_list_behind.ensures
