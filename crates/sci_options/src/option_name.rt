@@ -41,6 +41,8 @@ pub enum OptionName {
     Threads,
     /// By the times that operations took.
     Times,
+    /// With a title.
+    Title,
     /// At most how many turns.
     Turns,
 }
@@ -68,6 +70,7 @@ impl OptionName {
             "--strict" => Some(OptionName::Strict),
             "--threads" => Some(OptionName::Threads),
             "--times" => Some(OptionName::Times),
+            "--title" => Some(OptionName::Title),
             "--turns" => Some(OptionName::Turns),
             _ => None,
         }
@@ -95,6 +98,7 @@ impl OptionName {
             OptionName::Strict => "--strict",
             OptionName::Threads => "--threads",
             OptionName::Times => "--times",
+            OptionName::Title => "--title",
             OptionName::Turns => "--turns",
         }
     }

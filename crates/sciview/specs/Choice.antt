@@ -1,6 +1,6 @@
 -- The words of a command line.
 use Rattle.std.specs.Prelude.{◌≡◌, ◌↔◌, ◌<◌, ◌^◌, ◌⊎◌, if◌then◌else◌, ℕ, Bool, List, [], ◌∷◌, codes, Option, Some, None, Result, Ok, Err}
-use Rattle.std.specs.Prelude.{option_map, true, false}
+use Rattle.std.specs.Prelude.{option_map, unwrap_or, true, false}
 use Rattle.sci_words.specs.declared.limits.TheConstants.{MAX_LINES, MAX_NODES}
 use Rattle.sci_text.specs.Number.{number}
 use Rattle.sci_options.specs.Options.{IsGiven, is_given, number_in, place_in, two_in, value_of}
@@ -14,11 +14,12 @@ use Rattle.sci_reports.specs.declared.ordering.NodeOrder.{NodeOrder, TheVariants
 use Rattle.sci_walks.specs.declared.random.Walk.{Walk}
 use Rattle.sci_outcomes.specs.declared.outcomes_report.TheConstants.{MAX_RUNS}
 use Rattle.sci_outcomes.specs.declared.trials.Turns.{Turns, TheVariants.{Drawn, Threads}}
-use Rattle.sciview.specs.declared.choice.{Choice.{Choice}, Command.{Command}}
+use Rattle.sciview.specs.declared.choice.{Choice.{Choice}, Command.{Command}, Names.{Names}}
 use Rattle.sciview.specs.declared.choice.Command.TheVariants as commands
 use Rattle.sciview.specs.declared.complaint.Complaint.{Complaint, TheVariants.{Memory}}
 use Rattle.sciview.specs.declared.verb.Verb.{Verb}
-use Rattle.sciview.specs.declared.verb.Verb.TheVariants.{Allowed, Chart, Check, Explain, Judge, Lists, Order, Outcomes, Packets, Random, Run, Stats, Trace}
+use Rattle.sciview.specs.declared.verb.Verb.TheVariants.{Allowed, Chart, Check, Explain, Judge, Lists, Order, Outcomes, Packets, Page, Random, Run}
+use Rattle.sciview.specs.declared.verb.Verb.TheVariants.{Stats, Trace}
 
 -- the word of a command
 abbrev pub verb_word : Verb → List ℕ
@@ -34,6 +35,7 @@ verb_word Trace = codes "trace"
 verb_word Lists = codes "lists"
 verb_word Stats = codes "stats"
 verb_word Chart = codes "chart"
+verb_word Page = codes "page"
 verb_word Random = codes "random"
 
 -- rows of the table of options: an option alone, a number below a count, a number within limits, two numbers
@@ -61,6 +63,7 @@ options_of Trace = flag options.Json ∷ flag options.Strict ∷ place options.L
 options_of Lists = place options.Line MAX_LINES ∷ []
 options_of Stats = place options.Line MAX_LINES ∷ place options.Node MAX_NODES ∷ []
 options_of Chart = place options.Line MAX_LINES ∷ two_numbers options.Events ∷ []
+options_of Page = place options.Line MAX_LINES ∷ two_numbers options.Events ∷ flag options.Title ∷ []
 options_of Random = number_from options.Dead 0 100 ∷ []
 options_of verb = []
 
@@ -124,6 +127,7 @@ command_of Trace settings = Some (commands.Trace (record {
 command_of Lists settings = Some (commands.Lists (asked_line settings))
 command_of Stats settings = Some (commands.Stats (record { line = asked_line settings; node = place_in (value_of options.Node settings) }))
 command_of Chart settings = Some (commands.Chart (record { line = asked_line settings; events = asked_events settings }))
+command_of Page settings = Some (commands.Page (record { line = asked_line settings; events = asked_events settings }))
 command_of Random settings = None
 
 -- the words of a walk
@@ -138,35 +142,55 @@ pub record FitsWalk (walk : Walk) : Type 0 where
   pub events_fit : walk.events < 2 ^ 64
   pub seed_fits : walk.seed < 2 ^ 64
 
--- the word of a file, if one is named
-abbrev pub file_words : Option (List ℕ) → List (List ℕ)
-file_words None = []
-file_words (Some file) = file ∷ []
+-- the words that a command takes as they are: a title, and a file
+pub record Named : Type 0 where
+  pub title : Option (List ℕ)
+  pub file : Option (List ℕ)
 
--- options and words that stand alone ask this of a command, of this file
-abbrev pub Asks : Verb → List Setting → List (List ℕ) → Command → Option (List ℕ) → Type 0
-Asks Random settings alone command file = (walk : Walk) × (command ≡ commands.Random walk (asked_number options.Dead settings))
-    × (alone ≡ walk_words walk) × FitsWalk walk × (file ≡ None)
-Asks verb settings alone command file = (command_of verb settings ≡ Some command) × (alone ≡ file_words file)
+abbrev pub no_names : Named
+no_names = record { title = None; file = None }
+
+-- the word of a title or of a file, if there is one
+abbrev pub name_words : Option (List ℕ) → List (List ℕ)
+name_words None = []
+name_words (Some name) = name ∷ []
+
+-- words are a title if there has to be one, and then a file if one is named
+abbrev pub IsNamed : Bool → List (List ℕ) → Named → Type 0
+IsNamed false words named = (named.title ≡ None) × (words ≡ name_words named.file)
+IsNamed true words named = (title : List ℕ) × (named.title ≡ Some title) × (words ≡ title ∷ name_words named.file)
+
+-- options and words that stand alone ask this of a command, with these names
+abbrev pub Asks : Verb → List Setting → List (List ℕ) → Command → Named → Type 0
+Asks Random settings alone command named = (walk : Walk) × (command ≡ commands.Random walk (asked_number options.Dead settings))
+    × (alone ≡ walk_words walk) × FitsWalk walk × (named ≡ no_names)
+Asks verb settings alone command named = (command_of verb settings ≡ Some command) × IsNamed (is_given options.Title settings) alone named
 
 -- one word that asks for help
 abbrev pub IsHelp : List (List ℕ) → Type 0
 IsHelp words = (words ≡ codes "--help" ∷ []) ⊎ (words ≡ codes "-h" ∷ [])
 
 -- the words behind a command choose what it is to do
-abbrev pub ChoosesOf : Verb → List (List ℕ) → Command → Option (List ℕ) → Type 0
-ChoosesOf verb words command file = (IsHelp words × (command ≡ commands.Help (Some verb)) × (file ≡ None)) ⊎ (¬ (IsHelp words)
-    × (settings : List Setting) × (alone : List (List ℕ)) × IsGiven (options_of verb) words settings alone × Asks verb settings alone command file)
+abbrev pub ChoosesOf : Verb → List (List ℕ) → Command → Named → Type 0
+ChoosesOf verb words command named = (IsHelp words × (command ≡ commands.Help (Some verb)) × (named ≡ no_names)) ⊎ (¬ (IsHelp words)
+    × (settings : List Setting) × (alone : List (List ℕ)) × IsGiven (options_of verb) words settings alone × Asks verb settings alone command named)
 
--- the words choose the command, and the file that it reads; None is standard input
-abbrev pub Chooses : List (List ℕ) → Command → Option (List ℕ) → Type 0
-Chooses words command file = (IsHelp words × (command ≡ commands.Help None) × (file ≡ None))
-    ⊎ (((words ≡ codes "--version" ∷ []) × (command ≡ commands.Version) × (file ≡ None))
-    ⊎ ((verb : Verb) × (rest : List (List ℕ)) × (words ≡ verb_word verb ∷ rest) × ChoosesOf verb rest command file))
+-- the words choose the command, a title, and the file that it reads; None is standard input
+abbrev pub Chooses : List (List ℕ) → Command → Named → Type 0
+Chooses words command named = (IsHelp words × (command ≡ commands.Help None) × (named ≡ no_names))
+    ⊎ (((words ≡ codes "--version" ∷ []) × (command ≡ commands.Version) × (named ≡ no_names))
+    ⊎ ((verb : Verb) × (rest : List (List ℕ)) × (words ≡ verb_word verb ∷ rest) × ChoosesOf verb rest command named))
 
--- a choice, without where its words lie
-abbrev pub shown_in : Choice → Command × Option (List ℕ)
-shown_in choice = (choice.command, option_map (λ file. file.now) choice.file)
+-- names, and a choice, without where their words lie
+abbrev pub shown_names : Names → Named
+shown_names names = record { title = option_map (λ title. title.now) names.title; file = option_map (λ file. file.now) names.file }
+
+abbrev pub shown_in : Choice → Command × Named
+shown_in choice = (choice.command, shown_names choice.names)
+
+-- the title of a page: the one that is named, or else one for all
+abbrev pub title_of : Named → List ℕ
+title_of named = unwrap_or named.title (codes "Schedule")
 
 -- whether there is no memory for words
 abbrev pub is_refused : Complaint → Bool
@@ -174,7 +198,7 @@ is_refused Memory = true
 is_refused complaint = false
 
 -- what is chosen is what words choose, and nothing else; there is a complaint if they choose nothing, or memory is refused
-abbrev pub IsChosenBy : (Command → Option (List ℕ) → Type 0) → Result Choice Complaint → Type 0
-IsChosenBy Chosen (Ok choice) = (command : Command) (file : Option (List ℕ)) → Chosen command file ↔ (shown_in choice ≡ (command, file))
+abbrev pub IsChosenBy : (Command → Named → Type 0) → Result Choice Complaint → Type 0
+IsChosenBy Chosen (Ok choice) = (command : Command) (named : Named) → Chosen command named ↔ (shown_in choice ≡ (command, named))
 IsChosenBy Chosen (Err Memory) = Unit {0}
-IsChosenBy Chosen (Err complaint) = (command : Command) (file : Option (List ℕ)) → ¬ (Chosen command file)
+IsChosenBy Chosen (Err complaint) = (command : Command) (named : Named) → ¬ (Chosen command named)

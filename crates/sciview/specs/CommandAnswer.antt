@@ -3,18 +3,21 @@ use Rattle.std.specs.Prelude.{◌≡◌, ℕ, Bool, List, Option, Some, None}
 use Rattle.sci_core.specs.declared.dead.DeadEvents.{DeadEvents}
 use Rattle.sci_command.specs.declared.{outcome.Outcome.{Outcome, TheVariants.{Done}}, refusal.Refusal.{Refusal}}
 use Rattle.sci_command.specs.Beginning.{AreDeadBeside}
-use Rattle.sciview.specs.declared.{choice.Command.{Command}, verb.Verb.{Verb}, help.TheConstants.{HELP, VERSION}}
-use Rattle.sciview.specs.declared.help.TheConstants.{ALLOWED, CHART, CHECK, EXPLAIN, JUDGE, LISTS, ORDER, OUTCOMES, PACKETS, RANDOM, RUN, STATS, TRACE}
-use Rattle.sciview.specs.declared.verb.Verb.TheVariants.{Allowed, Chart, Check, Explain, Judge, Lists, Order, Outcomes, Packets, Random, Run, Stats, Trace}
+use Rattle.sciview.specs.declared.{choice.{Choice.{Choice}, Command.{Command}}, verb.Verb.{Verb}, help.TheConstants.{HELP, VERSION}}
+use Rattle.sciview.specs.declared.help.TheConstants.{ALLOWED, CHART, CHECK, EXPLAIN, JUDGE, LISTS, ORDER, OUTCOMES, PACKETS, PAGE, RANDOM, RUN, STATS, TRACE}
+use Rattle.sciview.specs.declared.verb.Verb.TheVariants.{Allowed, Chart, Check, Explain, Judge, Lists, Order, Outcomes, Packets, Page, Random, Run}
+use Rattle.sciview.specs.declared.verb.Verb.TheVariants.{Stats, Trace}
 use Rattle.sci_allowed.specs.AllowedAnswer.{IsAllowedAnswer}
 use Rattle.sci_axe.specs.JudgeAnswer.{IsJudgeAnswer}
 use Rattle.sci_charts.specs.ChartAnswer.{IsChartAnswer}
+use Rattle.sci_pages.specs.PageAnswer.{IsPageAnswer}
 use Rattle.sci_reports.specs.{CheckAnswer.{IsCheckAnswer}, ExplainAnswer.{IsExplainAnswer}, OrderAnswer.{IsOrderAnswer}}
 use Rattle.sci_traces.specs.{ListsAnswer.{IsListsAnswer}, PacketsAnswer.{IsPacketsAnswer}, TraceAnswer.{IsTraceAnswer}}
 use Rattle.sci_outcomes.specs.{OutcomesAnswer.{IsOutcomesAnswer}, RunAnswer.{IsRunAnswer}}
 use Rattle.sci_walks.specs.RandomAnswer.{IsRandomAnswer}
 use Rattle.sci_statistics.specs.StatsAnswer.{IsStatsAnswer}
 use Rattle.sciview.specs.declared.choice.Command.TheVariants as commands
+use Rattle.sciview.specs.Choice.{shown_names, title_of}
 
 -- what a command says of itself
 abbrev pub help_text : Verb → List ℕ
@@ -30,6 +33,7 @@ help_text Trace = TRACE.now
 help_text Lists = LISTS.now
 help_text Stats = STATS.now
 help_text Chart = CHART.now
+help_text Page = PAGE.now
 help_text Random = RANDOM.now
 
 -- what the program says of a command, or of all
@@ -38,23 +42,28 @@ help_for None = HELP.now
 help_for (Some verb) = help_text verb
 
 -- The text that a command writes, and how it ends, for the bytes of a reader, which has failed or not. If `judge` writes a log,
--- `lines` are the addresses of its lines of memory.
-abbrev pub IsAnswerTo : (lines : List ℕ) → Command → Option (List ℕ) → Bool → List ℕ → Outcome → Type 0
-IsAnswerTo lines (commands.Order request) = IsOrderAnswer request
-IsAnswerTo lines commands.Explain = IsExplainAnswer
-IsAnswerTo lines commands.Check = IsCheckAnswer
-IsAnswerTo lines (commands.Judge request) = IsJudgeAnswer request lines
-IsAnswerTo lines commands.Packets = IsPacketsAnswer
-IsAnswerTo lines (commands.Trace request) = IsTraceAnswer request
-IsAnswerTo lines (commands.Lists line) = IsListsAnswer line
-IsAnswerTo lines (commands.Stats request) = IsStatsAnswer request
-IsAnswerTo lines (commands.Chart request) = IsChartAnswer request
-IsAnswerTo lines (commands.Random walk dead) = λ input failed. IsRandomAnswer walk dead
-IsAnswerTo lines (commands.Run request) = IsRunAnswer request
-IsAnswerTo lines (commands.Outcomes request) = IsOutcomesAnswer request
-IsAnswerTo lines (commands.Allowed request) = IsAllowedAnswer request
-IsAnswerTo lines (commands.Help verb) = λ input failed text outcome. (text ≡ help_for verb) × (outcome ≡ Done)
-IsAnswerTo lines commands.Version = λ input failed text outcome. (text ≡ VERSION.now) × (outcome ≡ Done)
+-- `lines` are the addresses of its lines of memory. If `page` writes a page, this is its title.
+abbrev pub IsAnswerFor : (lines title : List ℕ) → Command → Option (List ℕ) → Bool → List ℕ → Outcome → Type 0
+IsAnswerFor lines title (commands.Order request) = IsOrderAnswer request
+IsAnswerFor lines title commands.Explain = IsExplainAnswer
+IsAnswerFor lines title commands.Check = IsCheckAnswer
+IsAnswerFor lines title (commands.Judge request) = IsJudgeAnswer request lines
+IsAnswerFor lines title commands.Packets = IsPacketsAnswer
+IsAnswerFor lines title (commands.Trace request) = IsTraceAnswer request
+IsAnswerFor lines title (commands.Lists line) = IsListsAnswer line
+IsAnswerFor lines title (commands.Stats request) = IsStatsAnswer request
+IsAnswerFor lines title (commands.Chart request) = IsChartAnswer request
+IsAnswerFor lines title (commands.Page request) = IsPageAnswer request title
+IsAnswerFor lines title (commands.Random walk dead) = λ input failed. IsRandomAnswer walk dead
+IsAnswerFor lines title (commands.Run request) = IsRunAnswer request
+IsAnswerFor lines title (commands.Outcomes request) = IsOutcomesAnswer request
+IsAnswerFor lines title (commands.Allowed request) = IsAllowedAnswer request
+IsAnswerFor lines title (commands.Help verb) = λ input failed text outcome. (text ≡ help_for verb) × (outcome ≡ Done)
+IsAnswerFor lines title commands.Version = λ input failed text outcome. (text ≡ VERSION.now) × (outcome ≡ Done)
+
+-- the same of what words choose
+abbrev pub IsAnswerTo : (lines : List ℕ) → Choice → Option (List ℕ) → Bool → List ℕ → Outcome → Type 0
+IsAnswerTo lines choice = IsAnswerFor lines (title_of (shown_names choice.names)) choice.command
 
 -- the addresses of the lines of a log are told by `judge`, and by no other command
 abbrev pub KeepsLines : Command → (old new : List ℕ) → Type 0

@@ -5,13 +5,14 @@ ghost use Rattle.sci_text.specs.Tap.{has_failed, is_called_again, tapped};
 ghost use Rattle.sci_command.specs.{Answer.{IsAnswerAlone}, Writing.{HasCarriedOut, HasWritten}, declared.outcome.Outcome.{Outcome}};
 ghost use Rattle.sciview.specs.CommandAnswer.{AreDeadOf, IsAnswerTo, KeepsLines};
 
-use crate::choice::Command;
+use crate::choice::{Choice, Command};
 use crate::help::{VERSION, help_of};
 use sci_allowed::allowed;
 use sci_axe::judge_trace;
 use sci_charts::chart;
 use sci_command::{Ended, Outcome, parted, show, write_answer};
 use sci_outcomes::{outcomes_of, run};
+use sci_pages::page;
 use sci_reports::{check, explain, order};
 use sci_statistics::stats;
 use sci_text::Tap;
@@ -45,7 +46,7 @@ fn show_words<W: Write>(writer: &mut Tap<W>, words: &str) -> Ended
 pub fn carried_out<T: Threads + Sync, R: Read, W: Write>(
     rt: &T,
     alloc: Global,
-    command: Command,
+    choice: &Choice,
     reader: &mut Tap<R>,
     writer: &mut Tap<W>,
     lines: &mut Vec<u64>,
@@ -53,12 +54,12 @@ pub fn carried_out<T: Threads + Sync, R: Read, W: Write>(
     requires reader { has_failed reader.old ≡ false }
     requires writer { has_failed writer.old ≡ false }
     ensures answer { HasCarriedOut R.remaining W.contents reader.old reader.new writer.old writer.new
-        result.outcome (IsAnswerAlone (IsAnswerTo lines.new.items command) result.refusal) }
-    ensures lines { KeepsLines command lines.old.items lines.new.items }
-    ensures dead { AreDeadOf command (R.remaining (tapped reader.old)) (has_failed reader.new)
+        result.outcome (IsAnswerAlone (IsAnswerTo lines.new.items choice.now) result.refusal) }
+    ensures lines { KeepsLines choice.now.command lines.old.items lines.new.items }
+    ensures dead { AreDeadOf choice.now.command (R.remaining (tapped reader.old)) (has_failed reader.new)
         result.refusal result.dead }
 {
-    match command {
+    match choice.command {
         Command::Order(request) => show(writer, order(alloc, request, reader)),
         Command::Explain => show(writer, explain(alloc, reader)),
         Command::Check => show(writer, check(alloc, reader)),
@@ -73,6 +74,9 @@ pub fn carried_out<T: Threads + Sync, R: Read, W: Write>(
         Command::Chart(request) => {
             let (answered, dead) = parted(chart(alloc, request, reader));
             show(writer, answered).beside(dead)
+        }
+        Command::Page(request) => {
+            show(writer, page(alloc, request, choice.names.title(), reader))
         }
         Command::Random { walk, dead } => { show(writer, random_schedule(alloc, &walk, dead)) }
         Command::Run(request) => show(writer, run(alloc, request, reader)),

@@ -2,8 +2,8 @@
 
 ghost use Rattle.std.specs.Prelude.{◌≡◌, ◌↔◌, ℕ, IfSome, IsTrue, List, [], ◌∷◌, Option, None, Some, codes, map, option_map};
 ghost use Rattle.sciview.specs.declared.choice.Command.{Command};
-ghost use Rattle.sciview.specs.Choice.{Asks, Chooses, ChoosesOf, FitsWalk, IsHelp, asked_events, asked_issuing, asked_order, asked_turns};
-ghost use Rattle.sciview.specs.Choice.{IsChosenBy, command_of, file_words, shown_in, walk_words};
+ghost use Rattle.sciview.specs.Choice.{Asks, Chooses, ChoosesOf, FitsWalk, IsHelp, Named, asked_events, asked_issuing, asked_order, asked_turns};
+ghost use Rattle.sciview.specs.Choice.{IsChosenBy, command_of, IsNamed, name_words, no_names, shown_in, shown_names, title_of, walk_words};
 ghost use Rattle.sci_walks.specs.declared.random.Walk.{Walk};
 
 use crate::complaint::{Complaint, Problem};
@@ -43,6 +43,8 @@ pub enum Command {
     Stats(StatsRequest),
     /// Write a chart of a schedule.
     Chart(ChartRequest),
+    /// Write a page that steps through a schedule.
+    Page(ChartRequest),
     /// Write a schedule that is drawn by chance; `dead` in a hundred of its events may be any events.
     Random { walk: Walk, dead: Option<u64> },
     /// Write the schedule of a script's run.
@@ -57,21 +59,33 @@ pub enum Command {
     Version,
 }
 
-/// What words choose: a command, and the file that it reads. None is standard input.
+/// The words that a command takes as they are.
 #[derive(Clone, Copy)]
-pub struct Choice<'a> {
-    pub command: Command,
+pub struct Names<'a> {
+    /// The title of a page.
+    pub title: Option<&'a str>,
+    /// The file that the command reads. None is standard input.
     pub file: Option<&'a str>,
 }
 
-impl Choice<'_> {
-    /// The command alone.
-    fn of(command: Command) -> Self
-        ensures { shown_in result ≡ (command, None) }
+impl Names<'_> {
+    /// No words.
+    fn none() -> Self
+        ensures { shown_names result ≡ no_names }
     {
-        Choice {
-            command,
+        Names {
+            title: None,
             file: None,
+        }
+    }
+
+    /// The title, or that of a page with none.
+    pub fn title(&self) -> &str
+        ensures { result.now ≡ title_of (shown_names self.now) }
+    {
+        match self.title {
+            Some(title) => title,
+            None => "Schedule",
         }
     }
 
@@ -80,6 +94,25 @@ impl Choice<'_> {
         match self.file {
             Some("-") | None => None,
             Some(file) => Some(file),
+        }
+    }
+}
+
+/// What words choose: a command, and the words that it takes as they are.
+#[derive(Clone, Copy)]
+pub struct Choice<'a> {
+    pub command: Command,
+    pub names: Names<'a>,
+}
+
+impl Choice<'_> {
+    /// The command alone.
+    fn of(command: Command) -> Self
+        ensures { shown_in result ≡ (command, no_names) }
+    {
+        Choice {
+            command,
+            names: Names::none(),
         }
     }
 }
@@ -97,6 +130,7 @@ impl Command {
             Command::Lists { .. } => Verb::Lists.name(),
             Command::Stats(_) => Verb::Stats.name(),
             Command::Chart(_) => Verb::Chart.name(),
+            Command::Page(_) => Verb::Page.name(),
             Command::Random { .. } => Verb::Random.name(),
             Command::Run(_) => Verb::Run.name(),
             Command::Outcomes(_) => Verb::Outcomes.name(),
@@ -199,6 +233,10 @@ fn command_of(verb: Verb, given: &Given) -> Option<Command>
             line,
             events: events_of(given),
         }),
+        Verb::Page => Command::Page(ChartRequest {
+            line,
+            events: events_of(given),
+        }),
         Verb::Random => return None,
     };
     Some(command)
@@ -226,7 +264,7 @@ fn walk_of(words: &[&str]) -> Option<Walk>
 fn file_of<'a>(words: &[&'a str]) -> Option<Option<&'a str>>
     ensures { (file : Option (List ℕ))
         → (option_map (option_map (λ word. word.now)) result ≡ Some file) ↔
-        (map (λ word. word.now) words.now ≡ file_words file) }
+        (map (λ word. word.now) words.now ≡ name_words file) }
 {
     match words {
         [] => Some(None),
@@ -235,23 +273,37 @@ fn file_of<'a>(words: &[&'a str]) -> Option<Option<&'a str>>
     }
 }
 
+/// What words name: a title, if there is one, and then perhaps a file. None if they name something else.
+fn names_of<'a>(titled: bool, words: &[&'a str]) -> Option<Names<'a>>
+    ensures { (named : Named) → (option_map shown_names result ≡ Some named) ↔
+        IsNamed titled (map (λ word. word.now) words.now) named }
+{
+    if !titled {
+        let file = file_of(words)?;
+        return Some(Names { title: None, file });
+    }
+    let (title, rest) = first_of(words)?;
+    let file = file_of(rest)?;
+    Some(Names {
+        title: Some(title),
+        file,
+    })
+}
+
 /// What options and words that stand alone ask of a command. None if they ask nothing that it does.
 fn asked_of<'a>(verb: Verb, given: &Given<'a>) -> Option<Choice<'a>>
-    ensures { (command : Command) (file : Option (List ℕ))
-        → (option_map shown_in result ≡ Some (command, file)) ↔
-        Asks verb given.now.settings.items (map (λ word. word.now) given.now.alone.items) command file }
+    ensures { (command : Command) (named : Named)
+        → (option_map shown_in result ≡ Some (command, named)) ↔
+        Asks verb given.now.settings.items (map (λ word. word.now) given.now.alone.items) command named }
 {
     if let Verb::Random = verb {
         let walk = walk_of(&given.alone)?;
         let dead = given.number(OptionName::Dead);
-        return Some(Choice {
-            command: Command::Random { walk, dead },
-            file: None,
-        });
+        return Some(Choice::of(Command::Random { walk, dead }));
     }
     let command = command_of(verb, given)?;
-    let file = file_of(&given.alone)?;
-    Some(Choice { command, file })
+    let names = names_of(given.has(OptionName::Title), &given.alone)?;
+    Some(Choice { command, names })
 }
 
 /// Whether words are one that asks for help.

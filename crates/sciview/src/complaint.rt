@@ -6,7 +6,7 @@ ghost use Rattle.sciview.specs.Choice.{is_refused};
 
 use crate::help::{MANUAL, USAGE};
 use crate::verb::Verb;
-use sci_options::{Argument, Given, Wrong};
+use sci_options::{Argument, Given, OptionName, Wrong};
 use std::fmt;
 use std::fmt::{Display, Formatter};
 
@@ -21,6 +21,8 @@ pub enum Problem<'a> {
     NoWalk,
     /// Two options exclude each other.
     TwoOrders,
+    /// No word is the title.
+    NoTitle,
 }
 
 /// Why words choose no command.
@@ -54,7 +56,11 @@ impl<'a> Problem<'a> {
         if let Verb::Random = verb {
             return Problem::NoWalk;
         }
-        match given.alone.get(1) {
+        let titled = given.has(OptionName::Title);
+        if titled && given.alone.is_empty() {
+            return Problem::NoTitle;
+        }
+        match given.alone.get(1 + usize::from(titled)) {
             Some(word) => Problem::Extra(*word),
             None => Problem::TwoOrders,
         }
@@ -80,6 +86,9 @@ impl Display for Problem<'_> {
     fn fmt<W: fmt::Write>(&self, f: &mut Formatter<W>) -> fmt::Result {
         match self {
             Problem::Word(Wrong::NoOption(word)) => write!(f, "{word}: no such option"),
+            Problem::Word(Wrong::NoValue(OptionName::Title, _)) => {
+                write!(f, "--title: the title is a word of its own")
+            }
             Problem::Word(Wrong::NoValue(name, argument)) => {
                 write!(f, "{}: expected ", name.word())?;
                 write_expected(*argument, f)
@@ -89,6 +98,7 @@ impl Display for Problem<'_> {
             Problem::Extra(word) => write!(f, "{word}: one FILE at most"),
             Problem::NoWalk => write!(f, "expected five numbers below 2^64"),
             Problem::TwoOrders => write!(f, "--seed and --threads exclude each other"),
+            Problem::NoTitle => write!(f, "--title: expected a title"),
         }
     }
 }

@@ -7,7 +7,7 @@ use crate::verb::Verb;
 
 /// How the program is called.
 pub const USAGE: &str =
-    "usage: sciview COMMAND [OPTIONS] [FILE]; COMMAND is order, explain, judge, check, packets, trace, lists, stats, chart, random, run, outcomes or allowed";
+    "usage: sciview COMMAND [OPTIONS] [FILE]; COMMAND is order, explain, judge, check, packets, trace, lists, stats, chart, page, random, run, outcomes or allowed";
 
 /// What stands below the usage line on standard error.
 pub const MANUAL: &str = "sciview --help says what each command does. The manual is sciview(1).";
@@ -31,6 +31,7 @@ usage: sciview COMMAND [OPTIONS] [FILE]
   lists      the sharing lists behind a schedule's events
   stats      figures of a schedule
   chart      a picture of a schedule in SVG
+  page       a page that steps through a schedule in a browser
   random     a schedule that is drawn from a seed
 
   sciview COMMAND --help   the options of a command, and what it writes
@@ -194,6 +195,20 @@ A message sequence chart of the events of a schedule in SVG.
                 of the events on the schedule's lines FIRST to LAST alone
 ";
 
+/// What `page --help` writes.
+pub const PAGE: &str = "\
+usage: sciview page [--line L] [--events FIRST LAST] [--title T] [FILE]
+
+A page of HTML that steps through a schedule in a browser, with no other file and
+no request: the states of its nodes, its sharing lists, the packets under way,
+and what each event did. It has at most 10,000 events.
+
+  --line L      of the events about the line L, 0 to 63, alone
+  --events FIRST LAST
+                of the events on the schedule's lines FIRST to LAST alone
+  --title T     with the title T, the first word that belongs to no option
+";
+
 /// What `random --help` writes.
 pub const RANDOM: &str = "\
 usage: sciview random N M C EVENTS SEED [--dead K]
@@ -234,6 +249,7 @@ impl Verb {
             Verb::Lists => LISTS,
             Verb::Stats => STATS,
             Verb::Chart => CHART,
+            Verb::Page => PAGE,
             Verb::Random => RANDOM,
         }
     }

@@ -43,7 +43,7 @@ fn main(rt: HostRuntime) -> ExitCode {
         Err(complaint) => return complain(&rt, complaint),
     };
     let command = choice.command;
-    let opened = match choice.file_to_open() {
+    let opened = match choice.names.file_to_open() {
         Some(file) => match fs::open(&rt, file) {
             Ok(input) => Some(input),
             Err(_) => {
@@ -62,7 +62,7 @@ fn main(rt: HostRuntime) -> ExitCode {
             carried_out(
                 &rt,
                 rt.alloc(),
-                command,
+                &choice,
                 &mut reader,
                 &mut writer,
                 &mut lines,
@@ -73,7 +73,7 @@ fn main(rt: HostRuntime) -> ExitCode {
             carried_out(
                 &rt,
                 rt.alloc(),
-                command,
+                &choice,
                 &mut reader,
                 &mut writer,
                 &mut lines,

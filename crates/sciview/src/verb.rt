@@ -35,6 +35,8 @@ pub enum Verb {
     Stats,
     /// A chart of a schedule.
     Chart,
+    /// A page that steps through a schedule.
+    Page,
     /// A schedule that is drawn by chance.
     Random,
 }
@@ -144,6 +146,11 @@ const TIMES: OptionRow = OptionRow {
     argument: Argument::Nothing,
 };
 
+const TITLE: OptionRow = OptionRow {
+    name: OptionName::Title,
+    argument: Argument::Nothing,
+};
+
 const TURNS: OptionRow = OptionRow {
     name: OptionName::Turns,
     argument: Argument::Number {
@@ -170,6 +177,7 @@ impl Verb {
             "lists" => Some(Verb::Lists),
             "stats" => Some(Verb::Stats),
             "chart" => Some(Verb::Chart),
+            "page" => Some(Verb::Page),
             "random" => Some(Verb::Random),
             _ => None,
         }
@@ -189,6 +197,7 @@ impl Verb {
             Verb::Lists => &[LINE],
             Verb::Stats => &[LINE, NODE],
             Verb::Chart => &[LINE, EVENTS],
+            Verb::Page => &[LINE, EVENTS, TITLE],
             Verb::Random => &[DEAD],
             Verb::Explain | Verb::Check | Verb::Packets => &[],
         }
@@ -209,6 +218,7 @@ impl Verb {
             Verb::Lists => "sciview lists",
             Verb::Stats => "sciview stats",
             Verb::Chart => "sciview chart",
+            Verb::Page => "sciview page",
             Verb::Random => "sciview random",
         }
     }

@@ -9,13 +9,14 @@ use Rattle.sciview.specs.declared.help.TheConstants.{VERSION}
 use Rattle.sci_allowed.specs.AllowedAnswer.{IsAllowedAnswer, IsAllowedRefusal}
 use Rattle.sci_axe.specs.JudgeAnswer.{IsJudgeAnswer, IsJudgeRefusal}
 use Rattle.sci_charts.specs.ChartAnswer.{IsChartAnswer}
+use Rattle.sci_pages.specs.PageAnswer.{IsPageAnswer, IsPageRefusal}
 use Rattle.sci_reports.specs.{CheckAnswer.{IsCheckAnswer, IsLastFault}, ExplainAnswer.{IsExplainAnswer}}
 use Rattle.sci_reports.specs.OrderAnswer.{IsOrderAnswer}
 use Rattle.sci_traces.specs.{ListsAnswer.{IsListsAnswer}, PacketsAnswer.{IsPacketsAnswer}, TraceAnswer.{IsTraceAnswer}}
 use Rattle.sci_outcomes.specs.{OutcomesAnswer.{IsOutcomesAnswer, IsOutcomesRefusal}, RunAnswer.{IsLongRun, IsRunAnswer, IsRunRefusal}}
 use Rattle.sci_walks.specs.RandomAnswer.{IsRandomAnswer, IsWalkFault}
 use Rattle.sci_statistics.specs.StatsAnswer.{IsStatsAnswer, IsStatsFault}
-use Rattle.sciview.specs.CommandAnswer.{help_for}
+use Rattle.sciview.specs.{Choice.{shown_names, title_of}, CommandAnswer.{help_for}}
 use Rattle.sciview.proofs.carrying_out.carried_out.Goals as goal
 
 -- words of the program's own
@@ -103,6 +104,14 @@ returns-in-Chart-clause-dead g c =
     let refusal = rw parted.answer at c.show-in-Chart.ensures.refusal in
     rw (c.in-Chart.is, beside.refusal, beside.dead)
     (dead_beside _ _ c.chart.result c.chart.ensures.dead c.show-in-Chart.result.refusal refusal c.parted-answered-in-Chart.result.1 parted.dead)
+
+pub returns-in-Page-clause-answer : goal.returns-in-Page-clause-answer
+returns-in-Page-clause-answer g c =
+    let shown = c.show-in-Page in
+    let request = c.in-Page.request in
+    let title = c.title.ensures in
+    rw c.in-Page.is (carried_out (IsPageAnswer request (title_of (shown_names c.args.choice.now.names))) (IsPageRefusal request) c.page.result
+    shown.result.refusal (λ text is. is) (rw title at c.page.ensures) shown.ensures.refusal shown.ensures.written shown.ensures.again)
 
 pub returns-in-Run-clause-answer : goal.returns-in-Run-clause-answer
 returns-in-Run-clause-answer g c =

@@ -1,14 +1,15 @@
 use Rattle.std.proofs.Common.{◌≡◌, ◌↔◌, ℕ, List, Option, Some, option_map, map, sym, ◌∙◌}
-use Rattle.sci_options.specs.Given.{texts}
-use Rattle.sciview.specs.Choice.{file_words}
+use Rattle.sci_options.specs.{Given.{texts}, Options.{is_given}}
+use Rattle.sci_options.specs.declared.option_name.OptionName.TheVariants as options
+use Rattle.sciview.specs.Choice.{IsNamed, Named, shown_names}
 use Rattle.sciview.proofs.Chosen.{asked_text}
 use Rattle.sciview.proofs.choice.asked_of.Goals as goal
 
 pub returns : goal.returns
 returns c =
     let given = c.args.given.now in
-    let named = option_map (λ word. word.now) c.in_ok-file.file in
-    let files : (file : Option (List ℕ)) → (Some named ≡ Some file) ↔ (texts given.alone.items ≡ file_words file) =
-    λ file. rw c.in_ok-file.was at (rw c.deref-2.ensures.value at (c.file_of.ensures file)) in
-    asked_text c.args.verb given.settings.items (texts given.alone.items) c.in_ok-command.command named c.in_default.not-Random
-    (sym c.command_of.ensures ∙ c.in_ok-command.was) files
+    let names = shown_names c.in_ok-names.names in
+    let named : (named : Named) → (Some names ≡ Some named) ↔ IsNamed (is_given options.Title given.settings.items) (texts given.alone.items) named =
+    λ named. rw (c.in_ok-names.was, c.has.ensures) at (rw c.deref-2.ensures.value at (c.names_of.ensures named)) in
+    asked_text c.args.verb given.settings.items (texts given.alone.items) c.in_ok-command.command names c.in_default.not-Random
+    (sym c.command_of.ensures ∙ c.in_ok-command.was) named
