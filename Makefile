@@ -8,7 +8,7 @@ NEED_CARGO = command -v cargo > /dev/null || { echo "cargo is missing: install R
 PROGRAMS = crates/scimem/out/scimem crates/sciview/out/sciview crates/sci_circle/out/sci_circle
 SOURCES = crates.txt HANDLES $(shell find crates -name out -prune -o -path '*_tests' -prune -o \( -name '*.rt' -o -name '*.antt' \) -print)
 
-.PHONY: try run test check cosim bindings fmt bench growth instructions fuzz soak faults install build library install-library plants cases examples charts clean
+.PHONY: try run test check cosim bindings fmt bench growth instructions fuzz soak faults install build library install-library plants cases examples charts pages clean
 
 PREFIX = /usr/local
 
@@ -90,6 +90,10 @@ examples: build
 # Draws charts of the schedules of examples/ and of a made one, and checks whether they show what the schedules do.
 charts: build
 	@scripts/gate/check_charts.py
+
+# Opens pages of schedules in a browser, and checks whether they show what the schedules do.
+pages: build
+	@scripts/gate/check_page.py
 
 # Puts the programs and their manual pages into PREFIX/bin and PREFIX/share/man, below DESTDIR if that is set. With rt on the
 # PATH the programs are built first; without it, as under sudo, those that are built are taken.

@@ -95,6 +95,7 @@ def larger_cases(faults, name, program, count):
             "lists": schedule,
             "stats": schedule,
             "chart": schedule,
+            "page": schedule,
         },
     }
     usage = usage_of(faults.top, name)

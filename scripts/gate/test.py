@@ -1,9 +1,9 @@
 #!/usr/bin/env python3
 """The gate. First the pages are checked, and their table of definitions. Then rt ci proves every crate and its tests, tries
-the must-fail edits, and runs the tests. The programs that it built run on the stored cases, on the examples and for charts.
-The C library is built over the libraries that it built, and tried, and so is what stands on it: Python, Rust, and simulators if there
-are any. Then programs and tests run with memory, reads and writes
-refused. At the end stands how long each stage took; the last line is 'N passed, M failed', of all stages."""
+the must-fail edits, and runs the tests. The programs that it built run on the stored cases, on the examples, for charts, and
+for pages in a browser. The C library is built over the libraries that it built, and tried, and so is what stands on it: Python, Rust,
+and simulators if there are any. Then programs and tests run with memory, reads and writes refused. At the end stands how long each
+stage took; the last line is 'N passed, M failed', of all stages."""
 
 import os
 import re
@@ -23,6 +23,7 @@ STAGES = {
     "stored cases": ["scripts/gate/run_cases.py"],
     "examples": ["scripts/gate/run_examples.py"],
     "charts": ["scripts/gate/check_charts.py"],
+    "pages in a browser": ["scripts/gate/check_page.py"],
     "the C library, built": ["scripts/gate/build_library.py"],
     "the C library": ["scripts/gate/check_library.py"],
     "Python and Rust": ["scripts/gate/check_bindings.py"],
