@@ -8,10 +8,11 @@
     lawful
 
 The package is the C library's interface in Python's manner: each method is a function of lichenknit.h, a status that isn't SCI_OK is an
-exception, and what isn't there is None."""
+exception, and what isn't there is None. `judge` alone asks the program sciview."""
 
 from ._library import library
 from .errors import BadPacket, BadText, Error, Full, Misuse, NoMemory, NotEnabled, OutOfRange
+from .judging import BadTrace, Judgement, judge
 from .logs import Log, Logs
 from .machine import Machine
 from .node import Node
@@ -22,9 +23,9 @@ from .values import Contents, Entry, Event, Held, Home, Op, Order, Packet, Seen,
 __version__ = "0.1.0"
 __all__ = [
     "LINE_WORDS", "MAX_LINES", "MAX_NODES", "MAX_OPERATIONS", "MAX_SLOTS", "NO_NODE", "PACKET_BYTES", "PACKET_WORDS", "Act", "AskKind",
-    "BadPacket", "BadText", "Command", "Contents", "Decision", "Entry", "Error", "Event", "EventKind", "Full", "Held", "Home", "HomeState", "Lane",
-    "Log", "Logs", "Machine", "Misuse", "NoMemory", "Node", "NotEnabled", "Obstacle", "Op", "Order", "OrderKind", "OutOfRange", "Packet", "Seen",
-    "State", "Status", "TextKind", "Verdict", "VerdictKind", "Want", "WantKind", "library_version", "packets",
+    "BadPacket", "BadText", "BadTrace", "Command", "Contents", "Decision", "Entry", "Error", "Event", "EventKind", "Full", "Held", "Home", "HomeState",
+    "Judgement", "Lane", "Log", "Logs", "Machine", "Misuse", "NoMemory", "Node", "NotEnabled", "Obstacle", "Op", "Order", "OrderKind", "OutOfRange", "Packet", "Seen",
+    "State", "Status", "TextKind", "Verdict", "VerdictKind", "Want", "WantKind", "judge", "library_version", "packets",
 ]
 
 

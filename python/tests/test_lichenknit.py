@@ -4,13 +4,14 @@ import doctest
 import gc
 import os
 import random
+import shutil
 import threading
 import unittest
 from copy import deepcopy
 
 import lichenknit
-from lichenknit import (Act, AskKind, BadPacket, BadText, Command, Contents, Decision, Entry, Event, HomeState, Lane, Logs, Machine, Misuse,
-                        NoMemory, Node, NotEnabled, Obstacle, Op, OrderKind, OutOfRange, Packet, State, Status, TextKind, VerdictKind, WantKind, packets)
+from lichenknit import (Act, AskKind, BadPacket, BadText, BadTrace, Command, Contents, Decision, Entry, Event, HomeState, Lane, Logs, Machine, Misuse,
+                        NoMemory, Node, NotEnabled, Obstacle, Op, OrderKind, OutOfRange, Packet, State, Status, TextKind, VerdictKind, WantKind, judge, packets)
 
 LOG = "log 2 2 1\nlast 0 @1 7 0 0 0 0 0 0 0\n0 0 store 0 0 7 = - @1\n1 0 load 0 0 = 7 @1\n"
 EXAMPLES = os.path.join(os.path.dirname(os.path.abspath(__file__)), "..", "..", "examples")
@@ -296,6 +297,41 @@ class ManyCalls(unittest.TestCase):
             it.join()
         logs = machine.logs()
         self.assertEqual((len(counts), len(logs), bool(logs.audit())), (4, sum(counts), True))
+
+
+@unittest.skipUnless(shutil.which(os.environ.get("LICHENKNIT_SCIVIEW") or "sciview"), "sciview is missing")
+class Judging(unittest.TestCase):
+    def test_a_coherent_trace(self):
+        found = judge("0: M[8] := 1\n1: M[8] == 1\n")
+        self.assertEqual(found[:5], (True, None, (), "forced", None))
+        self.assertTrue(found)
+        self.assertEqual(judge("0: M[8] := 1\n1: M[8] := 2\n").versions, "free")
+
+    def test_one_order(self):
+        trace = example("store-buffer.trace")
+        self.assertTrue(judge(trace))
+        self.assertFalse(judge(trace, order=True))
+        self.assertIs(judge(trace, order=True).sequential, False)
+        self.assertIs(judge("0: M[8] := 1\n", order=True).sequential, True)
+
+    def test_a_trace_that_is_not_coherent(self):
+        found = judge(example("stale-read.trace"))
+        self.assertEqual((found.coherent, found.address, bool(found)), (False, 8, False))
+        self.assertIn("line 5", found.witness[1])
+        self.assertEqual(str(found).splitlines()[1:], list(found.witness))
+
+    def test_times_and_limit(self):
+        late = example("late-read.trace")
+        self.assertEqual([judge(late).coherent, judge(late, times=True).coherent], [True, False])
+        twice = "0: M[8] := 1\n1: M[8] := 1\n"
+        self.assertEqual([judge(twice).coherent, judge(twice, limit=0).coherent], [True, None])
+        for limit in (-1, 1 << 64):
+            self.assertRaises(OutOfRange, judge, twice, limit=limit)
+
+    def test_a_text_that_is_no_trace(self):
+        with self.assertRaisesRegex(BadTrace, "line 2, column 9: expected") as raised:
+            judge("0: M[8] := 1\n0: M[8] = 2\n")
+        self.assertEqual(raised.exception.line, 2)
 
 
 if __name__ == "__main__":

@@ -19,7 +19,7 @@ def install(room):
     subprocess.run(words, cwd=TOP, check=True, stdout=subprocess.DEVNULL)
     paths = {"PKG_CONFIG_PATH": "lib/pkgconfig", "LD_LIBRARY_PATH": "lib", "CMAKE_PREFIX_PATH": ""}
     return {**os.environ, **{name: f"{room}/{path}" for name, path in paths.items()}, "LICHENKNIT_LIB_DIR": f"{room}/lib",
-            "LICHENKNIT_LIBRARY": f"{room}/lib/liblichenknit.so", "PIP_NO_INDEX": "1", "PIP_DISABLE_PIP_VERSION_CHECK": "1", "PIP_ROOT_USER_ACTION": "ignore",
+            "LICHENKNIT_LIBRARY": f"{room}/lib/liblichenknit.so", "LICHENKNIT_SCIVIEW": f"{TOP}/crates/sciview/out/sciview", "PIP_NO_INDEX": "1", "PIP_DISABLE_PIP_VERSION_CHECK": "1", "PIP_ROOT_USER_ACTION": "ignore",
             "CARGO_TARGET_DIR": f"{TOP}/out/rust", "RUSTFLAGS": "-D warnings"}
 
 
