@@ -74,8 +74,8 @@ install-library: library
 cosim: library
 	@scripts/gate/check_cosim.py
 
-# Builds the C library, and tries the package of Python, the crates of Rust, and the examples of the pages about them.
-bindings: library
+# Builds the C library and sciview, and tries the package of Python, the crates of Rust, and the examples of the pages about them.
+bindings: library crates/sciview/out/sciview
 	@scripts/gate/check_signatures.py
 	@scripts/gate/check_bindings.py
 
