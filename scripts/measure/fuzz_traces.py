@@ -10,7 +10,7 @@ have times, and some say last words. Of a coherent trace it is counted how many 
 they are said to be forced; where they are said to be undecided, nothing is wanted. The log is asked for, too: it has to have the
 trace's operations in each processor's order, and one memory of one thread has to explain each line, by the log's versions, which
 have to respect the times if these count. With `--order` the answer has to be that of a search of all orders; it may be unknown if
-the trace isn't sequentially consistent, or times count. The last line is 'N passed, M failed', of traces.
+the trace isn't sequentially consistent, and with times only versions that respect them count. The last line is 'N passed, M failed', of traces.
 """
 
 import os
@@ -29,6 +29,7 @@ BATCH = 200
 FOREVER = 2**64 - 1
 
 FIRST = re.compile(rb"(coherent|not coherent at ([0-9]+)|undecided at ([0-9]+))\Z")
+NO_ORDER = (b"not sequentially consistent", b"order unknown")
 STEP = re.compile(rb"(line [0-9]+: |nothing comes between the two of line [0-9]+: |0 at the start comes before line [0-9]+: |nobody wrote the last word)")
 
 
@@ -309,8 +310,8 @@ def is_order(accesses, lasts, timed, run):
     if run.stderr or len(lines) != 4 or run.returncode != (0 if lines[2] == b"sequentially consistent" else 1):
         return False
     if is_sequential(accesses, lasts):
-        return lines[2] == b"sequentially consistent" or timed and lines[2] == b"order unknown"
-    return lines[2] in (b"not sequentially consistent", b"order unknown")
+        return lines[2] == b"sequentially consistent" or timed and lines[2] in NO_ORDER
+    return lines[2] in NO_ORDER
 
 
 def failure(job):
