@@ -22,7 +22,7 @@ use std::io::Read;
 pub struct JudgeRequest {
     /// Whether what ended before another operation at its address began has to stand before it.
     pub timed: bool,
-    /// Whether it is looked for one order of all operations that a memory explains.
+    /// Whether one order of all operations that a memory explains is looked for.
     pub ordered: bool,
     /// How many choices a search makes at most: for an order of all operations, and for those at an address where a word is
     /// written twice. 1,000,000 if it isn't said.
@@ -91,7 +91,7 @@ fn sites_to_log(request: JudgeRequest, judgement: &Judgement) -> Option<&[SiteVe
     }
 }
 
-/// What a search may do if it isn't said: this many choices.
+/// How many choices a search makes at most, if it isn't said.
 const LIMIT: u64 = 1_000_000;
 
 /// Whether one order explains all operations of a coherent trace, if that is asked for.
@@ -112,12 +112,14 @@ fn ordering(
     }
 }
 
-/// Reads a trace to its end and judges the operations at each address. Done, with the line `coherent`, if those at each address
-/// are, or if a log is asked for, with the log. Unlawful, with the line `not coherent at A` and a witness, if those at an address
-/// aren't, and with the line `undecided at A` if nothing was found of them. A text with a fault is refused, as are a reader that
-/// fails, too long an input and running out of memory, at line 0; so is a coherent trace with more than 64 addresses or more than
-/// 65,536 operations of a processor, or of which no log was found, if a log is asked for. After a failed read nothing more is
-/// read. If a log is written, `lines` are the addresses of its lines of memory; if a verdict is, there are none.
+/// Reads a trace to its end and judges the operations at each address. Done, with the line `coherent` and one that says whether
+/// other versions explain them as well, if those at each address are coherent; or if a log is asked for, with the log. If an order
+/// of all operations is asked for, one more line says whether there is one, and the answer is Unlawful unless one was found. It is
+/// Unlawful with the line `not coherent at A` and a witness, if those at an address aren't, and with the line `undecided at A` if
+/// nothing was found of them. A text with a fault is refused, as are a reader that fails, too long an input and running out of
+/// memory, at line 0; so is a coherent trace with more than 64 addresses or more than 65,536 operations of a processor, or of which
+/// no log was found, if a log is asked for. After a failed read nothing more is read. If a log is written, `lines` are the addresses
+/// of its lines of memory; if a verdict is, there are none.
 pub fn judge_trace<R: Read>(
     alloc: Global,
     request: JudgeRequest,
