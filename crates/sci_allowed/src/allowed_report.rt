@@ -18,7 +18,7 @@ use crate::rows::{AllowedRow, TOO_MANY_POSITIONS, window_of};
 use crate::verdict::push_verdict;
 use sci_command::{Answer, Answered, Note, Outcome as Ending, Refusal, push_labelled};
 use sci_drive::Issuing;
-use sci_text::{Tap, TextFault, TextFaultKind, push_field, push_text, schedule_text};
+use sci_text::{Tap, TextFaultKind, push_field, push_text, schedule_text};
 use std::alloc::{AllocError, Global};
 use std::io::Read;
 
@@ -153,17 +153,10 @@ fn refusal_of(alloc: Global, fault: AllowedFault) -> Refusal
         AllowedFault::TooMany => (TextFaultKind::TooMany, Note::Fixed(TOO_MANY_POSITIONS)),
         AllowedFault::TooLong => (TextFaultKind::TooMany, Note::Fixed(TOO_LONG)),
         AllowedFault::NoRow { rows } => {
-            let note = match no_row(alloc, rows) {
-                Ok(words) => Note::Made(words),
-                Err(_) => Note::Kind,
-            };
-            (TextFaultKind::Range, note)
+            (TextFaultKind::Range, Note::of_made(no_row(alloc, rows)))
         }
     };
-    Refusal {
-        fault: TextFault { line: 0, kind },
-        note,
-    }
+    Refusal::of_input(kind, note)
 }
 
 /// Reads a script to its end, and gives a line for each outcome that a run of it can have on a new machine, if each node

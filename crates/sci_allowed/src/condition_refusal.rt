@@ -71,9 +71,8 @@ pub(crate) fn refusal_of(
     if !is_plain || words.len() > MAX_TEXT_LINE_BYTES {
         return Refusal::of_text(alloc, TextKind::Script.known(), input, told);
     }
-    let note = match words_of(alloc, words, fault) {
-        Ok(words) => Note::Made(words),
-        Err(_) => Note::Kind,
-    };
-    Refusal { fault: told, note }
+    Refusal {
+        fault: told,
+        note: Note::of_made(words_of(alloc, words, fault)),
+    }
 }

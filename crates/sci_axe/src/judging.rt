@@ -12,7 +12,7 @@ use sci_command::{Answer, Answered, Note, Outcome, Refusal};
 use sci_judge::{
     Consistency, Judgement, NoLog, SiteVersions, Trace, Way, consistency_of, judge, log_of,
 };
-use sci_text::{Tap, TextFault, TextFaultKind, logs_text, read_input};
+use sci_text::{Tap, TextFaultKind, logs_text, read_input};
 use sci_words::MAX_NODES;
 use std::alloc::{AllocError, Global};
 use std::io::Read;
@@ -42,13 +42,7 @@ fn refusal_of(none: NoLog) -> Refusal
         NoLog::Operations => "a log has at most 65,536 operations of a processor",
         NoLog::NotFound => "no log was found",
     };
-    Refusal {
-        fault: TextFault {
-            line: 0,
-            kind: TextFaultKind::TooMany,
-        },
-        note: Note::Fixed(words),
-    }
+    Refusal::of_input(TextFaultKind::TooMany, Note::Fixed(words))
 }
 
 /// Appends the addresses of the sites.

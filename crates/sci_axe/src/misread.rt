@@ -235,11 +235,10 @@ fn refusal_of(alloc: Global, input: &[u8], fault: TextFault) -> Refusal
     let Some(line) = line_of(input, fault.line) else {
         return Refusal::from(fault);
     };
-    let note = match misread(alloc, line.bytes, fault.kind) {
-        Ok(words) => Note::Made(words),
-        Err(_) => Note::Kind,
-    };
-    Refusal { fault, note }
+    Refusal {
+        fault,
+        note: Note::of_made(misread(alloc, line.bytes, fault.kind)),
+    }
 }
 
 /// The trace whose text the bytes are. Refused as by `trace_of`.

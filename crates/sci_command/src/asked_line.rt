@@ -7,7 +7,7 @@ ghost use Rattle.sci_command.specs.{Input.{IsReadAs}, AskedLine.{HasLine, IsAske
 
 use crate::reading::read_schedule;
 use crate::refusal::{Note, Refusal};
-use sci_text::{Schedule, Tap, TextFault, TextFaultKind, push_field, push_text};
+use sci_text::{Schedule, Tap, TextFaultKind, push_field, push_text};
 use std::alloc::{AllocError, Global};
 use std::io::Read;
 
@@ -67,17 +67,8 @@ impl Asked {
         ensures line { result.fault.line ≡ 0 }
         ensures kind { result.fault.kind ≡ Range }
     {
-        let note = match lacking(alloc, self, number, count) {
-            Ok(words) => Note::Made(words),
-            Err(_) => Note::Kind,
-        };
-        Refusal {
-            fault: TextFault {
-                line: 0,
-                kind: TextFaultKind::Range,
-            },
-            note,
-        }
+        let note = Note::of_made(lacking(alloc, self, number, count));
+        Refusal::of_input(TextFaultKind::Range, note)
     }
 }
 

@@ -19,6 +19,16 @@ pub enum Note {
     Made(Vec<u8>),
 }
 
+impl Note {
+    /// The words that were made of the input, or else, where memory was refused, what kind of fault it is.
+    pub fn of_made(words: Result<Vec<u8>, AllocError>) -> Note {
+        match words {
+            Ok(words) => Note::Made(words),
+            Err(_) => Note::Kind,
+        }
+    }
+}
+
 /// Why an input is refused.
 #[derive(Debug, Drop)]
 pub struct Refusal {
@@ -62,11 +72,19 @@ impl Refusal {
         if fault.line == 0 {
             return Refusal::from(fault);
         }
-        let note = match diagnosis(alloc, read_as, text, fault) {
-            Ok(words) => Note::Made(words),
-            Err(_) => Note::Kind,
-        };
+        let note = Note::of_made(diagnosis(alloc, read_as, text, fault));
         Refusal { fault, note }
+    }
+
+    /// The refusal of a whole input, which is line 0.
+    pub fn of_input(kind: TextFaultKind, note: Note) -> Refusal
+        ensures line { result.fault.line ≡ 0 }
+        ensures kind { result.fault.kind ≡ kind }
+    {
+        Refusal {
+            fault: TextFault::of_input(kind),
+            note,
+        }
     }
 }
 

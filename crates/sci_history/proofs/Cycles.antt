@@ -13,17 +13,17 @@ use Rattle.sci_history.proofs.Placement.{place}
 -- ---- where an entry that passes a test stands among all
 
 -- the place of the entry that stands at this place among those that pass
-abbrev place_in : (Entry → Bool) → List Entry → ℕ → ℕ
+abbrev pub place_in : (Entry → Bool) → List Entry → ℕ → ℕ
 place_in p [] k = 0
 place_in p (e ∷ es) zero = cond (p e) 0 (suc (place_in p es 0))
 place_in p (e ∷ es) (suc k) = cond (p e) (suc (place_in p es k)) (suc (place_in p es (suc k)))
 
 -- they are different: a pair of facts at each place
-record StandsAt (p : Entry → Bool) (es : List Entry) (k : ℕ) : Type 0 where
+pub record StandsAt (p : Entry → Bool) (es : List Entry) (k : ℕ) : Type 0 where
   pub below : place_in p es k < length es
   pub same : get_or es (place_in p es k) no_entry ≡ get_or (filter p es) k no_entry
 
-stands : (p : Entry → Bool) (es : List Entry) (k : ℕ) → k < length (filter p es) → StandsAt p es k
+pub stands : (p : Entry → Bool) (es : List Entry) (k : ℕ) → k < length (filter p es) → StandsAt p es k
 stands p [] k lt = absurd (omega arith)
 stands p (e ∷ es) zero lt = elim (cases_Bool (p e)) [
   | inl passes ↦ record { below = rw passes (omega arith); same = rw passes refl }
@@ -45,7 +45,7 @@ stands p (e ∷ es) (suc k) lt = elim (cases_Bool (p e)) [
 ]
 
 -- a later one among those that pass stands later
-later : (p : Entry → Bool) (es : List Entry) (j k : ℕ) → j < k → k < length (filter p es) → place_in p es j < place_in p es k
+pub later : (p : Entry → Bool) (es : List Entry) (j k : ℕ) → j < k → k < length (filter p es) → place_in p es j < place_in p es k
 later p [] j k lt inside = absurd (omega arith)
 later p (e ∷ es) j zero lt inside = absurd (omega arith)
 later p (e ∷ es) zero (suc k) lt inside = elim (cases_Bool (p e)) [
@@ -88,7 +88,7 @@ in_order_at key p (e ∷ es) (suc i) (suc j) ordered lt inside here there = elim
 ]
 
 -- what has the lesser key stands before
-before_by_key : (key : Entry → ℕ) (p : Entry → Bool) (es : List Entry) (i j : ℕ) → IsInOrder key (filter p es) → i < length es → j < length es
+pub before_by_key : (key : Entry → ℕ) (p : Entry → Bool) (es : List Entry) (i j : ℕ) → IsInOrder key (filter p es) → i < length es → j < length es
     → p (get_or es i no_entry) ≡ true → p (get_or es j no_entry) ≡ true
     → key (get_or es i no_entry) < key (get_or es j no_entry) → i < j
 before_by_key key p es i j ordered low high here there less = elim (cases_lt i j) [

@@ -20,7 +20,7 @@ use sci_allowed::{
 use sci_command::{Answer, Answered, Note, Refusal, push_labelled};
 use sci_drive::Issuing;
 use sci_orders::OrdersFault;
-use sci_text::{Tap, TextFault, TextFaultKind, push_text};
+use sci_text::{Tap, TextFaultKind, push_text};
 use std::alloc::{AllocError, Global};
 use std::io::Read;
 use std::thread::Threads;
@@ -208,10 +208,7 @@ fn big_refusal(fault: OrdersFault) -> Refusal
         OrdersFault::Memory => (TextFaultKind::Memory, Note::Kind),
         OrdersFault::TooMany => (TextFaultKind::TooMany, Note::Fixed(TOO_MANY_POSITIONS)),
     };
-    Refusal {
-        fault: TextFault { line: 0, kind },
-        note,
-    }
+    Refusal::of_input(kind, note)
 }
 
 /// All rows of a script, if they are asked for. A refusal has line 0.

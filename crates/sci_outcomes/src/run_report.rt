@@ -8,7 +8,7 @@ ghost use Rattle.sci_outcomes.specs.RunAnswer.{IsLongRun, IsRunAnswer, IsRunRefu
 use sci_command::{Answer, Answered, Note, Outcome, Refusal, read_script};
 use sci_drive::Issuing;
 use sci_runs::{Plan, RunFault, run_script};
-use sci_text::{Tap, TextFault, TextFaultKind, schedule_text};
+use sci_text::{Tap, TextFaultKind, schedule_text};
 use sci_words::MAX_TURNS;
 use std::alloc::Global;
 use std::io::Read;
@@ -49,10 +49,7 @@ pub(crate) fn refusal_of(fault: RunFault, too_long: &'static str) -> Refusal
         RunFault::Memory => (TextFaultKind::Memory, Note::Kind),
         RunFault::TooMany => (TextFaultKind::TooMany, Note::Fixed(too_long)),
     };
-    Refusal {
-        fault: TextFault { line: 0, kind },
-        note,
-    }
+    Refusal::of_input(kind, note)
 }
 
 /// Reads a script to its end, runs it by the policy on a new machine whose nodes take one turn after another, and gives the

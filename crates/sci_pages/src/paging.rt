@@ -2,7 +2,6 @@
 
 ghost use Rattle.std.specs.Prelude.{◌≡◌, ◌++◌, ◌<◌, ℕ, List, length, false, None, IfOk, IfSome, OnOk};
 ghost use Rattle.sci_text.specs.{declared.fault.TextFaultKind.TheVariants.{TooMany}, Tap.{has_failed}};
-ghost use Rattle.sci_text.specs.Script.{machine_line};
 ghost use Rattle.sci_core.specs.{Core.{step}, Reached.{IsReached}};
 ghost use Rattle.sci_command.specs.Answer.{HasAnswered};
 ghost use Rattle.sci_charts.specs.Rows.{shown_places};
@@ -13,7 +12,7 @@ use sci_charts::ChartRequest;
 use sci_command::{Answer, Answered, Note, Outcome, Refusal, read_asked};
 use sci_core::Machine;
 use sci_statistics::{applied, line_about};
-use sci_text::{Schedule, Tap, TextFault, TextFaultKind, push_field, push_text};
+use sci_text::{Schedule, Tap, TextFaultKind, push_machine_line};
 use sci_traces::{ListPlace, listed_line, push_json, push_list_behind};
 use sci_words::{Event, Extent, MAX_OPERATIONS};
 use std::alloc::{AllocError, Global};
@@ -28,19 +27,6 @@ pub const MAX_PAGE_EVENTS: u32 = 10_000;
 /// What is said of a page that would have more.
 const TOO_LONG: &str =
     "a page has at most 10,000 events: --events FIRST LAST or --line L takes some of them";
-
-/// Appends the size of a machine, as a schedule begins with it.
-#[tactic(auto, unfolding(sci_text::specs::Script::machine_line))]
-fn push_size(out: &mut Vec<u8>, extent: Extent) -> Result<(), AllocError>
-    ensures { OnOk result (out.new.items
-        ≡ out.old.items ++ machine_line extent.nodes extent.lines extent.slots) }
-{
-    push_text(out, "machine")?;
-    push_field(out, u64::from(extent.nodes))?;
-    push_field(out, u64::from(extent.lines))?;
-    push_field(out, u64::from(extent.slots))?;
-    push_text(out, "\n")
-}
 
 /// Takes a step, and appends what a trace writes of the event as JSON, and the list behind it, if it may have changed one.
 fn push_part(
@@ -74,7 +60,7 @@ fn data_of(
 {
     let mut machine = Machine::new(alloc, schedule.extent(), MAX_OPERATIONS)?;
     let mut data = Vec::new(alloc);
-    push_size(&mut data, schedule.extent())?;
+    push_machine_line(&mut data, schedule.extent())?;
     let mut number = FIRST_EVENT_LINE;
     let mut count = 0;
     for event in schedule.events() {
@@ -101,13 +87,7 @@ fn too_long() -> Refusal
     ensures line { result.fault.line ≡ 0 }
     ensures kind { result.fault.kind ≡ TooMany }
 {
-    Refusal {
-        fault: TextFault {
-            line: 0,
-            kind: TextFaultKind::TooMany,
-        },
-        note: Note::Fixed(TOO_LONG),
-    }
+    Refusal::of_input(TextFaultKind::TooMany, Note::Fixed(TOO_LONG))
 }
 
 /// Reads a schedule to its end, applies its events in text order to a new machine whose nodes may each issue 65,536

@@ -50,7 +50,7 @@ impl TextFault {
     ghost use Rattle.sci_text.specs.FirstFault.{told_line};
 
     /// A fault of the whole input.
-    pub(crate) fn of_input(kind: TextFaultKind) -> TextFault
+    pub fn of_input(kind: TextFaultKind) -> TextFault
         ensures line { result.line ≡ 0 }
         ensures kind { result.kind ≡ kind }
     {

@@ -43,7 +43,7 @@ pub use schedule_events::ScheduleEvents;
 pub use schedule_laws::{no_schedule_fault, one_schedule, one_schedule_fault, schedules_are_short};
 pub use schedule_lines::schedule_of;
 pub use schedule_reading::read_schedule;
-pub use schedule_writing::{push_event_line, schedule_text, write_schedule};
+pub use schedule_writing::{push_event_line, push_machine_line, schedule_text, write_schedule};
 pub use script::{PushFault, Script};
 pub use script_laws::{no_fault, one_fault, one_script};
 pub use script_lines::script_of;

@@ -72,8 +72,9 @@ pub fn push_event_line(out: &mut Vec<u8>, event: Event) -> Result<(), AllocError
     out.extend_from_slice(line.as_slice())
 }
 
+/// Appends the line of a machine's size, with which a script and a schedule begin. Refused if memory is.
 #[tactic(auto, unfolding(crate::specs::Script::machine_line))]
-fn push_machine_line(out: &mut Vec<u8>, extent: Extent) -> Result<(), AllocError>
+pub fn push_machine_line(out: &mut Vec<u8>, extent: Extent) -> Result<(), AllocError>
     ensures { OnOk result (
         out.new.items ≡ out.old.items ++ machine_line extent.nodes extent.lines extent.slots) }
 {

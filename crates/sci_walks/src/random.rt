@@ -8,7 +8,7 @@ ghost use Rattle.sci_walks.specs.RandomAnswer.{IsRandomAnswer, IsWalkFault};
 
 use crate::walking::schedule_of;
 use sci_command::{Answer, Answered, Note, Outcome, Refusal};
-use sci_text::{TextFault, TextFaultKind, schedule_text};
+use sci_text::{TextFaultKind, schedule_text};
 use sci_words::{Extent, MAX_EVENTS, MAX_LINES, MAX_NODES, MAX_SLOTS};
 use std::alloc::Global;
 
@@ -63,13 +63,7 @@ fn out_of_range(walk: &Walk) -> Refusal
     } else {
         "--dead: expected a number from 0 to 100"
     };
-    Refusal {
-        fault: TextFault {
-            line: 0,
-            kind: TextFaultKind::Range,
-        },
-        note: Note::Fixed(words),
-    }
+    Refusal::of_input(TextFaultKind::Range, Note::Fixed(words))
 }
 
 /// Gives a schedule of a walk's machine with as many events as it says, drawn from its seed: Done. About `dead` in a

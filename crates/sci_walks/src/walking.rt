@@ -222,10 +222,7 @@ pub fn schedule_of(
     for _event in 0..count {
         let event = next_event(&mut random, &mut machine, share)?;
         if let Err(fault) = schedule.push(event) {
-            return Err(TextFault {
-                line: 0,
-                kind: TextFaultKind::from(fault),
-            });
+            return Err(TextFault::of_input(TextFaultKind::from(fault)));
         }
     }
     Ok(schedule)

@@ -10,7 +10,7 @@ use sci_command::{
     write_answer,
 };
 use sci_packets::{PacketFault, decode};
-use sci_text::{LineEnd, Tap, TextFault, TextFaultKind, read_input};
+use sci_text::{LineEnd, Tap, TextFaultKind, read_input};
 use std::alloc::Global;
 use std::io::{Read, Write};
 
@@ -80,13 +80,10 @@ fn no_packet(outcome: Outcome) -> Option<Refusal>
 {
     match outcome {
         Outcome::Done | Outcome::Unlawful => None,
-        Outcome::Refused => Some(Refusal {
-            fault: TextFault {
-                line: 0,
-                kind: TextFaultKind::Syntax,
-            },
-            note: Note::Fixed("the bytes from the refused one on begin with no packet"),
-        }),
+        Outcome::Refused => {
+            let words = Note::Fixed("the bytes from the refused one on begin with no packet");
+            Some(Refusal::of_input(TextFaultKind::Syntax, words))
+        }
     }
 }
 
