@@ -1,43 +1,50 @@
 #!/bin/sh
-# Runs the first example of the README by rt try, which builds both programs without a proof: a script, the schedule of a run,
-# its log, the audit, and a chart. Each build takes a processor for a while, so the four commands run side by side: each reads
-# the stored text that the one before it writes, and at the end what they wrote is compared with these texts. The files are put
-# into out/try.
+# Runs the first example of the README by rt try, without a proof: a script, the schedule of a run, its log, the audit, and a
+# chart. Each program is built once, both side by side, and runs two commands, each on the stored text that the one before it
+# writes; rt compares what they write with the stored texts, which are shown then. The chart is put into out/try.
 set -eu
 cd "$(dirname "$0")/../.."
-room=out/try
+room=$PWD/out/try
 rm -rf "$room"
-mkdir -p "$room"
+mkdir -p "$room/sciview" "$room/scimem"
 
-# tried NAME PROGRAM WORDS: runs the program, and keeps what it writes, what rt says, and how it ended.
-tried() {
-    name=$1 program=$2
-    shift 2
-    (cd "crates/$program" && rt try -- "$@") > "$room/$name" 2> "$room/$name.said" || touch "$room/$name.failed"
+# put PROGRAM COMMAND INPUT OUTPUT: a case for rt try, in which the command reads one file and has to write the other.
+put() {
+    cp "$3" "$room/$1/$2"
+    cp "$4" "$room/$1/$2.stdout"
+    echo "$2" > "$room/$1/$2.args"
 }
 
-# shown NAME: shows what rt said, and ends, if the run of this name failed.
+# tried PROGRAM: builds the program, runs its cases, and keeps what rt says.
+tried() {
+    (cd "crates/$1" && rt try --cases "$room/$1") > "$room/$1.said" 2>&1 || touch "$room/$1.failed"
+}
+
+# shown PROGRAM: shows what rt said, and ends, if a case of the program failed.
 shown() {
     [ ! -e "$room/$1.failed" ] || { cat "$room/$1.said" >&2; exit 1; }
-    rm "$room/$1.said"
 }
 
-echo "Both programs are being built, each for two commands, side by side." >&2
-tried schedule sciview run < examples/first.script &
-tried log scimem replay < examples/first.schedule &
-tried verdict scimem audit < examples/first.log &
-tried chart.svg sciview chart < examples/first.schedule &
+echo lawful > "$room/lawful"
+put sciview run examples/first.script examples/first.schedule
+put sciview chart examples/first.schedule docs/first.svg
+put scimem replay examples/first.schedule examples/first.log
+put scimem audit examples/first.log "$room/lawful"
+
+echo "Both programs are being built, side by side." >&2
+tried sciview &
+tried scimem &
 wait
-for name in schedule log verdict chart.svg; do shown $name; done
-cmp "$room/schedule" examples/first.schedule
-cmp "$room/log" examples/first.log
+shown sciview
+shown scimem
+cp docs/first.svg out/try/chart.svg
 
 cat examples/first.script
 echo "-- sciview run: the schedule of a run"
-cat "$room/schedule"
+cat examples/first.schedule
 echo "-- scimem replay: its log"
-cat "$room/log"
+cat examples/first.log
 echo "-- scimem audit: whether one memory explains the log"
-cat "$room/verdict"
-echo "-- sciview chart: $room/chart.svg"
+echo lawful
+echo "-- sciview chart: out/try/chart.svg"
 echo "Nothing was proved. make run proves scimem and what it stands on, and then runs it."
