@@ -1,15 +1,16 @@
 -- What a driver does in a round, step by step.
 use Rattle.std.proofs.Common.{◌≡◌, ◌+◌, ◌<◌, ℕ, Bool, true, false, List, [], ◌∷◌, ◌++◌, length, map, Some, if◌then◌else◌, add-one, refl, sym, ap, subst}
-use Rattle.std.proofs.Common.{inl, inr}
+use Rattle.std.proofs.Common.{◌∙◌, arith, inl, inr}
+use Rattle.std.proofs.lemmas.List.{length_push}
 use Rattle.std.specs.{Prelude.{◌↔◌, Result, Ok, IfOk, IsErr}, List.{Contains}, declared.alloc.AllocError.{AllocError}}
 use Rattle.sci_words.specs.declared.operation.Op.{Op}
 use Rattle.sci_history.specs.declared.entry.Entry.{Entry}
 use Rattle.sci_core.specs.{Node.{NodeOf}, Work.{IsIssued, IsLogged}}
 use Rattle.sci_policy.specs.{Deeds.{Deed, Issues}, Worker.{HasSameWork, IsNodeTurn}}
 use Rattle.sci_drive.specs.{declared.driver.Round.{Round}, Calls.{AllDone, Answered, Call, HasHeard, MayIssue, Rest, end_told, reports}}
-use Rattle.sci_drive.specs.Driving.{DriverOf, IsAnswered}
+use Rattle.sci_drive.specs.Driving.{DriverOf, IsAnswered, IsDriven}
 use Rattle.sci_drive.specs.Resting.{AllAreDone, AreBehind, IsAsked, NotAsked, NotYet, in_a_row, is_rest_due, rests_if, row_after}
-use Rattle.sci_drive.specs.Rounds.{ArePerformed, GoRounds, GoesRound, IsHeldBack, IsTried, NoneNow, OneMore, Submits, most_pending, next_op, performed}
+use Rattle.sci_drive.specs.Rounds.{ArePerformed, GoRounds, GoesRound, HasPerformed, IsHeldBack, IsTried, NoneNow, OneMore, Submits, most_pending, next_op, performed}
 use Rattle.sci_drive.specs.Rounds.{turn_of, with_submitted}
 use Rattle.sci_drive.proofs.GateCalls.{heard_on, no_calls, one_call, submit_call}
 
@@ -30,6 +31,27 @@ tried_on line before node after entry was logged = record {
   later = was.later ++ entry ∷ [];
   rest = one_more_performed was.node node after was.later entry was.rest logged;
 }
+
+performed_issued : (before after : NodeOf) (entries : List Entry) → ArePerformed before entries after → after.issued ≡ before.issued
+performed_issued before after [] is = ap (λ (n : NodeOf). n.issued) (sym is)
+performed_issued before after (e ∷ entries) is = performed_issued is.0 after entries is.2 ∙ is.1.issued
+
+performed_log : (before after : NodeOf) (entries : List Entry) → ArePerformed before entries after → length after.log ≡ length before.log + length entries
+performed_log before after [] is = let same = ap (λ (n : NodeOf). length n.log) is in omega (arith, same)
+performed_log before after (e ∷ entries) is =
+    let rest = performed_log is.0 after entries is.2 in
+    let one : length is.0.log ≡ length before.log + 1 = ap (λ (l : List Entry). length l) is.1.log ∙ length_push before.log e in
+    omega (arith, rest, one)
+
+-- the driver is the same, but for what is pending
+pub has_performed : (old new : DriverOf) (before after : NodeOf) (entries : List Entry) → IsDriven old before → IsDriven new after
+    → ArePerformed before entries after → new.script ≡ old.script → new.issuing ≡ old.issuing → HasPerformed old new entries
+has_performed old new before after entries was is performs script issuing =
+    let next : new.next ≡ old.next = sym is.issued ∙ (performed_issued before after entries performs ∙ was.issued) in
+    let longer = performed_log before after entries performs in
+    let first = was.counted in
+    let last = is.counted in
+    record { script = script; issuing = issuing; next = next; fewer = omega (arith, next, longer, first, last) }
 
 -- ---- the calls of what is submitted
 
@@ -60,12 +82,12 @@ module _ {G E : Type 0} (hears : G → List Call → G → Type 0) (hears_on : (
   pub goes : (g h k l : G) (a b c d : DriverOf) (x y z w : NodeOf) (result : Result Round E) (asked : List Call) (first : List Deed) (entries : List Entry)
       → Submits a b x y asked first → HasHeard hears g h a b x y asked
       → ArePerformed y entries z → HasHeard hears h k b c y z (map Answered entries)
-      → ((line : ℕ) → Contains d.pending line → IsTried line y z)
+      → HasPerformed b d entries → ((line : ℕ) → Contains d.pending line → IsTried line y z)
       → HasSameWork z w → IfOk result (λ round. IsNodeTurn z w round.progress)
       → HasHeard hears k l c d z w (end_told a.was_done d.was_done) → IfOk result (λ round. (d.was_done ≡ true) ↔ IsAnswered d)
       → (IsErr result → d.was_done ≡ a.was_done)
       → GoesRound hears ((first ++ map performed entries) ++ turn_of result) g l a d x w result
-  goes g h k l a b c d x y z w result asked first entries submits submitting performs performing tried work turn ending done stopped =
+  goes g h k l a b c d x y z w result asked first entries submits submitting performs performing left tried work turn ending done stopped =
       let behind = heard_on hears hears_on h k l b c d y z w (map Answered entries) (end_told a.was_done d.was_done) performing ending in
       let whole = heard_on hears hears_on g h l a b d x y w asked (reports entries a.was_done d.was_done) submitting behind in record {
         heard = record { calls = asked ++ reports entries a.was_done d.was_done; heard = whole.0; are = whole.1 };
@@ -79,6 +101,7 @@ module _ {G E : Type 0} (hears : G → List Call → G → Type 0) (hears_on : (
           submits = submits;
           entries = entries;
           performs = performs;
+          left = left;
           deeds_are = refl;
           tried = tried;
         };

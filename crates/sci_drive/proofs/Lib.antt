@@ -5,3 +5,4 @@ pub mod InOrder
 pub mod GateRests
 pub mod DriverRounds
 pub mod Fresh
+pub mod Keeping

@@ -61,6 +61,13 @@ pub record IsTried (line : ℕ) (before after : NodeOf) : Type 0 where
   pub later : List Entry
   pub rest : ArePerformed node later after
 
+-- performing leaves a driver as it was, but for its pending lines, of which one goes with each entry
+pub record HasPerformed (old new : DriverOf) (entries : List Entry) : Type 0 where
+  pub script : new.script ≡ old.script
+  pub issuing : new.issuing ≡ old.issuing
+  pub next : new.next ≡ old.next
+  pub fewer : length old.pending ≡ length new.pending + length entries
+
 -- ---- a round
 
 -- What comes before the turn: the next operation is submitted if it can be, and then each that is pending is tried, and
@@ -73,6 +80,7 @@ pub record HasWorked (old new : DriverOf) (before after : NodeOf) (deeds : List 
   pub submits : Submits old driver before node asked first
   pub entries : List Entry
   pub performs : ArePerformed node entries after
+  pub left : HasPerformed driver new entries
   pub deeds_are : deeds ≡ first ++ map performed entries
   pub tried : (line : ℕ) → Contains new.pending line → IsTried line node after
 

@@ -4,9 +4,9 @@ use Rattle.std.proofs.lemmas.List.{append-nil}
 use Rattle.std.specs.{Prelude.{◌↔◌, IfOk, IsErr, Ok, Err, Result}, declared.alloc.AllocError.{AllocError}}
 use Rattle.sci_policy.specs.{declared.progress.Progress.{Progress}, Deeds.{Deed, Turns}, Worker.{IsNodeTurn}}
 use Rattle.sci_drive.specs.{declared.driver.Round.{Round}, Calls.{Call, Done, HasHeard, end_told}, Driving.{DriverOf, IsAnswered, IsDriven, IsInOrder}}
-use Rattle.sci_drive.specs.Rounds.{GoesRound, HasDone, performed, turn_of}
+use Rattle.sci_drive.specs.Rounds.{GoesRound, HasDone, HasPerformed, performed, turn_of}
 use Rattle.sci_drive.proofs.{Drives.{tells, turns}, GateCalls.{done_call, no_calls}, InOrder.{tells_in_order, turns_in_order}}
-use Rattle.sci_drive.proofs.{DriverRounds.{goes}, driver.Driver.round.Goals.{After-turn}}
+use Rattle.sci_drive.proofs.{DriverRounds.{goes, has_performed}, driver.Driver.round.Goals.{After-turn}}
 use Rattle.sci_drive.proofs.driver.Driver.round.Goals as goal
 
 -- what the turn leaves, and what the round is then
@@ -22,6 +22,16 @@ ordered g c was = turns_in_order c.perform-answered.new.self (g.W.Worker.node c.
 -- the deeds before the turn
 abbrev before : (g : _) (c : After-turn g) → List Deed
 before g c = c.submit.ensures.submits.1 ++ map performed c.perform-answered.ensures.performed.0
+
+-- what performing leaves of the driver
+left : (g : _) (c : After-turn g) (done : Bool)
+    → HasPerformed c.submit.new.self (record c.perform-answered.new.self { was_done = done }) c.perform-answered.ensures.performed.0
+left g c done =
+    let performs = c.perform-answered.ensures in
+    let is = has_performed c.submit.new.self c.perform-answered.new.self (g.W.Worker.node c.submit.new.worker)
+    (g.W.Worker.node c.perform-answered.new.worker) performs.performed.0 c.submit.ensures.driven performs.driven performs.performed.1 performs.script
+    performs.issuing in
+    record { script = is.script; issuing = is.issuing; next = is.next; fewer = is.fewer }
 
 gone : (g : _) (c : After-turn g) (later : g.row.G.Denot) (done : Bool) (result : Result Round AllocError)
     → IfOk result (λ round. IsNodeTurn (g.W.Worker.node c.perform-answered.new.worker) (g.W.Worker.node c.turn.new.self) round.progress)
@@ -39,7 +49,7 @@ gone g c later done result turn ending answered stopped =
     goes g.G.Gate.hears g.met.G.Gate.hears_on c.args.gate.now c.submit.new.gate c.perform-answered.new.gate later c.args.self.now c.submit.new.self driver
     (record driver { was_done = done }) (g.W.Worker.node c.args.worker.now) (g.W.Worker.node c.submit.new.worker)
     (g.W.Worker.node c.perform-answered.new.worker) (g.W.Worker.node c.turn.new.self) result submits.0 submits.1 performs.0 submits.2 submits.3 performs.1
-    performs.2 c.perform-answered.ensures.tried c.turn.ensures.work turn
+    performs.2 (left g c done) c.perform-answered.ensures.tried c.turn.ensures.work turn
     (subst (λ (was : Bool). HasHeard g.G.Gate.hears c.perform-answered.new.gate later driver (record driver { was_done = done })
     (g.W.Worker.node c.perform-answered.new.worker) (g.W.Worker.node c.turn.new.self) (end_told was done)) as_before ending)
     answered (λ err. stopped err ∙ as_before)
