@@ -23,3 +23,4 @@ pub mod Passing
 pub mod Copies
 pub mod Ways
 pub mod Refusing
+pub mod ByNode
