@@ -10,7 +10,7 @@ use Rattle.sci_allowed.{proofs.Sameness.{same_shown}, specs.Outcome.{IsPlaceWith
 use Rattle.sci_allowed.specs.declared.{outcome.{Held.{Held}, Replied.{Replied}}, place.Place.{Place}}
 
 -- what two functions give of the numbers from one on is the same, if they give the same of each
-gives_same : {Y : Type 0} (f g : ℕ → Option Y) (a n : ℕ) → ((i : ℕ) → i < a + n → f i ≡ g i)
+pub gives_same : {Y : Type 0} (f g : ℕ → Option Y) (a n : ℕ) → ((i : ℕ) → i < a + n → f i ≡ g i)
     → filter_map f (range_with_len a n) ≡ filter_map g (range_with_len a n)
 gives_same f g a zero same = refl
 gives_same {Y = Y} f g a (suc n) same =
@@ -18,7 +18,7 @@ gives_same {Y = Y} f g a (suc n) same =
     ∙ ap (cons_option (g a)) (gives_same f g (a + 1) n (λ i low. same i (omega arith)))
 
 -- the same of elements
-makes_same : {X Y : Type 0} (P : X → Type 0) (f g : X → Y) (xs : List X) → All P xs → ((x : X) → P x → f x ≡ g x) → map f xs ≡ map g xs
+pub makes_same : {X Y : Type 0} (P : X → Type 0) (f g : X → Y) (xs : List X) → All P xs → ((x : X) → P x → f x ≡ g x) → map f xs ≡ map g xs
 makes_same P f g [] all same = refl
 makes_same {Y = Y} P f g (x ∷ xs) all same =
     ap (λ (y : Y). y ∷ map f xs) (same x (all 0 x (omega arith)))

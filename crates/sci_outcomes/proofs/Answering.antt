@@ -1,11 +1,13 @@
 -- What is written of a script's runs is the answer, and that there are too many positions is why the command is refused.
-use Rattle.std.proofs.Common.{◌≡◌, ◌⊎◌, ℕ, Bool, true, false, List, [], Option, None, Some, sym, subst, ◌∙◌, inl, inr}
+use Rattle.std.proofs.Common.{All, ◌≡◌, ◌⊎◌, ℕ, Bool, true, false, List, [], Option, None, Some, sym, subst, ◌∙◌, inl, inr}
 use Rattle.sci_text.specs.{FirstFault.{AreRead, IsTold}, Script.{ScriptValue}, declared.fault.TextFaultKind.{TextFaultKind, TheVariants.{Memory, TooMany}}}
 use Rattle.sci_drive.specs.Rounds.{most_pending}
 use Rattle.sci_command.specs.{Input.{IsReadAs}, declared.outcome.Outcome.TheVariants.{Done, Unlawful, Refused}}
 use Rattle.sci_allowed.proofs.Verdicts.{verdict_is}
 use Rattle.sci_allowed.specs.{Allowed.{AreRows, IsTooBig}, Conditioned.{IsConditioned, IsConditionedFault}, Verdict.{IsVerdict, ending_of}}
+use Rattle.sci_allowed.specs.Outcome.{IsPlaceWithin, written_places}
 use Rattle.sci_allowed.specs.declared.{condition.FinalCondition.{FinalCondition}, rows.AllowedRow.{AllowedRow}}
+use Rattle.sci_outcomes.proofs.{RowCounts.{row_count}, SightingsAllowed.{rows_allowed}}
 use Rattle.sci_outcomes.specs.OutcomesAnswer.{AreAsked, IsOutcomesAnswer, IsOutcomesRefusal, IsOutcomesText, IsSampleText, IsTable, IsWholeTable}
 use Rattle.sci_outcomes.specs.OutcomesAnswer.{IsWholeText, trials_of}
 use Rattle.sci_outcomes.specs.{SampleVerdict.{IsSampleVerdict, sample_ending, sample_of}, Trials.{AreSeenOf}}
@@ -42,7 +44,8 @@ never : {X : Type 0} → true ≡ false → X
 never is = cc
 
 module _ (request : OutcomesRequest) (script : ScriptValue) (last : Option FinalCondition) (known : Option (List ℕ)) (failed : Bool)
-    (unfailed : failed ≡ false) (text : (input : List ℕ) × AreRead known input × IsConditioned script last input) where
+    (unfailed : failed ≡ false) (text : (input : List ℕ) × AreRead known input × IsConditioned script last input)
+    (within : All (IsPlaceWithin script.lines) (written_places script.lines script.operations)) where
   sample_made : (seen : List Sighting) (out : List ℕ) (ends : ending.Outcome) → request.all ≡ false → AreSeenOf script (trials_of request) seen
       → IsSampleText (trials_of request) last seen out ends → IsOutcomesText request text.0 out ends
   sample_made seen out ends asked runs table = record {
@@ -56,16 +59,19 @@ module _ (request : OutcomesRequest) (script : ScriptValue) (last : Option Final
   }
 
   whole_text_is : (allowed : List AllowedRow) (seen : List Sighting) (out : List ℕ) (ends : ending.Outcome)
-      → AreRows script (most_pending request.issuing) allowed → IsWholeTable (trials_of request) last seen allowed out ends
-      → IsWholeText script (trials_of request) last seen out ends
-  whole_text_is allowed seen out ends rows table =
+      → AreRows script (most_pending request.issuing) allowed → AreSeenOf script (trials_of request) seen
+      → IsWholeTable (trials_of request) last seen allowed out ends → IsWholeText script (trials_of request) last seen out ends
+  whole_text_is allowed seen out ends rows runs table =
       let window = most_pending request.issuing in
       let verdict = verdict_is script window allowed rows last [] table.verdict ends table.adds in
+      let among = rows_allowed script text.2.good within (trials_of request) seen table.rows runs table.rows_are in
       record {
         rows = table.rows;
         rows_are = table.rows_are;
         allowed = allowed;
         all = rows;
+        seen_allowed = among;
+        counted = row_count script window seen table.rows allowed table.rows_are rows.outcomes among;
         verdict = table.verdict;
         is_verdict = subst (λ (t : List ℕ). IsVerdict script window last t ends) (sym verdict.1) verdict.2;
         written = table.written;
@@ -89,7 +95,7 @@ module _ (request : OutcomesRequest) (script : ScriptValue) (last : Option Final
   made None seen out ends asked runs table =
       (sample_made seen out ends asked runs table, sample_ends last table.rows table.verdict ends table.is_verdict)
   made (Some allowed) seen out ends asked runs table =
-      let whole = whole_text_is allowed seen out ends asked.1 table in
+      let whole = whole_text_is allowed seen out ends asked.1 runs table in
       (whole_made seen out ends asked.0 runs whole, verdict_ends script (most_pending request.issuing) last whole.verdict ends whole.is_verdict)
 
   ended : (out : List ℕ) (ends : ending.Outcome) → HasEnded ends → IsOutcomesText request text.0 out ends

@@ -35,7 +35,7 @@ pub same_back : (a b : Outcome) → is_same a b ≡ is_same b a
 same_back = (eq_by_cmp_equiv outcome_total).symm
 
 -- outcomes that are the same are had by the same sightings
-same_sightings : (a b : Outcome) → is_same a b ≡ true → has_outcome a ≡ has_outcome b
+pub same_sightings : (a b : Outcome) → is_same a b ≡ true → has_outcome a ≡ has_outcome b
 same_sightings a b is = fun_ext (λ (s : Sighting). (eq_by_cmp_equiv outcome_total).congr a b s.outcome is)
 
 -- ---- one more
@@ -91,7 +91,7 @@ counts_if p x xs false is rest =
     ap (λ (n : ℕ). n == 0) (let same : count_by p (x ∷ xs) ≡ count_by p xs = omega arith in same) ∙ rest
 
 -- nothing is counted exactly if none passes
-none_counted : {X : Type 0} (p : X → Bool) (xs : List X) → (count_by p xs == 0) ≡ not (list_any p xs)
+pub none_counted : {X : Type 0} (p : X → Bool) (xs : List X) → (count_by p xs == 0) ≡ not (list_any p xs)
 none_counted p [] = refl
 none_counted p (x ∷ xs) = counts_if p x xs (p x) refl (none_counted p xs)
 

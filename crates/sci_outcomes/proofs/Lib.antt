@@ -2,5 +2,13 @@ pub mod SightingCounts
 pub mod Histograms
 pub mod Ranked
 pub mod Sightings
-pub mod Answering
 pub mod Ran
+pub mod TurnsAreQuiet
+pub mod NodeWorks
+pub mod DrawnWorks
+pub mod ThreadWorks
+pub mod SeenOutcome
+pub mod SeenAllowed
+pub mod SightingsAllowed
+pub mod RowCounts
+pub mod Answering

@@ -1,5 +1,5 @@
 -- What `outcomes` writes for its input.
-use Rattle.std.specs.Prelude.{◌≡◌, ◌⊎◌, ℕ, ◌+◌, ◌%◌, ◌^◌, Bool, true, false, List, [], ◌∷◌, ◌++◌, codes, length, Option, None, Some, unwrap_or}
+use Rattle.std.specs.Prelude.{All, ◌≡◌, ◌⊎◌, ℕ, ◌+◌, ◌%◌, ◌^◌, Bool, true, false, List, [], ◌∷◌, ◌++◌, codes, length, Option, None, Some, unwrap_or}
 use Rattle.std.specs.List.{flat_map}
 use Rattle.sci_text.specs.{FirstFault.{IsTold}, Number.{field}, Script.{ScriptValue}}
 use Rattle.sci_text.specs.declared.fault.TextFaultKind.{TextFaultKind, TheVariants.{TooMany}}
@@ -10,7 +10,7 @@ use Rattle.sci_outcomes.specs.declared.histogram.Row.{Row}
 use Rattle.sci_outcomes.specs.declared.outcomes_report.{OutcomesRequest.{OutcomesRequest}, TheConstants.{RUNS, SEED}}
 use Rattle.sci_outcomes.specs.declared.trials.{Trials.{Trials}, Turns.{Turns, TheVariants.{Drawn, Threads}}}
 use Rattle.sci_drive.specs.Rounds.{most_pending}
-use Rattle.sci_allowed.specs.{Allowed.{AreRows, IsTooBig}, Verdict.{AddsVerdict, IsVerdict}, declared.rows.AllowedRow.{AllowedRow}}
+use Rattle.sci_allowed.specs.{Allowed.{AreRows, IsAllowed, IsTooBig}, Outcome.{shown_of}, Verdict.{AddsVerdict, IsVerdict}, declared.rows.AllowedRow.{AllowedRow}}
 use Rattle.sci_outcomes.specs.{Rows.{AreRowsOf, unseen_of}, SampleVerdict.{IsSampleVerdict}, Trials.{AreSeenOf, OneIsGivenUp}}
 use Rattle.sci_outcomes.specs.declared.outcome.Sighting.{Sighting}
 use Rattle.sci_command.specs.declared.outcome.Outcome as ending
@@ -64,13 +64,16 @@ pub record IsSampleText (trials : Trials) (last : Option FinalCondition) (seen :
   pub is_verdict : IsSampleVerdict last rows verdict ends
   pub written : text ≡ outcomes_text trials rows ++ verdict
 
--- the outcomes of the runs are written, all others that a run of the script can have, and whether the condition is true of all runs
+-- The outcomes of the runs are written, all others that a run of the script can have, and whether the condition is true of all runs.
+-- Each outcome that was seen is one that a run can have, so there are as many rows and others as there are outcomes of runs.
 pub record IsWholeText (script : ScriptValue) (trials : Trials) (last : Option FinalCondition) (seen : List Sighting) (text : List ℕ)
     (ends : ending.Outcome) : Type 0 where
   pub rows : List Row
   pub rows_are : AreRowsOf seen rows
   pub allowed : List AllowedRow
   pub all : AreRows script (most_pending trials.issuing) allowed
+  pub seen_allowed : All (λ row. IsAllowed script (most_pending trials.issuing) (shown_of row.outcome)) rows
+  pub counted : length rows + length (unseen_of seen allowed) ≡ length allowed
   pub verdict : List ℕ
   pub is_verdict : IsVerdict script (most_pending trials.issuing) last verdict ends
   pub written : text ≡ whole_text trials rows (unseen_of seen allowed) ++ verdict

@@ -1,16 +1,23 @@
 -- What is written of the runs is the answer, and too many positions are why the script is refused.
-use Rattle.std.proofs.Common.{◌≡◌, ℕ, sym, ap, ◌∙◌}
+use Rattle.std.proofs.Common.{All, ◌≡◌, ℕ, sym, ap, subst, ◌∙◌}
 use Rattle.std.specs.Prelude.{option_map}
 use Rattle.sci_text.specs.Tap.{has_failed, tapped}
+use Rattle.sci_allowed.specs.{Allowed.{IsLitmus}, Outcome.{IsPlaceWithin, written_places}, declared.litmus.Litmus.{Litmus}}
 use Rattle.sci_outcomes.proofs.Answering.{answered_for, refused_for}
 use Rattle.sci_outcomes.specs.declared.trials.{Trials.{Trials}, Turns.{Turns}}
 use Rattle.sci_outcomes.proofs.outcomes_report.outcomes_of.Goals as goal
+
+-- the words that may be written are the machine's
+places_within : (litmus : Litmus) → IsLitmus litmus
+    → All (IsPlaceWithin litmus.script.lines) (written_places litmus.script.lines litmus.script.operations)
+places_within litmus good = subst (All (IsPlaceWithin litmus.script.lines)) good.places good.within
 
 pub returns-in-Err : goal.returns-in-Err
 returns-in-Err g c =
     let read = c.in_ok-litmus.ensures in
     let refusal = c.big_refusal.ensures in (
       refused_for c.args.request _ _ (g.R.Read.remaining (tapped c.args.reader.now)) (has_failed c.read_conditioned.new.reader) read.unfailed read.text
+          (places_within _ read.litmus)
           c.big_refusal.result.fault.kind c.big_refusal.result.fault.line refusal.line refusal.kind
           (λ is. c.in-Err.ensures.many (refusal.many is)),
       c.read_conditioned.ensures.again,
@@ -25,6 +32,7 @@ returns g c =
     let same = ap (λ (n : ℕ). trials n c.unwrap_or-2.result) c.unwrap_or.ensures ∙ ap (trials _) c.unwrap_or-2.ensures in
     let answer = c.in_ok-answer.answer in (
       answered_for request _ _ (g.R.Read.remaining (tapped c.args.reader.now)) (has_failed c.read_conditioned.new.reader) read.unfailed read.text
+          (places_within _ read.litmus)
           (trials c.unwrap_or.result c.unwrap_or-2.result) (option_map (λ rows. rows.items) c.in-Ok.rows) counted.0 answer.text.items answer.outcome same
           c.in-Ok.ensures.rows counted.1 (c.in_ok-answer.ensures counted.0 counted.2),
       c.read_conditioned.ensures.again,
