@@ -1,4 +1,4 @@
--- A search in which nodes issue before anything else is done finds each end that can be reached.
+-- What a node may issue may be issued before anything else is done.
 use Rattle.std.proofs.Common.{◌≡◌, ◌≢◌, ◌⊎◌, ℕ, zero, suc, ◌+◌, ◌-◌, ◌*◌, ◌<◌, ◌==◌, ◌&&◌, nat_lt, not, Bool, true, false, if◌then◌else◌, List, [], ◌∷◌, ◌++◌}
 use Rattle.std.proofs.Common.{length, set, get_or, Option, Some, None, refl, sym, ap, subst, ◌∙◌, arith, inl, inr}
 use Rattle.std.proofs.lemmas.{Bool.{and_parts, cases_eq, cases_lt, eq-eqb, eqb-true, ltb-true}, List.Elements.{All-weaker}}
@@ -39,7 +39,7 @@ may_step operations window p n m =
     ap (step_as operations window p n i) (slice_get_past (answers_of p n) i (omega arith))
     ∙ ap (λ (b : Bool). if b then Some (with_issued_at p n) else None) m.may
 
-waits_step : (operations : Operations) (window : ℕ) (p : Position) (n i : ℕ) → answer_at p n i ≡ answer.Waiting
+pub waits_step : (operations : Operations) (window : ℕ) (p : Position) (n i : ℕ) → answer_at p n i ≡ answer.Waiting
     → step_at operations window p n i ≡ Some (with_performed_at (operation_at operations n i) p n i)
 unfolding step_at
 waits_step operations window p n i waits =
@@ -90,14 +90,14 @@ next_stays operations window p n next is step may =
 
 -- ---- a node that may issue may do so after any other step
 
-may_same : (operations : Operations) (window : ℕ) (p r : Position) (m : ℕ) → answers_of p m ≡ answers_of r m → MayIssue operations window p m
+pub may_same : (operations : Operations) (window : ℕ) (p r : Position) (m : ℕ) → answers_of p m ≡ answers_of r m → MayIssue operations window p m
     → MayIssue operations window r m
 may_same operations window p r m same may = record {
   below = subst (λ (as_ : List Answer). length as_ < length (own_of operations m)) same may.below;
   may = subst (λ (as_ : List Answer). may_issue_next (own_of operations m) as_ window (length as_) ≡ true) same may.may;
 }
 
-may_after : (operations : Operations) (window : ℕ) (p : Position) (n i : ℕ) → n < length p.answers → answer_at p n i ≡ answer.Waiting
+pub may_after : (operations : Operations) (window : ℕ) (p : Position) (n i : ℕ) → n < length p.answers → answer_at p n i ≡ answer.Waiting
     → MayIssue operations window p n → MayIssue operations window (with_performed_at (operation_at operations n i) p n i) n
 may_after operations window p n i lt waits m =
     let op = operation_at operations n i in
@@ -122,14 +122,14 @@ may_after operations window p n i lt waits m =
 
 -- ---- the order of two steps
 
-set_apart : {X : Type 0} (xs : List X) (i j : ℕ) (x y : X) → i ≢ j → set (set xs i x) j y ≡ set (set xs j y) i x
+pub set_apart : {X : Type 0} (xs : List X) (i j : ℕ) (x y : X) → i ≢ j → set (set xs i x) j y ≡ set (set xs j y) i x
 set_apart [] i j x y other = refl
 set_apart (z ∷ zs) zero zero x y other = absurd (other refl)
 set_apart (z ∷ zs) zero (suc j) x y other = refl
 set_apart (z ∷ zs) (suc i) zero x y other = refl
 set_apart (z ∷ zs) (suc i) (suc j) x y other = ap (λ (ws : List _). z ∷ ws) (set_apart zs i j x y (λ e. other (ap suc e)))
 
-set_again : {X : Type 0} (xs : List X) (i : ℕ) (x y : X) → set (set xs i x) i y ≡ set xs i y
+pub set_again : {X : Type 0} (xs : List X) (i : ℕ) (x y : X) → set (set xs i x) i y ≡ set xs i y
 set_again [] i x y = refl
 set_again (z ∷ zs) zero x y = refl
 set_again (z ∷ zs) (suc i) x y = ap (λ (ws : List _). z ∷ ws) (set_again zs i x y)
@@ -152,7 +152,7 @@ issued_twice p n m apart =
     ∙ ap (λ (as_ : List Answer). with_answers p (set (set p.answers m two) n (as_ ++ answer.Waiting ∷ []))) (sym (issued_apart p m n apart)))
 
 -- a node issues before or after an operation is performed
-issued_performed : (op : Op) (p : Position) (n i m : ℕ) → m < length p.answers → n < length p.answers → i < length (answers_of p n)
+pub issued_performed : (op : Op) (p : Position) (n i m : ℕ) → m < length p.answers → n < length p.answers → i < length (answers_of p n)
     → with_issued_at (with_performed_at op p n i) m ≡ with_performed_at op (with_issued_at p m) n i
 issued_performed op p n i m known lt below =
     let mine = answer_given op p in
@@ -181,11 +181,11 @@ issued_performed op p n i m known lt below =
 -- ---- ways from one position to another
 
 -- this number of steps leads from p to q
-abbrev Leads : Operations → (window count : ℕ) → (p q : Position) → Type 0
+abbrev pub Leads : Operations → (window count : ℕ) → (p q : Position) → Type 0
 Leads operations window zero p q = p ≡ q
 Leads operations window (suc count) p q = (r : Position) × IsStep operations window p r × Leads operations window count r q
 
-abbrev LeadsEagerly : Operations → (window count : ℕ) → (p q : Position) → Type 0
+abbrev pub LeadsEagerly : Operations → (window count : ℕ) → (p q : Position) → Type 0
 LeadsEagerly operations window zero p q = p ≡ q
 LeadsEagerly operations window (suc count) p q = (r : Position) × IsEagerStep operations window p r × LeadsEagerly operations window count r q
 
@@ -194,13 +194,13 @@ leads_on : (operations : Operations) (window count : ℕ) (p q r : Position) →
 leads_on operations window zero p q r is step = (r, subst (λ (x : Position). IsStep operations window x r) (sym is) step, refl)
 leads_on operations window (suc count) p q r (x, first, rest) step = (x, first, leads_on operations window count x q r rest step)
 
-reached_leads : (lines : ℕ) (operations : Operations) (window count : ℕ) (p : Position) → IsReachedIn lines operations window count p
+pub reached_leads : (lines : ℕ) (operations : Operations) (window count : ℕ) (p : Position) → IsReachedIn lines operations window count p
     → Leads operations window count (opening_position lines operations) p
 reached_leads lines operations window zero p is = sym is
 reached_leads lines operations window (suc count) p (q, reached, step) =
     leads_on operations window count (opening_position lines operations) q p (reached_leads lines operations window count q reached) step
 
-found_on : (lines : ℕ) (operations : Operations) (window before count : ℕ) (p q : Position) → IsFoundIn lines operations window before p
+pub found_on : (lines : ℕ) (operations : Operations) (window before count : ℕ) (p q : Position) → IsFoundIn lines operations window before p
     → LeadsEagerly operations window count p q → IsFoundIn lines operations window (before + count) q
 found_on lines operations window before zero p q found is =
     let same : before ≡ before + 0 = omega arith in
@@ -213,10 +213,10 @@ found_on lines operations window before (suc count) p q found (r, step, rest) =
 -- ---- what a node may issue is issued first
 
 -- a way that begins with the Issue of a node
-record Begins (operations : Operations) (window count : ℕ) (p q : Position) (m : ℕ) : Type 0 where
-  rest : ℕ
-  is : count ≡ suc rest
-  leads : Leads operations window rest (with_issued_at p m) q
+pub record Begins (operations : Operations) (window count : ℕ) (p q : Position) (m : ℕ) : Type 0 where
+  pub rest : ℕ
+  pub is : count ≡ suc rest
+  pub leads : Leads operations window rest (with_issued_at p m) q
 
 abbrev pub issue_step : (operations : Operations) (window : ℕ) (p : Position) (m : ℕ) → MayIssue operations window p m
     → IsStep operations window p (with_issued_at p m)
@@ -238,7 +238,7 @@ begins_on operations window count p r q m n i rest below step = record {
       (with_issued_at r m, record { node = n; place = i; below = below; step = step }, rest.leads);
 }
 
-issue_first : (operations : Operations) (window count : ℕ) (p q : Position) (m : ℕ) → Fits operations p → AreAnswered operations q
+pub issue_first : (operations : Operations) (window count : ℕ) (p q : Position) (m : ℕ) → Fits operations p → AreAnswered operations q
     → MayIssue operations window p m → Leads operations window count p q → Begins operations window count p q m
 issue_first operations window zero p q m fits all may is =
     let whole = all.issued m in
@@ -306,12 +306,12 @@ may_cases operations window p n = elim (cases_lt (length (answers_of p n)) (leng
 ]
 
 -- the first of the nodes below a bound that may issue, or none of them does
-record IsFirstBelow (operations : Operations) (window : ℕ) (p : Position) : Type 0 where
-  node : ℕ
-  may : MayIssue operations window p node
-  first : (m : ℕ) → m < node → MayIssue operations window p m → ⊥
+pub record IsFirstBelow (operations : Operations) (window : ℕ) (p : Position) : Type 0 where
+  pub node : ℕ
+  pub may : MayIssue operations window p node
+  pub first : (m : ℕ) → m < node → MayIssue operations window p m → ⊥
 
-first_below : (operations : Operations) (window : ℕ) (p : Position) (bound : ℕ)
+pub first_below : (operations : Operations) (window : ℕ) (p : Position) (bound : ℕ)
     → IsFirstBelow operations window p ⊎ ((m : ℕ) → m < bound → MayIssue operations window p m → ⊥)
 first_below operations window p zero = inr (λ m low. absurd (omega arith))
 first_below operations window p (suc bound) = elim (first_below operations window p bound) [
@@ -324,58 +324,3 @@ first_below operations window p (suc bound) = elim (first_below operations windo
     ])
   ]
 ]
-
--- ---- a way to an end, with each Issue as early as it can be
-
-eagerly : (operations : Operations) (window count : ℕ) (p q : Position) → Fits operations p → AreAnswered operations q
-    → Leads operations window count p q → LeadsEagerly operations window count p q
-eagerly operations window zero p q fits all is = is
-eagerly operations window (suc count) p q fits all (r, s, rest) = elim (first_below operations window p (length operations)) [
-  | inl found ↦
-      let m = found.node in
-      let way = issue_first operations window (suc count) p q m fits all found.may (r, s, rest) in
-      let same : way.rest ≡ count = omega (arith, way.is) in
-      let step = issue_step operations window p m found.may in
-      let fits_m = step_fits operations window p (with_issued_at p m) m (length (answers_of p m)) fits step.below step.step in (
-        with_issued_at p m,
-        record {
-          taken = step;
-          issues = λ k may. (refl, (elim (cases_lt k m) [ inl lt ↦ absurd (found.first k lt may) | inr past ↦ past ]));
-        },
-        eagerly operations window count (with_issued_at p m) q fits_m all
-            (subst (λ (k : ℕ). Leads operations window k (with_issued_at p m) q) same way.leads),
-      )
-  | inr none ↦ (
-    r,
-    record { taken = s; issues = λ m may. absurd (none m (list_below operations m (length (answers_of p m)) may.below) may) },
-    eagerly operations window count r q (step_fits operations window p r s.node s.place fits s.below s.step) all rest,
-  )
-]
-
--- what is found is reached
-pub found_reached : (lines : ℕ) (operations : Operations) (window count : ℕ) (p : Position) → IsFoundIn lines operations window count p
-    → IsReachedIn lines operations window count p
-found_reached lines operations window zero p is = is
-found_reached lines operations window (suc count) p (q, found, step) = (q, found_reached lines operations window count q found, step.taken)
-
--- each end that is reached is found
-pub reached_found : (lines : ℕ) (operations : Operations) (window : ℕ) (p : Position) → AreWithin lines operations
-    → IsReachedIn lines operations window (operation_count operations * 2) p → IsFoundIn lines operations window (operation_count operations * 2) p
-reached_found lines operations window p within reached =
-    let count = operation_count operations * 2 in
-    let first = opening_position lines operations in
-    let same : 0 + count ≡ count = omega arith in
-    subst (λ (k : ℕ). IsFoundIn lines operations window k p) same
-    (found_on lines operations window 0 count first p refl
-    (eagerly operations window count first p (opening_fits lines operations within) (all_answered lines operations window p within reached)
-    (reached_leads lines operations window count p reached)))
-
--- so the ends that are found are those that are reached
-pub ends_found : (lines : ℕ) (operations : Operations) (window : ℕ) (positions : List Position) → AreWithin lines operations
-    → AreFoundIn lines operations window (operation_count operations * 2) positions
-    → AreReachedIn lines operations window (operation_count operations * 2) positions
-ends_found lines operations window positions within so = record {
-  each = All-weaker (IsFoundIn lines operations window (operation_count operations * 2)) (IsReachedIn lines operations window (operation_count operations * 2))
-      (λ p found. found_reached lines operations window (operation_count operations * 2) p found) positions so.each;
-  all = λ p reached. so.all p (reached_found lines operations window p within reached);
-}

@@ -6,42 +6,85 @@ use Rattle.std.proofs.lemmas.List.Elements.{All-append, All-cons, All-contains, 
 use Rattle.std.proofs.lemmas.List.{Elements.{Contains-append_left, Contains-append_right}, Sorted.{Contains-permutation, IsPermutation-map, IsPermutation-sym}}
 use Rattle.std.specs.{Cmp.{IsEquivalence}, List.{All, Contains, dedup, flat_map, range_with_len, Sorted.{IsPermutation}}}
 use Rattle.sci_orders.proofs.Changes.{list_below, waiting_below}
-use Rattle.sci_orders.proofs.Eager.{found_reached, issue_step, step_is}
+use Rattle.sci_orders.proofs.{Eager.{issue_step, step_is}, Finding.{first_same, found_reached}}
 use Rattle.sci_orders.proofs.Keeping.{contains_cases, contains_flat, contains_here, contains_none, flat_contains, kept, left}
 use Rattle.sci_orders.proofs.Reaching.{below_place, given, gives, place_below, reached_fits}
-use Rattle.sci_orders.specs.Eager.{AddsSteps, AreFoundIn, AreStepsFrom, IsEagerStep, IsFirstIssue, IsFoundIn, MayIssue}
+use Rattle.sci_orders.specs.Eager.{AddsSteps, AreFoundIn, AreStepsFrom, IsEagerStep, IsFirstClosed, IsFirstIssue, IsFoundIn, IsChosen, MayIssue, is_closed}
 use Rattle.sci_orders.specs.{Positions.{AreOnce, AreWithin, Fits, IsStep, Operations, Position, position_of}, declared.standing.Standing.{Standing}}
-use Rattle.sci_orders.specs.Positions.{own_of, step_at, steps_of, with_issued_at}
+use Rattle.sci_orders.specs.Positions.{is_on, operation_at, own_of, step_at, step_on, steps_on, with_issued_at}
+use Rattle.sci_words.specs.declared.operation.Op.{Op}
+use Rattle.std.proofs.lemmas.Bool.{eq-eqb, eqb-true}
+use Rattle.std.specs.Prelude.{false, if◌then◌else◌, Option, None, Some}
 
 -- ---- the steps from a position
 
--- each step of a node
-abbrev all_steps : Operations → ℕ → Position → List Position
-all_steps operations window p = flat_map (steps_of operations window p) (range_with_len 0 (length operations))
+-- each step of a node, of an operation on a line or of any
+abbrev all_steps : Operations → ℕ → Position → Option ℕ → List Position
+all_steps operations window p line = flat_map (steps_on operations window p line) (range_with_len 0 (length operations))
 
-from_step : (operations : Operations) (window : ℕ) (p q : Position) → Contains (all_steps operations window p) q → IsStep operations window p q
-from_step operations window p q has =
-    let at = flat_contains (steps_of operations window p) (range_with_len 0 (length operations)) q has in
-    let step = given (step_at operations window p at.0) (range_with_len 0 (length (own_of operations at.0))) q at.2 in
-    record { node = at.0; place = step.0; below = place_below (length (own_of operations at.0)) step.0 step.1; step = step.2 }
+-- a step that is taken is one of an operation that is looked at
+step_taken : (operations : Operations) (window : ℕ) (p q : Position) (line : Option ℕ) (n i : ℕ) → step_on operations window p line n i ≡ Some q
+    → (step_at operations window p n i ≡ Some q) × (is_on line (operation_at operations n i) ≡ true)
+step_taken operations window p q line n i is = taken (is_on line (operation_at operations n i)) is
+  where
+    taken : (b : Bool) → (if b then step_at operations window p n i else None) ≡ Some q → (step_at operations window p n i ≡ Some q) × (b ≡ true)
+    taken true is = (is, refl)
+    taken false is = absurd (cc)
 
-to_step : (operations : Operations) (window : ℕ) (p q : Position) → IsStep operations window p q → Contains (all_steps operations window p) q
-to_step operations window p q s =
-    contains_flat (steps_of operations window p) (range_with_len 0 (length operations)) s.node q
+-- each of them is a step of an operation that is looked at
+from_step : (operations : Operations) (window : ℕ) (p q : Position) (line : Option ℕ) → Contains (all_steps operations window p line) q
+    → (s : IsStep operations window p q) × (is_on line (operation_at operations s.node s.place) ≡ true)
+from_step operations window p q line has =
+    let at = flat_contains (steps_on operations window p line) (range_with_len 0 (length operations)) q has in
+    let step = given (step_on operations window p line at.0) (range_with_len 0 (length (own_of operations at.0))) q at.2 in
+    let taken = step_taken operations window p q line at.0 step.0 step.2 in
+    (record { node = at.0; place = step.0; below = place_below (length (own_of operations at.0)) step.0 step.1; step = taken.0 }, taken.1)
+
+to_step : (operations : Operations) (window : ℕ) (p q : Position) (line : Option ℕ) (s : IsStep operations window p q)
+    → is_on line (operation_at operations s.node s.place) ≡ true → Contains (all_steps operations window p line) q
+to_step operations window p q line s on =
+    contains_flat (steps_on operations window p line) (range_with_len 0 (length operations)) s.node q
     (below_place (length operations) s.node (list_below operations s.node s.place s.below))
-    (gives (step_at operations window p s.node) (range_with_len 0 (length (own_of operations s.node))) s.place q
-    (below_place (length (own_of operations s.node)) s.place s.below) s.step)
+    (gives (step_on operations window p line s.node) (range_with_len 0 (length (own_of operations s.node))) s.place q
+    (below_place (length (own_of operations s.node)) s.place s.below)
+    (ap (λ (b : Bool). if b then step_at operations window p s.node s.place else None) on ∙ s.step))
 
--- where no node may issue, each step is looked at
-pub all_add : (operations : Operations) (window : ℕ) (p : Position) (old new : List Position) → ((m : ℕ) → MayIssue operations window p m → ⊥)
-    → new ≡ old ++ flat_map (steps_of operations window p) (range_with_len 0 (length operations)) → AddsSteps operations window p old new
-all_add operations window p old new none is = record {
-  steps = all_steps operations window p;
+-- an operation that is looked at is on the first closed line
+on_first : (operations : Operations) (p : Position) (line : Option ℕ) (op : Op) (first : ℕ) → IsChosen operations p line → is_on line op ≡ true
+    → IsFirstClosed operations p first → op.line ≡ first
+on_first operations p None op first none on is = absurd (let clash : true ≡ false = sym is.closed ∙ none first in cc)
+on_first operations p (Some line) op first closed on is = eqb-true op.line line on ∙ first_same operations p line first closed is
+
+-- where no node may issue, a step of the search is one of an operation that is looked at
+looked_at : (operations : Operations) (window : ℕ) (p q : Position) (line : Option ℕ) (eager : IsEagerStep operations window p q)
+    → ((m : ℕ) → MayIssue operations window p m → ⊥) → IsChosen operations p line
+    → is_on line (operation_at operations eager.taken.node eager.taken.place) ≡ true
+looked_at operations window p q None eager none closed = refl
+looked_at operations window p q (Some line) eager none closed =
+    let s = eager.taken in
+    elim (step_is operations window p q s.node s.place s.below s.step) [
+      | inl issues ↦ absurd (none s.node issues.may)
+      | inr performs ↦ elim (eager.performs line closed) [
+        | inl next ↦ let low = waiting_below p s.node s.place performs.waits in absurd (omega (arith, low, next))
+        | inr on ↦ eq-eqb (operation_at operations s.node s.place).line line on
+      ]
+    ]
+
+-- where no node may issue, each step of an operation that is looked at is taken
+pub all_add : (operations : Operations) (window : ℕ) (p : Position) (line : Option ℕ) (old new : List Position)
+    → ((m : ℕ) → MayIssue operations window p m → ⊥) → IsChosen operations p line
+    → new ≡ old ++ flat_map (steps_on operations window p line) (range_with_len 0 (length operations)) → AddsSteps operations window p old new
+all_add operations window p line old new none closed is = record {
+  steps = all_steps operations window p line;
   are = is;
-  each = All-weaker (Contains (all_steps operations window p)) (IsEagerStep operations window p)
-      (λ q has. record { taken = from_step operations window p q has; issues = λ m may. absurd (none m may) }) (all_steps operations window p)
-      (All-contains_itself (all_steps operations window p));
-  all = λ q eager. to_step operations window p q eager.taken;
+  each = All-weaker (Contains (all_steps operations window p line)) (IsEagerStep operations window p)
+      (λ q has. (let step = from_step operations window p q line has in record {
+        taken = step.0;
+        issues = λ m may. absurd (none m may);
+        performs = λ first is. inr (on_first operations p line (operation_at operations step.0.node step.0.place) first closed step.1 is);
+      })) (all_steps operations window p line)
+      (All-contains_itself (all_steps operations window p line));
+  all = λ q eager. to_step operations window p q line eager.taken (looked_at operations window p q line eager none closed);
 }
 
 -- a step that is looked at is the Issue of the first node that may issue
@@ -69,6 +112,7 @@ first_adds operations window p q old new first is = record {
   each = All-cons (IsEagerStep operations window p) q [] (subst (IsEagerStep operations window p) (sym first.is) (record {
     taken = issue_step operations window p first.node first.may;
     issues = λ m may. (refl, first.first m may);
+    performs = λ line closed. inl refl;
   })) (All-nil (IsEagerStep operations window p));
   all = λ r eager. subst (Contains (q ∷ [])) (only_step operations window p q r first eager) (contains_here q []);
 }

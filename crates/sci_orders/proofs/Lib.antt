@@ -14,6 +14,8 @@ pub mod ScriptOrders
 pub mod Following
 pub mod Reaching
 pub mod Eager
+pub mod ClosedLines
+pub mod Finding
 pub mod Progress
 pub mod Exactly
 pub mod Wide

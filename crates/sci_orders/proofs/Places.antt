@@ -1,10 +1,10 @@
 -- Tests of the numbers below a bound, one after another.
-use Rattle.std.proofs.Common.{◌≡◌, ℕ, zero, suc, ◌+◌, ◌<◌, ◌||◌, Bool, true, false, List, [], ◌∷◌, ◌++◌, map, refl, sym, ap, ◌∙◌, arith, Option, Some, None}
+use Rattle.std.proofs.Common.{◌≡◌, ℕ, zero, suc, ◌+◌, ◌<◌, ◌&&◌, ◌||◌, Bool, true, false, List, [], ◌∷◌, ◌++◌, map, refl, sym, ap, ◌∙◌, arith, Option, Some, None}
 use Rattle.std.proofs.Common.{append_assoc}
 use Rattle.std.proofs.lemmas.Grind.{flat_map-append}
 use Rattle.std.proofs.lemmas.List.{append-nil, map-append}
-use Rattle.std.proofs.lemmas.List.{Elements.{filter_map-append}, Folds.{list_any-append, list_any_at}, FromFn.{get_or-range_with_len, length-range_with_len}}
-use Rattle.std.specs.List.{cons_option, filter_map, flat_map, list_any, range_with_len}
+use Rattle.std.proofs.lemmas.List.{Elements.{filter_map-append}, Folds.{list_all-append, list_all_at, list_any-append, list_any_at}, FromFn.{get_or-range_with_len, length-range_with_len}}
+use Rattle.std.specs.List.{cons_option, filter_map, flat_map, list_all, list_any, range_with_len}
 
 from_more : (a n : ℕ) → range_with_len a (n + 1) ≡ range_with_len a n ++ (a + n) ∷ []
 from_more a zero = ap (λ (k : ℕ). k ∷ []) (omega arith)
@@ -36,6 +36,24 @@ none_any p zero none = refl
 none_any p (suc n) none =
     let one : n + 1 ≡ suc n = omega arith in
     ap (λ (k : ℕ). list_any p (range_with_len 0 k)) (sym one) ∙ any_more p n (none_any p n (λ j low. none j (omega arith))) (none n (omega arith))
+
+-- one number more
+pub any_next : (p : ℕ → Bool) (n : ℕ) → list_any p (range_with_len 0 (n + 1)) ≡ (list_any p (range_with_len 0 n) || p n)
+any_next p n =
+    ap (list_any p) (places_more n) ∙ (list_any-append p (range_with_len 0 n) (n ∷ []) ∙ ap (λ (b : Bool). list_any p (range_with_len 0 n) || b) (or_false (p n)))
+
+pub all_pass : (p : ℕ → Bool) (n : ℕ) → ((j : ℕ) → j < n → p j ≡ true) → list_all p (range_with_len 0 n) ≡ true
+all_pass p zero all = refl
+all_pass p (suc n) all =
+    let one : n + 1 ≡ suc n = omega arith in
+    ap (λ (k : ℕ). list_all p (range_with_len 0 k)) (sym one)
+    ∙ (ap (list_all p) (places_more n) ∙ (list_all-append p (range_with_len 0 n) (n ∷ [])
+    ∙ (ap (λ (b : Bool). b && list_all p (n ∷ [])) (all_pass p n (λ j low. all j (omega arith))) ∙ ap (λ (b : Bool). b && true) (all n (omega arith)))))
+
+pub one_fails : (p : ℕ → Bool) (n j : ℕ) → j < n → p j ≡ false → list_all p (range_with_len 0 n) ≡ false
+one_fails p n j below here =
+    list_all_at p (range_with_len 0 n) j 0 (let long = length-range_with_len 0 n in omega arith)
+    (ap p (get_or-range_with_len 0 n j 0 below ∙ (let same : 0 + j ≡ j = omega arith in same)) ∙ here)
 
 -- what f gives of one number more
 pub gives_more : {Y : Type 0} (f : ℕ → Option Y) (n : ℕ) → filter_map f (range_with_len 0 (n + 1)) ≡ filter_map f (range_with_len 0 n) ++ filter_map f (n ∷ [])

@@ -112,9 +112,18 @@ step_as operations window p n i (Some _) = None
 unfoldable pub step_at : Operations → ℕ → Position → (n i : ℕ) → Option Position
 step_at operations window p n i = step_as operations window p n i (slice_get (answers_of p n) i)
 
--- the positions to which one step of a node leads
-abbrev pub steps_of : Operations → ℕ → Position → ℕ → List Position
-steps_of operations window p n = filter_map (step_at operations window p n) (range_with_len 0 (length (own_of operations n)))
+-- the operation is on the line, if one is asked for
+abbrev pub is_on : Option ℕ → Op → Bool
+is_on None op = true
+is_on (Some line) op = op.line == line
+
+-- operation i of node n comes one step further, if it can and is on the line that is asked for
+abbrev pub step_on : Operations → ℕ → Position → Option ℕ → (n i : ℕ) → Option Position
+step_on operations window p line n i = if is_on line (operation_at operations n i) then step_at operations window p n i else None
+
+-- the positions to which one step of a node leads, of an operation on a line or of any
+abbrev pub steps_on : Operations → ℕ → Position → Option ℕ → ℕ → List Position
+steps_on operations window p line n = filter_map (step_on operations window p line n) (range_with_len 0 (length (own_of operations n)))
 
 -- one operation comes one step further, from p to q
 pub record IsStep (operations : Operations) (window : ℕ) (p q : Position) : Type 0 where

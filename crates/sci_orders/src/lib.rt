@@ -1,6 +1,7 @@
 //! Which orders of operations the machine can go through: those of one memory of one thread, and all of them.
 #![tactic(auto)]
 
+mod closed;
 mod fault;
 mod laws;
 mod orders;

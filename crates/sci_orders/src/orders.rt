@@ -1,12 +1,12 @@
 //! All standings to which a number of steps leads.
 
-ghost use Rattle.std.specs.Prelude.{◌≡◌, ◌<◌, ◌*◌, ◌++◌, ◌∷◌, [], ℕ, List, None, length, map, IfErr, IfOk, IfSome, OnOk};
+ghost use Rattle.std.specs.Prelude.{◌≡◌, ◌<◌, ◌*◌, ◌++◌, ◌∷◌, [], ℕ, List, None, length, map, option_map, IfErr, IfOk, IfSome, OnOk};
 ghost use Rattle.std.specs.List.{All};
 ghost use Rattle.sci_words.specs.declared.event.Event.{Event};
 ghost use Rattle.sci_core.specs.Size.{IsMachineSize, size_of};
 ghost use Rattle.sci_orders.specs.declared.fault.OrdersFault.TheVariants.{TooMany};
 ghost use Rattle.sci_orders.specs.Eager.{AddsSteps, AreStepsFrom, AreTooMany, AreTooManyFrom, IsFirstIssue, MayIssue};
-ghost use Rattle.sci_orders.specs.Positions.{AreOnce, AreReachedIn, AreWithin, Fits, lists_of, opening_position, operation_count, position_of, steps_of};
+ghost use Rattle.sci_orders.specs.Positions.{AreOnce, AreReachedIn, AreWithin, Fits, lists_of, opening_position, operation_count, own_of, position_of, is_on, step_on, steps_on};
 ghost use Rattle.sci_orders.specs.Orders.{HasRun, IsAmong, IsOrderOf, IsScriptOf};
 ghost use Rattle.sci_orders.specs.Witness.{seen};
 
@@ -29,23 +29,63 @@ pub struct Orders<'a> {
     pub window: usize,
 }
 
+/// Operations of a node: those on a line, or all.
+#[derive(Clone, Copy)]
+struct Among {
+    node: usize,
+    line: Option<usize>,
+}
+
+impl Among {
+    /// Whether an operation is on the line, if there is one.
+    fn has(self, op: Op) -> bool
+        ensures { result ≡ is_on self.line op }
+    {
+        match self.line {
+            Some(line) => usize::from(op.line) == line,
+            None => true,
+        }
+    }
+}
+
 impl<'a> Orders<'a> {
-    /// Appends the standings to which one step of a node leads. Refused if memory is.
+    /// An operation of some of a node's comes one step further. None if it isn't one of them, or can't. Refused if memory is.
+    fn step_among(
+        &self,
+        alloc: Global,
+        standing: &Standing,
+        among: Among,
+        i: usize,
+    ) -> Result<Option<Standing>, AllocError>
+        requires fits { Fits (lists_of self.now.operations.now) (position_of standing.now) }
+        requires node { among.node < length self.now.operations.now }
+        requires own { i < length (own_of (lists_of self.now.operations.now) among.node) }
+        ensures { IfOk result (λ next. option_map position_of next ≡ step_on (lists_of self.now.operations.now)
+            self.now.window (position_of standing.now) among.line among.node i) }
+    {
+        if !among.has(self.operations[among.node][i]) {
+            return Ok(None);
+        }
+        standing.step(alloc, self, among.node, i)
+    }
+
+    /// Appends the standings to which one step of a node leads, of some of its operations. Refused if memory is.
     fn push_steps_of(
         &self,
         alloc: Global,
         standing: &Standing,
-        n: usize,
+        among: Among,
         next: &mut Vec<Standing>,
     ) -> Result<(), AllocError>
         requires fits { Fits (lists_of self.now.operations.now) (position_of standing.now) }
-        requires node { n < length self.now.operations.now }
+        requires node { among.node < length self.now.operations.now }
         ensures { OnOk result (map position_of next.new.items
             ≡ map position_of next.old.items
-            ++ steps_of (lists_of self.now.operations.now) self.now.window (position_of standing.now) n) }
+            ++ steps_on (lists_of self.now.operations.now) self.now.window (position_of standing.now)
+            among.line among.node) }
     {
-        for i in 0..self.operations[n].len() {
-            if let Some(further) = standing.step(alloc, self, n, i)? {
+        for i in 0..self.operations[among.node].len() {
+            if let Some(further) = self.step_among(alloc, standing, among, i)? {
                 next.push(further)?;
             }
         }
@@ -77,7 +117,7 @@ impl<'a> Orders<'a> {
     }
 
     /// Appends the standings to which one step leads: one, if a node may issue an operation, and else one for each
-    /// operation that waits. Refused if memory is.
+    /// operation that waits on the first closed line, or anywhere if no line is closed. Refused if memory is.
     fn push_steps(
         &self,
         alloc: Global,
@@ -92,8 +132,9 @@ impl<'a> Orders<'a> {
             next.push(issued)?;
             return Ok(());
         }
-        for n in 0..self.operations.len() {
-            self.push_steps_of(alloc, standing, n, next)?;
+        let line = self.closed_line(standing);
+        for node in 0..self.operations.len() {
+            self.push_steps_of(alloc, standing, Among { node, line }, next)?;
         }
         Ok(())
     }

@@ -39,7 +39,7 @@ fn answer_of(reply: Reply) -> Answer
 }
 
 /// Whether the operation waits that has this answer.
-fn is_waiting(answer: Answer) -> bool
+pub(crate) fn is_waiting(answer: Answer) -> bool
     ensures { result ≡ is_waiting_answer answer }
 {
     matches!(answer, Answer::Waiting)

@@ -4,7 +4,7 @@ use Rattle.std.proofs.Math.Seq.{take-length}
 use Rattle.std.proofs.lemmas.List.{length-map, Sums.{sum_by_more}}
 use Rattle.std.specs.List.{All}
 use Rattle.sci_words.specs.declared.operation.Op.{Op}
-use Rattle.sci_orders.proofs.{Copies.{own_is}, Eager.{ends_found}, LevelSteps.{found_fit, found_more}, Refusing.{raised, too_many}}
+use Rattle.sci_orders.proofs.{Copies.{own_is}, Finding.{ends_found}, LevelSteps.{found_fit, found_more}, Refusing.{raised, too_many}}
 use Rattle.sci_orders.proofs.orders.Orders.last_standings.Goals.{After-deref-in-loop-operation}
 use Rattle.sci_orders.specs.{Eager.{AreFoundIn, AreTooMany}, Positions.{Fits, lists_of, operation_count, position_of}}
 use Rattle.sci_orders.specs.declared.standing.Standing.{Standing}

@@ -1,7 +1,7 @@
 -- The outcome is found after two steps of each operation.
 use Rattle.std.proofs.Common.{List, length, ℕ, ap, sym, subst, ◌∙◌}
 use Rattle.std.specs.{Prelude.{Vec}, declared.alloc.Global.{Global}}
-use Rattle.sci_orders.proofs.Eager.{reached_found}
+use Rattle.sci_orders.proofs.Finding.{reached_found}
 use Rattle.sci_orders.specs.{Eager.{IsFoundIn}, Positions.{lists_of, position_of}, Ways.{AreLevels, levels_of}, declared.standing.Standing.{Standing}}
 use Rattle.sci_orders.proofs.orders.Orders.order_to.Goals as goal
 

@@ -4,17 +4,17 @@ use Rattle.std.proofs.lemmas.List.{length-map, map-append}
 use Rattle.std.specs.{List.{flat_map, range_with_len}, Prelude.{IfSome, Vec}, declared.alloc.Global.{Global}}
 use Rattle.sci_words.specs.declared.operation.Op.{Op}
 use Rattle.sci_orders.proofs.{LevelSteps.{all_add, first_adds}, Places.{flat_more}}
-use Rattle.sci_orders.specs.{Eager.{IsFirstIssue}, Positions.{Position, lists_of, position_of, steps_of}, declared.standing.Standing.{Standing}}
+use Rattle.sci_orders.specs.{Eager.{IsFirstIssue}, Positions.{Position, lists_of, position_of, steps_on}, declared.standing.Standing.{Standing}}
 use Rattle.sci_orders.proofs.orders.Orders.push_steps.Goals as goal
 
-pub loop-n-preserved : goal.loop-n-preserved
-loop-n-preserved c =
-    let f = steps_of (lists_of c.args.self.now.operations.now) c.args.self.now.window (position_of c.args.standing.now) in
+pub loop-node-preserved : goal.loop-node-preserved
+loop-node-preserved c =
+    let f = steps_on (lists_of c.args.self.now.operations.now) c.args.self.now.window (position_of c.args.standing.now) c.closed_line-line.result in
     let first = map position_of c.args.next.now.items in
-    let before = flat_map f (range_with_len 0 c.loop-n.n) in
+    let before = flat_map f (range_with_len 0 c.loop-node.node) in
     c.in_ok-push_steps_of.ensures
-    ∙ (ap (λ (ps : List Position). ps ++ f c.loop-n.n) c.loop-n.invariant
-    ∙ (append_assoc first before (f c.loop-n.n) ∙ ap (λ (ps : List Position). first ++ ps) (sym (flat_more f c.loop-n.n))))
+    ∙ (ap (λ (ps : List Position). ps ++ f c.loop-node.node) c.loop-node.invariant
+    ∙ (append_assoc first before (f c.loop-node.node) ∙ ap (λ (ps : List Position). first ++ ps) (sym (flat_more f c.loop-node.node))))
 
 pub returns-in-Some : goal.returns-in-Some
 returns-in-Some c =
@@ -29,12 +29,12 @@ returns-in-Some c =
 pub returns : goal.returns
 returns c =
     let operations = lists_of c.args.self.now.operations.now in
-    let f = steps_of operations c.args.self.now.window (position_of c.args.standing.now) in
+    let f = steps_on operations c.args.self.now.window (position_of c.args.standing.now) c.closed_line-line.result in
     let first = map position_of c.args.next.now.items in
     let long = length-map c.args.self.now.operations.now (λ (v : Vec Op Global). v.items) in
-    let end = c.loop-n-test.false in
-    let most = c.loop-n.auto.n-end in
-    let whole : c.loop-n.n ≡ length operations = omega arith in
-    all_add operations c.args.self.now.window (position_of c.args.standing.now) first (map position_of c.loop-n.next.items)
-    (c.in_ok-issued.ensures.none c.in_default.is)
-    (c.loop-n.invariant ∙ ap (λ (k : ℕ). first ++ flat_map f (range_with_len 0 k)) whole)
+    let end = c.loop-node-test.false in
+    let most = c.loop-node.auto.node-end in
+    let whole : c.loop-node.node ≡ length operations = omega arith in
+    all_add operations c.args.self.now.window (position_of c.args.standing.now) c.closed_line-line.result first (map position_of c.loop-node.next.items)
+    (c.in_ok-issued.ensures.none c.in_default.is) c.closed_line-line.ensures
+    (c.loop-node.invariant ∙ ap (λ (k : ℕ). first ++ flat_map f (range_with_len 0 k)) whole)

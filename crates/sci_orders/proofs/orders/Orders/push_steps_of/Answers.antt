@@ -1,12 +1,12 @@
 -- One more operation comes a step further, or can't.
 use Rattle.std.{proofs.Common.{◌≡◌, ◌++◌, ◌∷◌, [], map, Some, None, ap, sym, ◌∙◌, rules}, specs.Prelude.{option_map}}
 use Rattle.sci_orders.proofs.{Places.{gives_none, gives_some}, orders.Orders.push_steps_of.Goals.{in-Some+in_ok-push, in_default}}
-use Rattle.sci_orders.specs.Positions.{lists_of, position_of, step_at}
+use Rattle.sci_orders.specs.Positions.{lists_of, position_of, step_on}
 use Rattle.sci_orders.proofs.orders.Orders.push_steps_of.Goals as goal
 
 pub loop-i-preserved : goal.loop-i-preserved
 loop-i-preserved c =
-    let f = step_at (lists_of c.args.self.now.operations.now) c.args.self.now.window (position_of c.args.standing.now) c.args.n in
+    let f = step_on (lists_of c.args.self.now.operations.now) c.args.self.now.window (position_of c.args.standing.now) c.args.among.line c.args.among.node in
     let first = map position_of c.args.next.now.items in
     elim c.match-branch-2.branch [
       | in-Some+in_ok-push w ↦
