@@ -1,6 +1,6 @@
 -- An order is one of a script if it is so node by node; and what is seen of a schedule of enabled events.
 use Rattle.std.proofs.Common.{◌≡◌, ◌==◌, ◌&&◌, ◌<◌, ◌≤◌, ◌+◌, ◌*◌, ◌-◌, ℕ, zero, suc, Bool, true, false, if◌then◌else◌, List, [], ◌∷◌, ◌++◌, length}
-use Rattle.std.proofs.Common.{cond, drop, take, take_all, nat_lt, refl, sym, ap, subst, ◌∙◌, arith, inl, inr}
+use Rattle.std.proofs.Common.{cond, take, take_all, nat_lt, refl, sym, ap, subst, ◌∙◌, arith, inl, inr}
 use Rattle.std.proofs.lemmas.{Bool.{cases_eq, cases_lt, eq-eqb, eqb-true, le-ltb, lt-ltb, ne_eqb}, List.{get_or_past, Sums.{fold_push, sum_by_more}}}
 use Rattle.std.specs.{List.{AllByRecursion, filter, sum_by}, Prelude.{IsSome, Option, is_some}}
 use Rattle.sci_history.proofs.Order.{all-filter, filter_no, filter_yes}
@@ -8,7 +8,7 @@ use Rattle.sci_words.specs.declared.{event.Event.{Event}, operation.Op.{Op}}
 use Rattle.sci_core.specs.{Core.{AreEnabled, Core, node_of, opening, run, step, stepping}, Size.{IsSize, Size}}
 use Rattle.sci_core.proofs.{Step.Stepping.{stepping_nobody}, Tidy.TidyRuns.{run_size}}
 use Rattle.sci_orders.specs.Orders.{AreFew, IsOrderOf, issues_at, one_less_at, one_more_at}
-use Rattle.sci_orders.specs.{Positions.{Operations, operation_count, own_of}, Witness.{is_seen, seen, seen_at, seen_from}}
+use Rattle.sci_orders.specs.{Positions.{Operations, own_of}, Witness.{is_seen, seen, seen_at, seen_from}}
 use Rattle.sci_words.specs.declared.event.Event.TheVariants as event
 
 -- the events of a node, in their order

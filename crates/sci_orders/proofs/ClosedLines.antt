@@ -1,5 +1,5 @@
 -- Where a line is closed, an operation that waits there may be performed before anything else is done.
-use Rattle.std.proofs.Common.{◌≡◌, ◌≢◌, ℕ, zero, suc, ◌+◌, ◌*◌, ◌<◌, ◌≤◌, ◌&&◌, nat_eq, nat_lt, not, List, [], length, set, get_or, refl, sym, ap, subst, ◌∙◌, arith}
+use Rattle.std.proofs.Common.{◌≡◌, ◌≢◌, ℕ, zero, suc, ◌<◌, ◌≤◌, ◌&&◌, nat_eq, nat_lt, not, List, length, set, get_or, refl, sym, ap, subst, ◌∙◌, arith}
 use Rattle.std.proofs.Common.{Some, inl, inr}
 use Rattle.std.proofs.lemmas.{Bool.{and_parts, cases_eq}, List.{get_or-set_other}}
 use Rattle.sci_orders.proofs.Changes.{answer_given, issued_apart, issued_length, issued_other, list_below, performed_apart, performed_length, performed_other}
@@ -7,9 +7,9 @@ use Rattle.sci_orders.proofs.Changes.{performed_own, waiting_before, waiting_bel
 use Rattle.sci_orders.proofs.Eager.{Issues, Leads, Performs, issued_performed, may_after, may_same, may_step, set_again, set_apart, step_is, waits_step}
 use Rattle.sci_orders.proofs.{Following.{free_of, not_true}, Issuing.{IsFree}, Progress.{AreAnswered}, Reaching.{step_fits}}
 use Rattle.sci_orders.specs.Eager.{MayIssue}
-use Rattle.sci_orders.specs.Positions.{AreWithin, Fits, IsStep, Operations, Position, answer_at, answer_of, answers_of, is_blocked, operation_at, own_of, step_at, waiting_at}
+use Rattle.sci_orders.specs.Positions.{AreWithin, Fits, Operations, Position, answer_at, answer_of, answers_of, is_blocked, operation_at, own_of, step_at, waiting_at}
 use Rattle.sci_orders.specs.Positions.{with_issued_at, with_performed_at, word_place}
-use Rattle.sci_words.specs.{Operation.{effect}, declared.{limits.TheConstants.{WORDS_PER_LINE}, operation.Op.{Op}}}
+use Rattle.sci_words.specs.{Operation.{effect}, declared.{operation.Op.{Op}}}
 use Rattle.sci_orders.specs.declared.standing.Answer.{Answer}
 use Rattle.sci_orders.specs.declared.standing.Answer.TheVariants as answer
 
@@ -145,9 +145,11 @@ begins_after operations window count p r q line n i next waits below step = reco
   rest = count;
   is = refl;
   leads = subst (λ (k : ℕ). Leads operations window k (with_performed_at (operation_at operations next.node next.waits.place) p next.node next.waits.place) q)
-      (sym next.is)
-      (with_performed_at (operation_at operations next.node next.waits.place) r next.node next.waits.place,
-      record { node = n; place = i; below = below; step = step }, next.leads);
+      (sym next.is) (
+        with_performed_at (operation_at operations next.node next.waits.place) r next.node next.waits.place,
+        record { node = n; place = i; below = below; step = step },
+        next.leads,
+      );
 }
 
 -- what a node may issue blocks no line and is blocked by none
@@ -189,11 +191,11 @@ module _ (lines : ℕ) (operations : Operations) (window : ℕ) (within : AreWit
             let op = operation_at operations m j in
             let free = free_next operations window p n issues.may in
             let new : (m ≡ n) × (j ≡ length (answers_of p n)) → ⊥ = λ both. (
-                let here : (operation_at operations n (length (answers_of p n))).line ≡ line =
-                sym (ap (λ (k : ℕ). (operation_at operations n k).line) both.1) ∙ (sym (ap (λ (k : ℕ). (operation_at operations k j).line) both.0) ∙ next.waits.on) in
-                let known = issues.may.below in
-                let w = closed.each n (length (answers_of p n)) (omega arith) known here in
-                free w.place w.waits (w.on ∙ sym here)) in
+            let here : (operation_at operations n (length (answers_of p n))).line ≡ line =
+            sym (ap (λ (k : ℕ). (operation_at operations n k).line) both.1) ∙ (sym (ap (λ (k : ℕ). (operation_at operations k j).line) both.0) ∙ next.waits.on) in
+            let known = issues.may.below in
+            let w = closed.each n (length (answers_of p n)) (omega arith) known here in
+            free w.place w.waits (w.on ∙ sym here)) in
             let waits : answer_at p m j ≡ answer.Waiting =
             sym (issued_other p n m j lt new) ∙ (ap (λ (x : Position). answer_at x m j) (sym issues.is) ∙ next.waits.waits) in
             let low = waiting_below p m j waits in

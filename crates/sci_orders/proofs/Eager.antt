@@ -1,18 +1,18 @@
 -- What a node may issue may be issued before anything else is done.
-use Rattle.std.proofs.Common.{◌≡◌, ◌≢◌, ◌⊎◌, ℕ, zero, suc, ◌+◌, ◌-◌, ◌*◌, ◌<◌, ◌==◌, ◌&&◌, nat_lt, not, Bool, true, false, if◌then◌else◌, List, [], ◌∷◌, ◌++◌}
+use Rattle.std.proofs.Common.{◌≡◌, ◌≢◌, ◌⊎◌, ℕ, zero, suc, ◌+◌, ◌-◌, ◌<◌, ◌==◌, ◌&&◌, nat_lt, not, Bool, true, false, if◌then◌else◌, List, [], ◌∷◌, ◌++◌}
 use Rattle.std.proofs.Common.{length, set, get_or, Option, Some, None, refl, sym, ap, subst, ◌∙◌, arith, inl, inr}
-use Rattle.std.proofs.lemmas.{Bool.{and_parts, cases_eq, cases_lt, eq-eqb, eqb-true, ltb-true}, List.Elements.{All-weaker}}
+use Rattle.std.proofs.lemmas.{Bool.{and_parts, cases_eq, cases_lt, eq-eqb, eqb-true, ltb-true}}
 use Rattle.std.proofs.lemmas.Option.{get_or_from_slice_get, slice_get-get_or, slice_get_past}
 use Rattle.std.specs.Prelude.{slice_get}
 use Rattle.sci_core.proofs.Basics.Options.{same_some}
 use Rattle.sci_orders.proofs.Changes.{answer_given, issued_apart, issued_own, list_below, performed_apart, performed_here, performed_length, performed_own}
 use Rattle.sci_orders.proofs.Changes.{performed_other, performed_waits, reply_done, waiting_before, waiting_below, issued_other}
-use Rattle.sci_orders.proofs.{Following.{free_of, may_if, not_true}, Issuing.{IsFree}, Progress.{AreAnswered, all_answered}}
-use Rattle.sci_orders.proofs.{Reaching.{step_fits}, Stands.{opening_fits}}
-use Rattle.sci_orders.specs.Eager.{AreFoundIn, IsEagerStep, IsFoundIn, MayIssue}
-use Rattle.sci_orders.specs.Positions.{AreReachedIn, AreWithin, Fits, IsReachedIn, IsStep, Operations, Position, answer_at, answers_of, is_blocked}
+use Rattle.sci_orders.proofs.{Following.{free_of, may_if, not_true}, Issuing.{IsFree}, Progress.{AreAnswered}}
+use Rattle.sci_orders.proofs.{Reaching.{step_fits}}
+use Rattle.sci_orders.specs.Eager.{IsEagerStep, IsFoundIn, MayIssue}
+use Rattle.sci_orders.specs.Positions.{Fits, IsReachedIn, IsStep, Operations, Position, answer_at, answers_of, is_blocked}
 use Rattle.sci_orders.specs.Positions.{may_issue_next, opening_position}
-use Rattle.sci_orders.specs.Positions.{operation_at, operation_count, own_of, step_as, step_at, waiting_at, with_issued_at, with_performed_at, word_place}
+use Rattle.sci_orders.specs.Positions.{operation_at, own_of, step_as, step_at, waiting_at, with_issued_at, with_performed_at, word_place}
 use Rattle.sci_orders.specs.Orders.{one_less_at}
 use Rattle.sci_words.specs.{Operation.{effect}, declared.operation.Op.{Op}}
 use Rattle.sci_orders.specs.declared.standing.Answer.{Answer}

@@ -9,7 +9,7 @@ use Rattle.sci_orders.proofs.Changes.{list_below, waiting_below}
 use Rattle.sci_orders.proofs.{Eager.{issue_step, step_is}, Finding.{first_same, found_reached}}
 use Rattle.sci_orders.proofs.Keeping.{contains_cases, contains_flat, contains_here, contains_none, flat_contains, kept, left}
 use Rattle.sci_orders.proofs.Reaching.{below_place, given, gives, place_below, reached_fits}
-use Rattle.sci_orders.specs.Eager.{AddsSteps, AreFoundIn, AreStepsFrom, IsEagerStep, IsFirstClosed, IsFirstIssue, IsFoundIn, IsChosen, MayIssue, is_closed}
+use Rattle.sci_orders.specs.Eager.{AddsSteps, AreFoundIn, AreStepsFrom, IsEagerStep, IsFirstClosed, IsFirstIssue, IsFoundIn, IsChosen, MayIssue}
 use Rattle.sci_orders.specs.{Positions.{AreOnce, AreWithin, Fits, IsStep, Operations, Position, position_of}, declared.standing.Standing.{Standing}}
 use Rattle.sci_orders.specs.Positions.{is_on, operation_at, own_of, step_at, step_on, steps_on, with_issued_at}
 use Rattle.sci_words.specs.declared.operation.Op.{Op}

@@ -1,11 +1,11 @@
 -- What is reached fits the script.
 use Rattle.std.proofs.Common.{◌≡◌, ℕ, zero, suc, ◌+◌, ◌<◌, Bool, true, false, if◌then◌else◌, List, [], ◌∷◌, length, Option, Some, None, refl, sym, ap, subst}
-use Rattle.std.proofs.Common.{◌∙◌, arith, inl, inr, add-one}
-use Rattle.std.proofs.lemmas.{Bool.{and_parts, eqb-true}, List.{Elements.{All-contains, All-weaker}, FromFn.{get_or-range_with_len, length-range_with_len}}}
+use Rattle.std.proofs.Common.{◌∙◌, arith, inl, inr}
+use Rattle.std.proofs.lemmas.{Bool.{and_parts, eqb-true}, List.{Elements.{All-weaker}, FromFn.{get_or-range_with_len, length-range_with_len}}}
 use Rattle.std.specs.{List.{All, Contains, cons_option, filter_map, range_with_len}, Prelude.{IfSome, ◌==◌, slice_get}}
 use Rattle.sci_core.proofs.Basics.Options.{of_some}
 use Rattle.sci_orders.proofs.Changes.{issued_fits, list_below, performed_fits}
-use Rattle.sci_orders.proofs.{Keeping.{contains_flat, contains_here, contains_there, contains_cases, contains_none, flat_contains}, Stands.{opening_fits}}
+use Rattle.sci_orders.proofs.{Keeping.{contains_here, contains_there, contains_cases, contains_none}, Stands.{opening_fits}}
 use Rattle.sci_orders.specs.Positions.{AreReachedIn, AreWithin, Fits, IsReachedIn, Operations, Position, answers_of, may_issue_next}
 use Rattle.sci_orders.specs.Positions.{operation_at, own_of, step_as, step_at, with_issued_at}
 use Rattle.sci_orders.specs.declared.standing.Answer.{Answer}

@@ -1,5 +1,5 @@
 -- Each operation is looked at.
-use Rattle.std.proofs.{Common.{◌≡◌, ◌==◌, ◌&&◌, not, ℕ, Bool, true, false, length, get_or, sym, ap, ◌∙◌, arith}, lemmas.Bool.{eq-eqb, le-ltb}}
+use Rattle.std.proofs.{Common.{◌≡◌, ◌==◌, ◌&&◌, not, Bool, true, length, get_or, sym, ap, ◌∙◌, arith}, lemmas.Bool.{eq-eqb, le-ltb}}
 use Rattle.sci_orders.proofs.Places.{any_found, none_any}
 use Rattle.sci_orders.specs.{Eager.{comes_to}, Positions.{no_operation}}
 use Rattle.sci_orders.proofs.closed.has_to_come.Goals as goal

@@ -1,5 +1,5 @@
 -- Each operation that is issued is looked at.
-use Rattle.std.proofs.{Common.{◌≡◌, ◌==◌, ◌&&◌, ℕ, Bool, true, false, length, get_or, sym, ap, ◌∙◌, arith}, lemmas.{Bool.{eq-eqb}, List.{get_or_default}}}
+use Rattle.std.proofs.{Common.{◌≡◌, ◌==◌, ◌&&◌, Bool, true, length, get_or, sym, ap, ◌∙◌, arith}, lemmas.{Bool.{eq-eqb}, List.{get_or_default}}}
 use Rattle.sci_orders.proofs.Places.{any_found, none_any}
 use Rattle.sci_orders.specs.{Eager.{waits_on}, Positions.{is_waiting, no_operation}, declared.standing.Answer.TheVariants.{Stored}}
 use Rattle.sci_orders.proofs.closed.has_waiting.Goals as goal

@@ -1,9 +1,9 @@
 -- Each line that has words is looked at.
-use Rattle.std.proofs.Common.{◌≡◌, ◌+◌, ◌*◌, ◌/◌, ◌<◌, ◌≤◌, ℕ, true, false, length, refl, sym, ap, ◌∙◌, arith, inl, inr}
+use Rattle.std.proofs.Common.{◌≡◌, ◌*◌, ◌<◌, ℕ, true, length, sym, ap, ◌∙◌, arith, inl, inr}
 use Rattle.std.proofs.lemmas.Bool.{cases_Bool, cases_eq, cases_lt}
-use Rattle.sci_words.specs.declared.{limits.TheConstants.{WORDS_PER_LINE}, operation.Op.{Op}}
+use Rattle.sci_words.specs.declared.{limits.TheConstants.{WORDS_PER_LINE}}
 use Rattle.sci_orders.proofs.{Changes.{waiting_below}, Finding.{closed_means}}
-use Rattle.sci_orders.specs.{Eager.{is_closed}, Positions.{Fits, Operations, Position, lists_of, operation_at, own_of, position_of, word_place}}
+use Rattle.sci_orders.specs.{Eager.{is_closed}, Positions.{Fits, Operations, Position, lists_of, operation_at, position_of, word_place}}
 use Rattle.sci_orders.proofs.orders.Orders.closed_line.Goals as goal
 
 pub loop-line-preserved : goal.loop-line-preserved

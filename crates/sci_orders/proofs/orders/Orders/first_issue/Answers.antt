@@ -1,12 +1,12 @@
 -- The next operation of the first such node is issued, or the node may not issue it.
-use Rattle.std.proofs.Common.{◌≡◌, ◌<◌, ◌≤◌, ◌+◌, ℕ, List, length, Option, None, Some, get_or, sym, ap, subst, ◌∙◌, arith, inl, inr}
+use Rattle.std.proofs.Common.{◌≡◌, List, length, sym, ap, subst, ◌∙◌, arith, inl, inr}
 use Rattle.std.proofs.lemmas.{Bool.{cases_lt}, List.{length-map}}
 use Rattle.std.specs.{Prelude.{Vec, option_map}, Vec.{vec_len}, declared.alloc.Global.{Global}}
 use Rattle.sci_words.specs.declared.operation.Op.{Op}
 use Rattle.sci_orders.proofs.{Copies.{own_is}, Eager.{next_issues, next_stays}}
 use Rattle.sci_orders.proofs.orders.Orders.first_issue.Goals.{After-len, else-next-len, then-next-len+in_ok-further+in_default}
 use Rattle.sci_orders.specs.{Eager.{MayIssue}, Positions.{answers_of, lists_of, own_of, position_of}}
-use Rattle.sci_orders.specs.declared.standing.{Answer.{Answer}, Standing.{Standing}}
+use Rattle.sci_orders.specs.declared.standing.{Answer.{Answer}}
 use Rattle.sci_orders.proofs.orders.Orders.first_issue.Goals as goal
 
 -- as many operations of the node are issued as there are answers

@@ -1,11 +1,11 @@
 -- Each node is looked at.
-use Rattle.std.proofs.Common.{◌≡◌, ◌&&◌, ◌||◌, ◌+◌, ◌<◌, ◌≤◌, not, ℕ, Bool, true, false, List, [], length, get_or, refl, sym, ap, subst, ◌∙◌, arith, inl, inr}
-use Rattle.std.proofs.lemmas.{Bool.{cases_eq, cases_lt}, List.{get_or-map, length-map}}
-use Rattle.std.specs.{List.{list_all, list_any, range_with_len}, Prelude.{Vec}, declared.alloc.Global.{Global}}
+use Rattle.std.proofs.Common.{◌≡◌, ◌&&◌, ◌||◌, ◌+◌, ◌<◌, not, ℕ, Bool, true, false, List, [], length, get_or, refl, sym, ap, ◌∙◌, arith, inl, inr}
+use Rattle.std.proofs.lemmas.{Bool.{cases_eq}, List.{get_or-map, length-map}}
+use Rattle.std.specs.{List.{list_any, range_with_len}, Prelude.{Vec}, declared.alloc.Global.{Global}}
 use Rattle.sci_words.specs.declared.operation.Op.{Op}
 use Rattle.sci_orders.proofs.{Copies.{own_is}, Places.{all_pass, any_found, any_next, one_fails}}
 use Rattle.sci_orders.proofs.orders.Orders.is_closed.Goals.{After-has_waiting, then-has_waiting, else-has_waiting+else-has_to_come}
-use Rattle.sci_orders.specs.{Eager.{has_to_come, has_waiting, is_closed, is_held}, Positions.{answers_of, lists_of, own_of, position_of}}
+use Rattle.sci_orders.specs.{Eager.{has_to_come, has_waiting, is_held}, Positions.{answers_of, lists_of, own_of, position_of}}
 use Rattle.sci_orders.specs.declared.standing.{Answer.{Answer}, Standing.{Standing}}
 use Rattle.sci_orders.proofs.orders.Orders.is_closed.Goals as goal
 
