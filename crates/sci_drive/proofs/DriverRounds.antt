@@ -10,7 +10,8 @@ use Rattle.sci_policy.specs.{Deeds.{Deed, Issues}, Worker.{HasSameWork, IsNodeTu
 use Rattle.sci_drive.specs.{declared.driver.Round.{Round}, Calls.{AllDone, Answered, Call, HasHeard, MayIssue, Rest, end_told, reports}}
 use Rattle.sci_drive.specs.Driving.{DriverOf, IsAnswered, IsDriven}
 use Rattle.sci_drive.specs.Resting.{AllAreDone, AreBehind, IsAsked, NotAsked, NotYet, in_a_row, is_rest_due, rests_if, row_after}
-use Rattle.sci_drive.specs.Rounds.{ArePerformed, GoRounds, GoesRound, HasPerformed, IsHeldBack, IsTried, NoneNow, OneMore, Submits, most_pending, next_op, performed}
+use Rattle.sci_drive.specs.Rounds.{ArePerformed, GoRounds, GoesRound, HasPerformed, IsHeldBack, IsTried, NoneNow, OneMore, Submits, most_pending, next_op}
+use Rattle.sci_drive.specs.Rounds.{performed}
 use Rattle.sci_drive.specs.Rounds.{turn_of, with_submitted}
 use Rattle.sci_drive.proofs.GateCalls.{heard_on, no_calls, one_call, submit_call}
 

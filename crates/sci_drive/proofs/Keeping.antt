@@ -81,7 +81,8 @@ submits_keep a b x y calls deeds (NoneNow held is same deeds_are) =
 
 performed_keep : (window waiting left : ℕ) (entries : List Entry) → waiting ≡ left + length entries → KeepTo window waiting (map performed entries) left
 performed_keep window waiting left [] is = omega (arith, is)
-performed_keep window waiting left (e ∷ entries) is = (left + length entries, omega (arith, is), performed_keep window (left + length entries) left entries refl)
+performed_keep window waiting left (e ∷ entries) is =
+    (left + length entries, omega (arith, is), performed_keep window (left + length entries) left entries refl)
 
 performed_issue : (entries : List Entry) → issued_by (map performed entries) ≡ []
 performed_issue [] = refl

@@ -7,7 +7,8 @@ use Rattle.sci_orders.proofs.Changes.{performed_own, waiting_before, waiting_bel
 use Rattle.sci_orders.proofs.Eager.{Issues, Leads, Performs, issued_performed, may_after, may_same, may_step, set_again, set_apart, step_is, waits_step}
 use Rattle.sci_orders.proofs.{Following.{free_of, not_true}, Issuing.{IsFree}, Progress.{AreAnswered}, Reaching.{step_fits}}
 use Rattle.sci_orders.specs.Eager.{MayIssue}
-use Rattle.sci_orders.specs.Positions.{AreWithin, Fits, Operations, Position, answer_at, answer_of, answers_of, is_blocked, operation_at, own_of, step_at, waiting_at}
+use Rattle.sci_orders.specs.Positions.{AreWithin, Fits, Operations, Position, answer_at, answer_of, answers_of, is_blocked, operation_at, own_of, step_at}
+use Rattle.sci_orders.specs.Positions.{waiting_at}
 use Rattle.sci_orders.specs.Positions.{with_issued_at, with_performed_at, word_place}
 use Rattle.sci_words.specs.{Operation.{effect}, declared.{operation.Op.{Op}}}
 use Rattle.sci_orders.specs.declared.standing.Answer.{Answer}
@@ -107,7 +108,8 @@ performed_twice op other p n i m j lt known apart words =
           ∙ (ap (λ (k : ℕ). set (set p.answers n one) k (set (set (answers_of p k) i (answer_given op p)) j (answer_given other p))) e
           ∙ (set_again p.answers n one (set (set (answers_of p n) i (answer_given op p)) j (answer_given other p))
           ∙ (ap (set p.answers n) (set_apart (answers_of p n) i j (answer_given op p) (answer_given other p) places)
-          ∙ (sym (set_again p.answers n (set (answers_of p n) j (answer_given other p)) (set (set (answers_of p n) j (answer_given other p)) i (answer_given op p)))
+          ∙ (sym (set_again p.answers n (set (answers_of p n) j (answer_given other p))
+          (set (set (answers_of p n) j (answer_given other p)) i (answer_given op p)))
           ∙ (ap (λ (k : ℕ). set (set p.answers k (set (answers_of p k) j (answer_given other p))) n
           (set (set (answers_of p n) j (answer_given other p)) i (answer_given op p))) (sym e)
           ∙ ap (λ (as_ : List Answer). set second.answers n (set as_ i (answer_given op p))) (sym theirs))))))
@@ -192,7 +194,8 @@ module _ (lines : ℕ) (operations : Operations) (window : ℕ) (within : AreWit
             let free = free_next operations window p n issues.may in
             let new : (m ≡ n) × (j ≡ length (answers_of p n)) → ⊥ = λ both. (
             let here : (operation_at operations n (length (answers_of p n))).line ≡ line =
-            sym (ap (λ (k : ℕ). (operation_at operations n k).line) both.1) ∙ (sym (ap (λ (k : ℕ). (operation_at operations k j).line) both.0) ∙ next.waits.on) in
+            sym (ap (λ (k : ℕ). (operation_at operations n k).line) both.1)
+            ∙ (sym (ap (λ (k : ℕ). (operation_at operations k j).line) both.0) ∙ next.waits.on) in
             let known = issues.may.below in
             let w = closed.each n (length (answers_of p n)) (omega arith) known here in
             free w.place w.waits (w.on ∙ sym here)) in

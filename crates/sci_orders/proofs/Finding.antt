@@ -11,12 +11,14 @@ use Rattle.sci_orders.proofs.Eager.{Leads, LeadsEagerly, first_below, found_on, 
 use Rattle.sci_orders.proofs.Places.{any_found}
 use Rattle.sci_orders.proofs.{Progress.{AreAnswered, all_answered}, Reaching.{step_fits}, Stands.{opening_fits}}
 use Rattle.sci_orders.specs.Eager.{AreFoundIn, IsFirstClosed, IsFoundIn, MayIssue, comes_to, has_to_come, has_waiting, is_closed, is_held, waits_on}
-use Rattle.sci_orders.specs.Positions.{AreReachedIn, AreWithin, Fits, IsReachedIn, IsStep, Operations, Position, answer_at, answers_of, is_waiting, no_operation}
+use Rattle.sci_orders.specs.Positions.{AreReachedIn, AreWithin, Fits, IsReachedIn, IsStep, Operations, Position, answer_at, answers_of, is_waiting}
+use Rattle.sci_orders.specs.Positions.{no_operation}
 use Rattle.sci_orders.specs.Positions.{opening_position, operation_at, operation_count, own_of, with_issued_at, with_performed_at}
 
 -- ---- closed lines
 
-waiting_means : (operations : Operations) (p : Position) (line n : ℕ) → has_waiting (own_of operations n) (answers_of p n) line ≡ true → WaitsOn operations p line n
+waiting_means : (operations : Operations) (p : Position) (line n : ℕ) → has_waiting (own_of operations n) (answers_of p n) line ≡ true
+    → WaitsOn operations p line n
 waiting_means operations p line n is =
     let any = Any-from_list_any (waits_on (own_of operations n) (answers_of p n) line) (range_with_len 0 (length (answers_of p n))) is in
     let j = any.1 in
@@ -112,7 +114,8 @@ eagerly lines operations window within (suc count) p q fits all (r, s, rest) = e
       let idle : (m : ℕ) → MayIssue operations window p m → ⊥ = λ m may. none m (list_below operations m (length (answers_of p m)) may.below) may in
       elim (first_closed operations p lines) [
         | inl found ↦
-            let way = line_first lines operations window within (suc count) p q found.0 fits all (closed_means operations p found.0 found.1.closed) (r, s, rest) in
+            let closed = closed_means operations p found.0 found.1.closed in
+            let way = line_first lines operations window within (suc count) p q found.0 fits all closed (r, s, rest) in
             let n = way.node in
             let i = way.waits.place in
             let to = with_performed_at (operation_at operations n i) p n i in

@@ -1,9 +1,11 @@
 -- Tests of the numbers below a bound, one after another.
-use Rattle.std.proofs.Common.{◌≡◌, ℕ, zero, suc, ◌+◌, ◌<◌, ◌&&◌, ◌||◌, Bool, true, false, List, [], ◌∷◌, ◌++◌, map, refl, sym, ap, ◌∙◌, arith, Option, Some, None}
+use Rattle.std.proofs.Common.{◌≡◌, ℕ, zero, suc, ◌+◌, ◌<◌, ◌&&◌, ◌||◌, Bool, true, false, List, [], ◌∷◌, ◌++◌, map, refl, sym, ap, ◌∙◌, arith, Option, Some}
+use Rattle.std.proofs.Common.{None}
 use Rattle.std.proofs.Common.{append_assoc}
 use Rattle.std.proofs.lemmas.Grind.{flat_map-append}
 use Rattle.std.proofs.lemmas.List.{append-nil, map-append}
-use Rattle.std.proofs.lemmas.List.{Elements.{filter_map-append}, Folds.{list_all-append, list_all_at, list_any-append, list_any_at}, FromFn.{get_or-range_with_len, length-range_with_len}}
+use Rattle.std.proofs.lemmas.List.{Elements.{filter_map-append}, Folds.{list_all-append, list_all_at, list_any-append, list_any_at}}
+use Rattle.std.proofs.lemmas.List.FromFn.{get_or-range_with_len, length-range_with_len}
 use Rattle.std.specs.List.{cons_option, filter_map, flat_map, list_all, list_any, range_with_len}
 
 from_more : (a n : ℕ) → range_with_len a (n + 1) ≡ range_with_len a n ++ (a + n) ∷ []
@@ -40,7 +42,8 @@ none_any p (suc n) none =
 -- one number more
 pub any_next : (p : ℕ → Bool) (n : ℕ) → list_any p (range_with_len 0 (n + 1)) ≡ (list_any p (range_with_len 0 n) || p n)
 any_next p n =
-    ap (list_any p) (places_more n) ∙ (list_any-append p (range_with_len 0 n) (n ∷ []) ∙ ap (λ (b : Bool). list_any p (range_with_len 0 n) || b) (or_false (p n)))
+    ap (list_any p) (places_more n)
+    ∙ (list_any-append p (range_with_len 0 n) (n ∷ []) ∙ ap (λ (b : Bool). list_any p (range_with_len 0 n) || b) (or_false (p n)))
 
 pub all_pass : (p : ℕ → Bool) (n : ℕ) → ((j : ℕ) → j < n → p j ≡ true) → list_all p (range_with_len 0 n) ≡ true
 all_pass p zero all = refl

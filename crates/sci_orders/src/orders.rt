@@ -6,7 +6,8 @@ ghost use Rattle.sci_words.specs.declared.event.Event.{Event};
 ghost use Rattle.sci_core.specs.Size.{IsMachineSize, size_of};
 ghost use Rattle.sci_orders.specs.declared.fault.OrdersFault.TheVariants.{TooMany};
 ghost use Rattle.sci_orders.specs.Eager.{AddsSteps, AreStepsFrom, AreTooMany, AreTooManyFrom, IsFirstIssue, MayIssue};
-ghost use Rattle.sci_orders.specs.Positions.{AreOnce, AreReachedIn, AreWithin, Fits, lists_of, opening_position, operation_count, own_of, position_of, is_on, step_on, steps_on};
+ghost use Rattle.sci_orders.specs.Positions.{AreOnce, AreReachedIn, AreWithin, Fits, lists_of, opening_position, operation_count, own_of, position_of};
+ghost use Rattle.sci_orders.specs.Positions.{is_on, step_on, steps_on};
 ghost use Rattle.sci_orders.specs.Orders.{HasRun, IsAmong, IsOrderOf, IsScriptOf};
 ghost use Rattle.sci_orders.specs.Witness.{seen};
 

@@ -36,7 +36,8 @@ then_works n old mid new e more one two =
     two ∙ (ap (λ (es : List Event). es ++ more) one ∙ append_assoc (works n old) (e ∷ []) more)
 
 -- a turn adds no Issue and no Perform
-turn_works : (n : ℕ) (s t : Standing) (deed : Deed) (progress : Progress) → deed ≡ Turns progress → IsDeed n deed s t → works n t.course.events ≡ works n s.course.events
+turn_works : (n : ℕ) (s t : Standing) (deed : Deed) (progress : Progress) → deed ≡ Turns progress → IsDeed n deed s t
+    → works n t.course.events ≡ works n s.course.events
 turn_works n s t deed progress is does =
     let done = subst (λ (d : Deed). IsDeed n d s t) is does in
     let adds = (turn_quiet s.policy t.policy (post_on n s.course) (post_on n t.course) progress done.whole).adds s.course.events refl in
@@ -109,17 +110,17 @@ done_then n a b c one two = record {
 round_done : (n m : ℕ) (old new : Moment) → IsRound m old new → HasDone n old new
 round_done n m old new round = elim (cases_eq m n) [
   | inl here ↦ subst (λ (k : ℕ). HasDone k old new) here (record {
-      deeds = round.deeds;
-      keeps = λ d. round_keeps _ round.deeds tt tt (driver_at old m d) (driver_at new m d) (node_at old.core m) (node_at new.core m) round.round (round.goes d);
-      made = deeds_work m round.deeds (standing (policy_at old m) (course_at old)) (standing (policy_at new m) (course_at new)) round.does;
-    })
+    deeds = round.deeds;
+    keeps = λ d. round_keeps _ round.deeds tt tt (driver_at old m d) (driver_at new m d) (node_at old.core m) (node_at new.core m) round.round (round.goes d);
+    made = deeds_work m round.deeds (standing (policy_at old m) (course_at old)) (standing (policy_at new m) (course_at new)) round.does;
+  })
   | inr apart ↦ record {
-      deeds = [];
-      keeps = λ d. subst (λ (x : DriverOf). Keeps (driver_at old n d) x []) (sym (round.drivers n d (λ is. apart (sym is)))) (keeps_itself (driver_at old n d));
-      made = other_deeds m n round.deeds (standing (policy_at old m) (course_at old)) (standing (policy_at new m) (course_at new))
-          (λ is. apart (sym is)) round.does
-          ∙ sym (append-nil (works n old.events));
-    }
+    deeds = [];
+    keeps = λ d. subst (λ (x : DriverOf). Keeps (driver_at old n d) x []) (sym (round.drivers n d (λ is. apart (sym is)))) (keeps_itself (driver_at old n d));
+    made = other_deeds m n round.deeds (standing (policy_at old m) (course_at old)) (standing (policy_at new m) (course_at new))
+        (λ is. apart (sym is)) round.does
+        ∙ sym (append-nil (works n old.events));
+  }
 ]
 
 played_done : (n nodes rounds : ℕ) (order later : _) (old new : Moment) → Played nodes rounds order old later new → HasDone n old new

@@ -1,11 +1,13 @@
 -- The outcomes that were seen and the others are as many as a run of the script can have.
-use Rattle.std.proofs.Common.{◌≡◌, ◌==◌, ◌<◌, ◌≤◌, ◌+◌, ◌&&◌, not, ℕ, suc, Bool, true, false, if◌then◌else◌, List, [], ◌∷◌, length, map, get_or, refl, sym, ap, subst, ◌∙◌}
+use Rattle.std.proofs.Common.{◌≡◌, ◌==◌, ◌<◌, ◌≤◌, ◌+◌, ◌&&◌, not, ℕ, suc, Bool, true, false, if◌then◌else◌, List, [], ◌∷◌, length, map, get_or, refl, sym}
+use Rattle.std.proofs.Common.{ap, subst, ◌∙◌}
 use Rattle.std.proofs.Common.{All, arith, inl, inr}
 use Rattle.std.proofs.lemmas.Bool.{and_from, and_parts, cases_Bool, eqb-true}
 use Rattle.std.proofs.lemmas.Cmp.{eq_by_cmp_equiv, nat_cmp_total, tied_itself}
 use Rattle.std.proofs.lemmas.List.{get_or-map, length-map, Elements.{All-contains, All-map}, Filters.{length-filter_both}}
 use Rattle.std.proofs.lemmas.List.{Folds.{Any-from_list_any, list_any-from_Any}, Kept.{IsStrictlySortedBy-filter}}
-use Rattle.std.proofs.lemmas.Map.{Keys.{IsDistinct-from_apart, IsDistinct-from_sorted, apart_from_distinct}, Made.{length-from_same_keys}, Views.{any-filter_same}}
+use Rattle.std.proofs.lemmas.Map.{Keys.{IsDistinct-from_apart, IsDistinct-from_sorted, apart_from_distinct}, Made.{length-from_same_keys}}
+use Rattle.std.proofs.lemmas.Map.Views.{any-filter_same}
 use Rattle.std.specs.Cmp.{Equal-is, both_ways}
 use Rattle.std.specs.{List.{Any, Contains, IsDistinct, filter, list_any}, Prelude.{count_by}}
 use Rattle.std.specs.Ordering.{eq_by_cmp, is_eq, nat_cmp, ordering_then}
@@ -85,10 +87,10 @@ module _ (script : ScriptValue) (window : ℕ) (seen : List Sighting) (rows : Li
       let any = Any-from_list_any (is_same q) row_outcomes has in
       let Known = λ (o : Outcome). IsAllowed script window (shown_of o) × (was_seen o ≡ true) in
       let each = All-map Known (λ (row : Row). row.outcome) rows (λ k d lt. (
-          let is = are.each k d lt in
-          let runs = is.runs in
-          let some = is.some in
-          (among k d lt, any_counted _ seen (omega (arith, runs, some))))) in
+      let is = are.each k d lt in
+      let runs = is.runs in
+      let some = is.some in
+      (among k d lt, any_counted _ seen (omega (arith, runs, some))))) in
       let known = All-contains Known row_outcomes any.1 each (any.0, any.2, any.3) in
       let there = all.all (shown_of any.1) known.0 in
       let equal : is_same any.1 there.1 ≡ true = sym (matches_eq-law any.1 there.1) ∙ equal_outcome any.1 there.1 (sym there.4) in

@@ -48,9 +48,10 @@ module _ (script : ScriptValue) (good : IsScript script) where
       let operations = shares_of script in
       let nodes : length operations ≡ script.nodes = share_count script in
       let part : (n : ℕ) → n < length operations → IsPart operations (most_pending issuing) n (own_events n (filter is_seen schedule)) = λ n lt. (
-          let below : n < script.nodes = omega (arith, lt, nodes) in
-          let does = driven n below in
-          part_of operations n issuing does.0 schedule (subst (λ (own : List Op). IsDriven issuing own does.0) (sym (own_is_share script n below)) does.1) does.2) in
+      let below : n < script.nodes = omega (arith, lt, nodes) in
+      let does = driven n below in
+      part_of operations n issuing does.0 schedule
+      (subst (λ (own : List Op). IsDriven issuing own does.0) (sym (own_is_share script n below)) does.1) does.2) in
       subst (IsOrderOf operations (most_pending issuing)) (sym (seen_enabled (size_for script) schedule enabled))
       (is_order operations (most_pending issuing) (filter is_seen schedule)
       (subst (λ (k : ℕ). AllByRecursion (λ (e : Event). node_of e < k) (filter is_seen schedule)) (sym nodes)
@@ -73,8 +74,8 @@ module _ (script : ScriptValue) (good : IsScript script) where
       let behind = subst (λ (ls : List (List Entry)). HaveWholeLogsOf script ls) logs_are whole in
       let once : (n k : ℕ) → n < length operations → k < length (own_of operations n) → times_answered k (log_of (logs_of (run size schedule)) n) ≡ 1 =
       λ n k lt below. (
-          let low : n < script.nodes = omega (arith, lt, nodes) in
-          (behind n low).each k (subst (λ (own : List Op). k < length own) (own_is_share script n low) below)) in
+      let low : n < script.nodes = omega (arith, lt, nodes) in
+      (behind n low).each k (subst (λ (own : List Op). k < length own) (own_is_share script n low) below)) in
       let here = subst (λ (l : List Stamped). IsSeen places (logs_of (run size schedule)) l sighting) last_are
       (subst (λ (ls : List (List Entry)). IsSeen places ls last sighting) logs_are is) in (
         schedule,

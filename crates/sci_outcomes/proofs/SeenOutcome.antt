@@ -34,7 +34,8 @@ flat_same {Y = Y} f g a (suc n) same =
     ∙ ap (λ (ys : List Y). g a ++ ys) (flat_same f g (a + 1) n (λ i low. same i (omega arith)))
 
 -- numbers of which nothing is given add nothing
-flat_past : {Y : Type 0} (f : ℕ → List Y) (n more : ℕ) → ((i : ℕ) → n ≤ i → f i ≡ []) → flat_map f (range_with_len 0 (n + more)) ≡ flat_map f (range_with_len 0 n)
+flat_past : {Y : Type 0} (f : ℕ → List Y) (n more : ℕ) → ((i : ℕ) → n ≤ i → f i ≡ [])
+    → flat_map f (range_with_len 0 (n + more)) ≡ flat_map f (range_with_len 0 n)
 flat_past f n zero none = let same : n + 0 ≡ n = omega arith in ap (λ (k : ℕ). flat_map f (range_with_len 0 k)) same
 flat_past {Y = Y} f n (suc more) none =
     let next : n + suc more ≡ (n + more) + 1 = omega arith in
@@ -127,9 +128,9 @@ module _ (size : Size) (operations : Operations) (schedule : List Event) (p : Po
       flat_map-map (filter_map replied) in_serial_order logs
       ∙ (flat_map-map (λ (log : List Entry). filter_map replied (in_serial_order log)) own (range_with_len 0 MAX_NODES)
       ∙ (flat_same (λ n. filter_map replied (in_serial_order (own n))) (replies_on operations p) 0 MAX_NODES (λ n lt. (
-          let at = log_at (run size schedule) n (omega (arith, lt)) in
-          ap (λ (log : List Entry). filter_map replied (in_serial_order log)) (sym at)
-          ∙ node_replies operations p n (log_of logs n) (log_entries n (omega (arith, lt))) (once_at n)))
+      let at = log_at (run size schedule) n (omega (arith, lt)) in
+      ap (λ (log : List Entry). filter_map replied (in_serial_order log)) (sym at)
+      ∙ node_replies operations p n (log_of logs n) (log_entries n (omega (arith, lt))) (once_at n)))
       ∙ (ap (λ (k : ℕ). flat_map (replies_on operations p) (range_with_len 0 k)) (sym count)
       ∙ flat_past (replies_on operations p) (length operations) more
       (λ n past. ap (λ (k : ℕ). filter_map (λ (i : ℕ). replied_at n i (answer_at p n i)) (range_with_len 0 k)) (none_past n past)))))

@@ -31,7 +31,8 @@ module _ (script : ScriptValue) (good : IsScript script) (within : All (IsPlaceW
       run_allowed script good issuing led.schedule is.logs is.last sighting led.enabled
       (λ n lt. thread_works MAX_TURNS issuing (λ node. operations_of node script.operations) is.led.core led.schedule n is.driven
       (subst (λ (s : Size). n < s.nodes) (sym led.sized) lt))
-      (is.led.logs_are ∙ ap (λ (core : Core). logs_of core) (sym leads)) (is.led.last_are ∙ ap (λ (core : Core). last_of core) (sym leads)) is.whole within is.seen
+      (is.led.logs_are ∙ ap (λ (core : Core). logs_of core) (sym leads)) (is.led.last_are ∙ ap (λ (core : Core). last_of core) (sym leads)) is.whole
+      within is.seen
 
   -- the outcome of a row is that of a sighting
   row_allowed : (trials : Trials) (seen : List Sighting) (row : Row) → AreSeenOf script trials seen → IsRowOf seen row

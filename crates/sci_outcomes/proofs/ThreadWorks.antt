@@ -7,7 +7,8 @@ use Rattle.sci_words.specs.declared.{event.Event.{Event}, operation.{Op.{Op}, Re
 use Rattle.sci_history.specs.declared.entry.Entry.{Entry}
 use Rattle.sci_cache.specs.Cache.{CacheOf, line_of}
 use Rattle.sci_core.proofs.Basics.Options.{same_some}
-use Rattle.sci_core.specs.{Core.{Core, node_of}, Node.{NodeOf, may_issue, node_issued, node_issuing, node_performing, opening_node, pending_on, performed_by, performing_pending}}
+use Rattle.sci_core.specs.Core.{Core, node_of}
+use Rattle.sci_core.specs.Node.{NodeOf, may_issue, node_issued, node_issuing, node_performing, opening_node, pending_on, performed_by, performing_pending}
 use Rattle.sci_core.specs.declared.pending.Pending.{Pending}
 use Rattle.sci_lanes.specs.{Shown.{me_of}, Telling.{IsMade}}
 use Rattle.sci_policy.specs.Deeds.{Deed, DoesBy, Issues, Performs, Turns}

@@ -1,5 +1,6 @@
 -- A whole turn has no Issue and no Perform of its node.
-use Rattle.std.proofs.Common.{◌≡◌, ◌≢◌, ◌==◌, ◌⊎◌, ℕ, zero, suc, Bool, true, false, if◌then◌else◌, List, [], ◌∷◌, ◌++◌, append_assoc, refl, sym, ap, subst, ◌∙◌, inl, inr}
+use Rattle.std.proofs.Common.{◌≡◌, ◌≢◌, ◌==◌, ◌⊎◌, ℕ, zero, suc, Bool, true, false, if◌then◌else◌, List, [], ◌∷◌, ◌++◌, append_assoc, refl, sym, ap, subst}
+use Rattle.std.proofs.Common.{◌∙◌, inl, inr}
 use Rattle.std.proofs.lemmas.{Bool.{ne_eqb}, List.{append-nil, Elements.{filter-append}}}
 use Rattle.std.specs.{List.{filter}, Prelude.{Option, Some, None}}
 use Rattle.sci_history.proofs.Order.{filter_no}
@@ -68,10 +69,10 @@ still_quiet : (old new : PostOf) → IsStill old new → IsQuiet old new
 still_quiet old new still = record {
   me = still.same.me;
   adds = λ known is. (
-      still.others,
-      further_is old.me old.schedule new.schedule known still.others still.further is,
-      others_works old.me old.core new.core still.others still.lead,
-    );
+    still.others,
+    further_is old.me old.schedule new.schedule known still.others still.further is,
+    others_works old.me old.core new.core still.others still.lead,
+  );
 }
 
 made_quiet : (old new : PostOf) (e : Event) → is_seen e ≡ false → IsMade old e new → IsQuiet old new

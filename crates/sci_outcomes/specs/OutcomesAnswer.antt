@@ -10,7 +10,8 @@ use Rattle.sci_outcomes.specs.declared.histogram.Row.{Row}
 use Rattle.sci_outcomes.specs.declared.outcomes_report.{OutcomesRequest.{OutcomesRequest}, TheConstants.{RUNS, SEED}}
 use Rattle.sci_outcomes.specs.declared.trials.{Trials.{Trials}, Turns.{Turns, TheVariants.{Drawn, Threads}}}
 use Rattle.sci_drive.specs.Rounds.{most_pending}
-use Rattle.sci_allowed.specs.{Allowed.{AreRows, IsAllowed, IsTooBig}, Outcome.{shown_of}, Verdict.{AddsVerdict, IsVerdict}, declared.rows.AllowedRow.{AllowedRow}}
+use Rattle.sci_allowed.specs.{Allowed.{AreRows, IsAllowed, IsTooBig}, Outcome.{shown_of}, Verdict.{AddsVerdict, IsVerdict}}
+use Rattle.sci_allowed.specs.declared.rows.AllowedRow.{AllowedRow}
 use Rattle.sci_outcomes.specs.{Rows.{AreRowsOf, unseen_of}, SampleVerdict.{IsSampleVerdict}, Trials.{AreSeenOf, OneIsGivenUp}}
 use Rattle.sci_outcomes.specs.declared.outcome.Sighting.{Sighting}
 use Rattle.sci_command.specs.declared.outcome.Outcome as ending
