@@ -9,3 +9,4 @@ pub mod Faulty
 pub mod Window
 pub mod NoteText
 pub mod Note
+pub mod ReadLog

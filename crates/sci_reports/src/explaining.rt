@@ -7,12 +7,14 @@ ghost use Rattle.sci_history.specs.{Audit.{AreFound, AreKnown, AreWithin}, Place
 ghost use Rattle.sci_text.specs.{FirstFault.{IsTold}, LogFault.{IsLogFault}, Tap.{has_failed}};
 ghost use Rattle.sci_command.specs.{Answer.{HasAnswered}, declared.outcome.Outcome.{Outcome}};
 ghost use Rattle.sci_reports.specs.EntryLines.{entries_in};
-ghost use Rattle.sci_reports.specs.ExplainAnswer.{AreNotes, IsExplainAnswer, IsExplained, IsNote};
+ghost use Rattle.sci_reports.specs.ExplainAnswer.{AreNotes, IsExplainAnswer, IsExplained, IsExplanationOf, IsNote};
+ghost use Rattle.sci_reports.specs.ReadLog.{IsReadLog};
 ghost use Rattle.sci_reports.specs.Subject.{IsSubject};
 
 use crate::note::{Subject, note_of};
-use crate::numbered::{entries_on, lines_before};
-use sci_command::{Answer, Answered, Outcome, logs_of, verdict_line};
+use crate::numbered::entries_on;
+use crate::read_log::ReadLog;
+use sci_command::{Answer, Answered, Outcome, verdict_line};
 use sci_history::{Last, LineFault, Logs, Verdict, audit, line_faults};
 use sci_text::{Tap, read_input};
 use std::alloc::{AllocError, Global};
@@ -106,6 +108,17 @@ fn explained(alloc: Global, before: usize, logs: &Logs, last: &Last) -> Result<A
     }
 }
 
+impl ReadLog {
+    /// What `explain` writes of the log, and how it ends. Refused if memory is.
+    pub fn explained(&self, alloc: Global) -> Result<Answer, AllocError>
+        requires { (text : List ℕ) × IsReadLog text self.now }
+        ensures { (text : List ℕ) → IsReadLog text self.now
+            → IfOk result (λ x. IsExplanationOf text x.text.items x.outcome) }
+    {
+        explained(alloc, self.before, &self.logs, &self.last)
+    }
+}
+
 /// Reads a log to its end and audits it: `lawful` is Done. Of a log that isn't lawful it reports the first fault of each
 /// line of memory that has one, lowest lines first, and is Unlawful:
 /// - the line of an audit that names the fault;
@@ -119,6 +132,6 @@ pub fn explain<R: Read>(alloc: Global, reader: &mut Tap<R>) -> Answered
     ensures { HasAnswered R.remaining reader.old reader.new IsExplainAnswer (IsTold IsLogFault) result }
 {
     let bytes = read_input(alloc, reader)?;
-    let (_, logs, last) = logs_of(alloc, &bytes)?;
-    Ok(explained(alloc, lines_before(&bytes, &last), &logs, &last)?)
+    let log = ReadLog::of(alloc, &bytes)?;
+    Ok(log.explained(alloc)?)
 }

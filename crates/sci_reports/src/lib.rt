@@ -7,7 +7,9 @@ mod faulty;
 mod note;
 mod numbered;
 mod ordering;
+mod read_log;
 
 pub use checking::check;
 pub use explaining::explain;
 pub use ordering::{NodeOrder, OrderRequest, order};
+pub use read_log::ReadLog;

@@ -1,16 +1,17 @@
 //! The command `order`: whether a log is sequentially consistent, or a cycle of entries that shows that it is not.
 
-ghost use Rattle.std.specs.{Prelude.{◌≡◌, ◌≤◌, ◌+◌, ◌++◌, ◌↔◌, ℕ, false, length, IfOk, OnOk}, List.{flat_map}};
+ghost use Rattle.std.specs.{Prelude.{◌≡◌, ◌≤◌, ◌+◌, ◌++◌, ◌↔◌, ℕ, List, false, length, IfOk, OnOk}, List.{flat_map}};
 ghost use Rattle.sci_words.specs.declared.limits.TheConstants.{MAX_LINES, MAX_OPERATIONS};
 ghost use Rattle.sci_history.specs.{Audit.{AreWithin, entries_of}, Cycle.{IsOrdered}, Lawful.{Lawful}, Placed.{log_of}};
 ghost use Rattle.sci_text.specs.{FirstFault.{IsTold}, Log.{entry_line}, LogFault.{IsLogFault}, Tap.{has_failed}};
 ghost use Rattle.sci_command.specs.{Answer.{HasAnswered}, declared.outcome.Outcome.{Outcome}};
-ghost use Rattle.sci_reports.specs.OrderAnswer.{IsFound, AreNumbered, IsOrderAnswer, IsOrderText, cycle_text as cycle_text_of};
+ghost use Rattle.sci_reports.specs.OrderAnswer.{IsFound, AreNumbered, IsOrderAnswer, IsOrderOf, IsOrderText, cycle_text as cycle_text_of};
 ghost use Rattle.sci_reports.specs.OrderAnswer.{found_text as found_text_of, order_name as order_name_of, place_text, reason_text, sense_text, shown_text};
-ghost use Rattle.sci_reports.specs.OrderAnswer.{step_text, why_text};
+ghost use Rattle.sci_reports.specs.{OrderAnswer.{step_text, why_text}, ReadLog.{IsReadLog}};
 
-use crate::numbered::{line_of_entry, lines_before};
-use sci_command::{Answer, Answered, Outcome, logs_of, verdict_line};
+use crate::numbered::line_of_entry;
+use crate::read_log::ReadLog;
+use sci_command::{Answer, Answered, Outcome, verdict_line};
 use sci_history::{
     Entry, Last, Logs, OrderVerdict, Reason, Step, Verdict, audit, sequential_order,
     serial_order_is_lawful,
@@ -313,6 +314,21 @@ fn found(alloc: Global, search: Search, logs: &Logs, last: &Last) -> Result<Answ
     }
 }
 
+impl ReadLog {
+    /// What `order` writes of the log, and how it ends. Refused if memory is.
+    pub fn ordered(&self, alloc: Global, request: OrderRequest) -> Result<Answer, AllocError>
+        requires { (text : List ℕ) × IsReadLog text self.now }
+        ensures { (text : List ℕ) → IsReadLog text self.now
+            → IfOk result (λ x. IsOrderOf request text x.text.items x.outcome) }
+    {
+        let search = Search {
+            request,
+            before: self.before,
+        };
+        found(alloc, search, &self.logs, &self.last)
+    }
+}
+
 /// Reads a log to its end and searches for one order of all its entries that makes it sequentially consistent, and in which
 /// each node's entries stand in the order that is asked for: as in its log, or by their serials. Done, with the line
 /// `sequentially consistent` (and ` in program order` if it is by serials), if there is one; if asked, its entries follow,
@@ -326,8 +342,6 @@ pub fn order<R: Read>(alloc: Global, request: OrderRequest, reader: &mut Tap<R>)
     ensures { HasAnswered R.remaining reader.old reader.new (IsOrderAnswer request) (IsTold IsLogFault) result }
 {
     let bytes = read_input(alloc, reader)?;
-    let (_, logs, last) = logs_of(alloc, &bytes)?;
-    let before = lines_before(&bytes, &last);
-    let search = Search { request, before };
-    Ok(found(alloc, search, &logs, &last)?)
+    let log = ReadLog::of(alloc, &bytes)?;
+    Ok(log.ordered(alloc, request)?)
 }
