@@ -5,9 +5,11 @@ The packets of a schedule are those that `sciview packets` writes and `scimem de
 for each, in their order: from the column of its sender to that of its receiver, downwards, dotted only for a busy answer,
 and in short dashes only for a request that is answered busy. Its title is the whole packet, and its label names it and the
 node that it names. Each event has its row, with its line in the schedule. A label of a state has the title that `sciview
-trace` prints. No two texts overlap, and no label says nothing of its line. The schedules are those of examples/ and the
-first events of scripts/make/inputs.py. A chart of some lines of a schedule has their rows and the packets under way there. A
-chart in docs/ has to be what the program draws of the schedule of that name.
+trace` prints. No two texts overlap, and no label says nothing of its line. A thin line goes from the issue of an operation to
+its perform, with the events between, which its label has too. Of packets of a node to itself that are under way at once each
+has its own way. The schedules are those of examples/, the first events of scripts/make/inputs.py, and loops. A chart of some
+lines of a schedule has their rows and the packets under way there, each with its name, and with its sender or its receiver
+if it has no row. A chart in docs/ has to be what the program draws of the schedule of that name.
 The last line is 'N passed, M failed', of charts.
 """
 
@@ -23,6 +25,20 @@ SCIMEM, SCIVIEW = (f"{TOP}/crates/{name}/out/{name}" for name in ("scimem", "sci
 SPACE = "{http://www.w3.org/2000/svg}"
 # The kinds of arrows in the order of the legend, which shows each once, with the dashes of each.
 DASHES = {"request": None, "request refused": "6 5", "answer": "18 3", "answer busy": "2 4"}
+# Packets of node 0 to itself: of the first two one is taken before the third is sent, and then there are four at once.
+LOOPS = b"""machine 1 4 4
+ask 0 0 mread
+ask 0 1 mread
+serve 0 0
+reply 0
+ask 0 2 mread
+serve 0 0
+ask 0 3 mread
+accept 0 0
+reply 0
+serve 0 0
+accept 0 0
+"""
 # How wide a character is at most, and how high a text is, in pixels.
 WIDTH, HEIGHT = 7, 12
 
@@ -39,6 +55,7 @@ def schedules():
                 yield name, file.read()
     made = subprocess.run([f"{TOP}/scripts/make/inputs.py", "schedule"], stdout=subprocess.PIPE, check=True).stdout
     yield "inputs.py schedule", b"\n".join(made.split(b"\n")[:2001]) + b"\n"
+    yield "loops", LOOPS
 
 
 # A packet as `scimem decode` prints it, and what a chart calls it.
@@ -55,7 +72,7 @@ def packets(given):
 
 # A text and an arrow of a chart. Places are in pixels from where the texts of events begin and from the upper edge.
 Text = namedtuple("Text", "kind x y words title")
-Arrow = namedtuple("Arrow", "kind start end title")
+Arrow = namedtuple("Arrow", "kind start end title way")
 
 
 def drawn(element, names, down=0):
@@ -106,7 +123,7 @@ def arrows_of(chart):
     found = [it for it in drawn(chart, []) if it[0].get("class") in kinds]
     for it, down in found[len(kinds) :]:
         (x, y), (to_x, to_y) = ends(it.get("d"))
-        yield Arrow(kinds[it.get("class")], (x, y + down), (to_x, to_y + down), it.findtext(f"{SPACE}title"))
+        yield Arrow(kinds[it.get("class")], (x, y + down), (to_x, to_y + down), it.findtext(f"{SPACE}title"), it.get("d"))
 
 
 def style_faults(chart):
@@ -137,7 +154,7 @@ def said_of_packets(texts, rows):
         # A label stands 8 pixels above its row's text, or below it.
         event = heights.get(text.y + 8) or heights.get(text.y - 8)
         if text.kind == "label" and event in ("ask", "reply"):
-            yield re.sub(r"^line \d+: ", "", text.words).split(",")[0]
+            yield re.sub(r"^line \d+: | to \d+$", "", text.words.split(",")[0])
 
 
 def overlap(first, second):
@@ -159,6 +176,56 @@ def part_faults(given):
     due = [it.title for it in arrows_of(whole) if lines[it.start[1]] <= last and lines.get(it.end[1], count) >= first]
     if [it.title for it in arrows_of(part)] != due:
         yield f"the arrows of lines {first} to {last}"
+    yield from cut_faults(part)
+
+
+def cut_faults(part):
+    """What is wrong with the names of packets that a chart of some lines cuts off."""
+    texts, heights = list(texts_of(part)), {it.y - 4 for it in rows_of(part)}
+    # A label stands 4 pixels above its row, or 12 below it.
+    said = {y: it.words for it in texts if it.kind == "label" for y in (it.y + 4, it.y - 12) if y in heights}
+    passing = [it.words for it in texts if it.words.startswith("under way in all rows: ")]
+    due = []
+    for arrow in arrows_of(part):
+        command, _, receiver, _, sender = arrow.title.split()[:5]
+        from_row, to_row = arrow.start[1] in heights, arrow.end[1] in heights
+        if not from_row and not to_row:
+            due.append(f"under way in all rows: {command} from {sender} to {receiver}")
+        elif not from_row and not re.search(rf"^(line \d+: )?{command}.* from {sender}(,|$)", said.get(arrow.end[1], "")):
+            yield f"the name of {arrow.title} from above"
+        elif not to_row and not re.search(rf"^(line \d+: )?{command}.* to {receiver}(,|$)", said.get(arrow.start[1], "")):
+            yield f"the name of {arrow.title} that goes on"
+    if passing != due:
+        yield "the packets under way in all rows"
+
+
+def wait_faults(chart, texts, rows):
+    """What is wrong with the lines of operations, and with what their labels say of them."""
+    columns, pending, due = columns_of(chart), {}, []
+    labels = {it.y + 4: it.words for it in texts if it.kind == "label"}
+    for row in (it for it in rows if it.kind == "event"):
+        number, kind, node, *more = row.words.replace(":", "").split()
+        if kind == "issue":
+            pending[node, more[1]] = (int(number), row.y - 4)
+        if kind == "perform":
+            issued, y = pending.pop((node, more[0]))
+            wait = int(number) - issued - 1
+            due.append((columns[int(node)], y, row.y - 4, f"wait {wait}"))
+            if f", wait {wait}" not in labels[row.y - 4]:
+                yield f"the label of {row.words}"
+    # The first one is that of the legend.
+    lines = [(it.get("d"), it.findtext(f"{SPACE}title")) for it, _ in drawn(chart, []) if it.get("class") == "w"][1:]
+    if [(*ends(way)[0], ends(way)[1][1], title) for way, title in lines] != due:
+        yield "the lines of operations"
+
+
+def loop_faults(arrows):
+    """Where packets of a node to itself go one on another."""
+    loops = [(it, re.search(r"H(\d+)V", it.way)[1]) for it in arrows if it.start[0] == it.end[0]]
+    for place, (it, left) in enumerate(loops):
+        for other, other_left in loops[:place]:
+            if other.start[0] == it.start[0] and other.end[1] > it.start[1] and left == other_left:
+                yield f"{it.title} on {other.title}"
 
 
 def arrow_faults(arrows, sent, columns):
@@ -190,6 +257,8 @@ def faults(given):
         yield f"{len(rows)} rows, of {len(events)} events"
     if [*said_of_packets(texts, rows)] != [packet.name for packet in sent]:
         yield "a label that names another packet, or none"
+    yield from wait_faults(chart, texts, rows)
+    yield from loop_faults(list(arrows_of(chart)))
     if any(it.words.endswith(": ") for it in texts if it.kind == "label"):
         yield "a label that says nothing of its line"
     changes = ran(SCIVIEW, "trace", given=given).decode()

@@ -13,6 +13,9 @@ use std::collections::VecDeque;
 /// If a packet is under way for more rows than these, both ends of its arrow name it.
 const FAR: u32 = 10;
 
+/// The last of the ways on which packets of a node to itself go side by side.
+const LAST_TRACK: u8 = 5;
+
 /// What kind of packet an arrow shows.
 #[derive(Clone, Copy)]
 pub enum ArrowKind {
@@ -63,8 +66,9 @@ pub struct Passage {
     pub is_past: bool,
     /// Whether it was answered busy.
     pub is_refused: bool,
-    /// How many packets of the sender to itself were under way when it was sent, if it is one; 3 if there were more.
-    pub beside: u8,
+    /// Which of the ways of packets of a node to itself is its own, from 0: none that is under way with it has the same, unless
+    /// there are more than five.
+    pub track: u8,
 }
 
 impl Passage {
@@ -74,24 +78,40 @@ impl Passage {
     }
 
     /// Of a packet that is sent in a row, or before the first one.
-    fn begun(sent: Option<u32>, beside: u8) -> Passage {
+    fn begun(sent: Option<u32>, track: u8) -> Passage {
         Passage {
             sent,
             taken: None,
             is_past: false,
             is_refused: false,
-            beside,
+            track,
         }
     }
 
-    /// Whether it was taken many rows below the one where it was sent, or was sent before the first row.
-    fn is_far(&self) -> bool {
+    /// From where it came to the row where it was taken.
+    fn origin(&self) -> Origin {
         match (self.sent, self.taken) {
-            (Some(sent), Some(taken)) => taken.saturating_sub(sent) > FAR,
-            (None, taken) => taken.is_some(),
-            (Some(_), None) => false,
+            (Some(sent), Some(taken)) if taken.saturating_sub(sent) > FAR => Origin::Far,
+            (Some(_), _) => Origin::Near,
+            (None, _) => Origin::Above,
         }
     }
+
+    /// Whether it goes on to where the columns end.
+    pub fn goes_on(&self) -> bool {
+        self.taken.is_none() && !self.is_past
+    }
+}
+
+/// From where a packet comes that is taken in a row.
+#[derive(Clone, Copy)]
+pub enum Origin {
+    /// From one of the rows above.
+    Near,
+    /// From a row many rows above.
+    Far,
+    /// From before the first row.
+    Above,
 }
 
 /// The packets that were sent, and those of them that are under way. A second pass over the schedule asks for each once more, in
@@ -102,8 +122,8 @@ pub struct Arrows {
     passages: Vec<Passage>,
     /// Those that were sent before the first row.
     early: Vec<Packet>,
-    /// Of the packets that were taken in rows, in the order in which they were taken: whether they came from far.
-    far: Vec<bool>,
+    /// Of the packets that were taken in rows, in the order in which they were taken: from where they came.
+    origins: Vec<Origin>,
     /// For each lane the places of the packets that are under way in it, oldest first.
     lanes: Vec<VecDeque<usize>>,
     /// How many of those that were sent in rows were asked for.
@@ -132,7 +152,7 @@ impl Arrows {
         Ok(Arrows {
             passages: Vec::new(alloc),
             early: Vec::new(alloc),
-            far: Vec::new(alloc),
+            origins: Vec::new(alloc),
             lanes,
             asked_sent: 0,
             asked_taken: 0,
@@ -144,14 +164,34 @@ impl Arrows {
         (&self.early, &self.passages)
     }
 
-    /// How many packets of a packet's sender to itself are under way, if that is whom it is for.
-    fn to_itself(&self, packet: &Packet) -> usize {
+    /// Whether a packet in a lane goes on a way.
+    fn has_track(&self, lane: usize, track: u8) -> bool {
+        let Some(places) = self.lanes.get(lane) else {
+            return false;
+        };
+        for place in places.iter() {
+            if let Some(passage) = self.passages.get(*place) {
+                if passage.track == track {
+                    return true;
+                }
+            }
+        }
+        false
+    }
+
+    /// The first way on which no packet of a packet's sender to itself is, if that is whom it is for; the last one, if one is on
+    /// each.
+    fn free_track(&self, packet: &Packet) -> u8 {
         if packet.source != packet.target {
             return 0;
         }
-        let (first, second) = (lane_of(packet), lane_of(packet) ^ 1);
-        let under_way = |lane: usize| self.lanes.get(lane).map_or(0, VecDeque::len);
-        under_way(first).saturating_add(under_way(second))
+        let lane = lane_of(packet);
+        for track in 0..LAST_TRACK {
+            if !self.has_track(lane, track) && !self.has_track(lane ^ 1, track) {
+                return track;
+            }
+        }
+        LAST_TRACK
     }
 
     /// A packet is sent in a row, or before the first one.
@@ -159,8 +199,8 @@ impl Arrows {
         // Makes an option, so that the prover learns the types inside a packet.
         let _told = Some(*packet);
         let place = self.passages.len();
-        let beside = self.to_itself(packet).min(3) as u8;
-        self.passages.push(Passage::begun(row, beside))?;
+        let track = self.free_track(packet);
+        self.passages.push(Passage::begun(row, track))?;
         if row.is_none() {
             self.early.push(*packet)?;
         }
@@ -180,31 +220,31 @@ impl Arrows {
         Some(passage)
     }
 
-    /// Notes which packet an event sent or took in a row, or before the first one. Whether it took one that came from far.
-    /// Refused if memory is.
-    pub fn note(&mut self, mark: &Mark, row: Option<u32>) -> Result<bool, AllocError> {
-        let is_far = match mark {
+    /// Notes which packet an event sent or took in a row, or before the first one. From where one came that it took. Refused if
+    /// memory is.
+    pub fn note(&mut self, mark: &Mark, row: Option<u32>) -> Result<Origin, AllocError> {
+        let origin = match mark {
             Mark::Sent(packet) => {
                 self.send(packet, row)?;
-                return Ok(false);
+                return Ok(Origin::Near);
             }
             Mark::Taken(packet) => match self.take(packet, row) {
-                Some(passage) => passage.is_far(),
-                None => false,
+                Some(passage) => passage.origin(),
+                None => Origin::Near,
             },
             Mark::Refused(packet) => match self.take(packet, row) {
                 Some(passage) => {
                     passage.is_refused = true;
-                    passage.is_far()
+                    passage.origin()
                 }
-                None => false,
+                None => Origin::Near,
             },
-            Mark::Dead | Mark::Issued | Mark::Performed => return Ok(false),
+            Mark::Dead | Mark::Issued | Mark::Performed => return Ok(Origin::Near),
         };
         if row.is_some() {
-            self.far.push(is_far)?;
+            self.origins.push(origin)?;
         }
-        Ok(is_far)
+        Ok(origin)
     }
 
     /// The passage of the packet that is sent in the next row where one is.
@@ -217,10 +257,13 @@ impl Arrows {
         }
     }
 
-    /// Whether the packet that is taken in the next row where one is came from far.
-    pub fn next_is_far(&mut self) -> bool {
+    /// From where the packet came that is taken in the next row where one is.
+    pub fn next_origin(&mut self) -> Origin {
         let place = self.asked_taken;
         self.asked_taken = self.asked_taken.saturating_add(1);
-        self.far.get(place).copied().unwrap_or(false)
+        match self.origins.get(place) {
+            Some(origin) => *origin,
+            None => Origin::Near,
+        }
     }
 }

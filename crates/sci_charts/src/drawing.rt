@@ -9,12 +9,13 @@ use crate::charting::ChartRequest;
 use crate::deed::{Mark, mark_after};
 use crate::elements::{Words, push_svg};
 use crate::frame::{Frame, title_of};
-use crate::labels::{Deed, Label};
+use crate::labels::{About, Deed, Label};
 use crate::layout::{MARGIN, row_at};
 use crate::plan::Plan;
 use crate::rows::{Row, Rows};
 use crate::sights::{Change, Sight, Spot};
 use crate::survey::Survey;
+use crate::waits::Waits;
 use sci_core::{Machine, node_of};
 use sci_statistics::{applied, line_about};
 use sci_text::Schedule;
@@ -30,6 +31,7 @@ pub struct Drawing {
     request: ChartRequest,
     rows: Rows,
     arrows: Arrows,
+    waits: Waits,
     label: Label,
     /// How the states of a line changed, as a trace has it.
     title: Vec<u8>,
@@ -72,21 +74,28 @@ impl Drawing {
             request,
             rows: Rows::new(alloc, plan.layout, bottom, out),
             arrows: survey.arrows,
+            waits: survey.waits,
             label: Label::new(alloc, plan.names_lines()),
             title: Vec::new(alloc),
         })
     }
 
-    /// What is known of the packet that an event of the next row sent or took: its passage if it was sent, and whether it came
-    /// from far if it was taken.
-    fn known(&mut self, mark: &Mark) -> (Passage, bool)
+    /// What is known of an event of the next row, and the passage of the packet that it sent, if it sent one.
+    fn known(&mut self, mark: &Mark) -> (Passage, About)
         ensures { self.new ≡ self.old }
     {
+        let mut passage = Passage::none();
+        let mut about = About::nothing();
         match mark {
-            Mark::Sent(_) => (self.arrows.next_sent(), false),
-            Mark::Taken(_) | Mark::Refused(_) => (Passage::none(), self.arrows.next_is_far()),
-            Mark::Dead | Mark::Issued | Mark::Performed => (Passage::none(), false),
+            Mark::Sent(_) => {
+                passage = self.arrows.next_sent();
+                about.goes_on = passage.goes_on();
+            }
+            Mark::Taken(_) | Mark::Refused(_) => about.origin = self.arrows.next_origin(),
+            Mark::Performed => about.wait = self.waits.next_wait(),
+            Mark::Dead | Mark::Issued => {}
         }
+        (passage, about)
     }
 
     /// Notes how the states of a line changed from what they were.
@@ -161,11 +170,11 @@ impl Drawing {
         let words = standing(self.alloc, machine, spot.node, spot.line)?;
         let mark = mark_after(machine, event)?;
         self.note_title(machine, spot, &words)?;
-        let (passage, is_far) = self.known(&mark);
+        let (passage, about) = self.known(&mark);
         let after = Sight::at(machine, spot);
         let deed = Deed {
             mark,
-            is_far,
+            about,
             change: Change { before, after },
         };
         self.label.tell(machine, spot.node, &deed)?;

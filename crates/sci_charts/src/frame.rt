@@ -1,12 +1,13 @@
 //! What a chart has beside its rows: title and legend, columns, the names of the nodes, and packets from above the first row.
 
 use crate::arrows::{ArrowKind, Passage};
-use crate::elements::{Point, push_arrow, push_ground, push_stem, push_use, push_words};
+use crate::elements::{Point, Way, push_arrow, push_ground, push_stem, push_use, push_words};
 use crate::layout::{MARGIN, names_at, row_at, width_of};
 use crate::legend::{RIGHT, push_legend, push_style};
 use crate::plan::{Heights, Plan, way_of};
 use crate::rows::push_packet_words;
 use crate::survey::Survey;
+use crate::waits::Wait;
 use sci_command::push_labelled;
 use sci_packets::Packet;
 use sci_text::push_text;
@@ -14,6 +15,19 @@ use std::alloc::AllocError;
 
 /// How far the names of the nodes begin to the left of their columns.
 const NAME: i16 = 21;
+
+/// With more rows than these the title of a chart names the command that shows one event at a time.
+const MANY_ROWS: u32 = 300;
+
+const MANY: &str = " (sciview page shows one at a time)";
+
+/// How far the line of an operation goes to the left of its column, and how much farther that of the next one goes.
+const WAIT: i16 = 7;
+
+const NEXT_WAIT: i16 = 5;
+
+/// From the words below the columns to the next ones.
+const WORDS: i16 = 16;
 
 /// What a chart has beside its rows.
 #[derive(Clone, Copy)]
@@ -39,6 +53,9 @@ pub fn title_of(plan: &Plan, survey: &Survey) -> Result<Vec<u8>, AllocError> {
     push_labelled(&mut text, b", lines", u64::from(plan.extent.lines))?;
     push_labelled(&mut text, b", slots", u64::from(plan.extent.slots))?;
     push_labelled(&mut text, b", events", u64::from(survey.rows))?;
+    if survey.rows > MANY_ROWS {
+        push_text(&mut text, MANY)?;
+    }
     Ok(text)
 }
 
@@ -56,9 +73,21 @@ impl Frame<'_> {
                 .max(self.survey.right)
                 .max(RIGHT)
                 .max(width_of(self.title)),
-            y: self.bottom(),
+            y: self.bottom().saturating_add(self.passing_height()),
         }
         .moved(2 * MARGIN as i16, 2 * MARGIN as i16)
+    }
+
+    /// How high the words are for packets that are under way in all rows.
+    fn passing_height(&self) -> u64 {
+        let (packets, passages) = self.survey.arrows.early();
+        let mut height = 0u64;
+        for (_packet, passage) in packets.iter().zip(passages) {
+            if passage.goes_on() {
+                height = height.saturating_add(WORDS as u64);
+            }
+        }
+        height
     }
 
     /// Appends the names of the nodes at their columns, which blocks of rows show.
@@ -105,6 +134,57 @@ impl Frame<'_> {
         push_text(out, "\n")
     }
 
+    /// Appends the words for each packet that is under way in all rows, below the names of the nodes: no row is its own.
+    fn push_passing(&self, out: &mut Vec<u8>) -> Result<(), AllocError> {
+        let (packets, passages) = self.survey.arrows.early();
+        let mut at = Point {
+            x: 0,
+            y: self.bottom().saturating_add(2 * WORDS as u64),
+        };
+        let mut words = Vec::new(self.plan.alloc);
+        for (packet, passage) in packets.iter().zip(passages) {
+            if passage.goes_on() {
+                words.clear();
+                push_text(&mut words, "under way in all rows: ")?;
+                push_text(&mut words, packet.body.command().name())?;
+                push_labelled(&mut words, b" from", u64::from(packet.source.get()))?;
+                push_labelled(&mut words, b" to", u64::from(packet.target.get()))?;
+                push_words(out, "key", at, &words)?;
+                at = at.moved(0, WORDS);
+            }
+        }
+        Ok(())
+    }
+
+    /// The line of an operation, beside its node's column: from where it was issued to where it was performed.
+    fn way_of_wait(&self, wait: &Wait) -> Way {
+        let from = Point {
+            x: self.plan.layout.column(u16::from(wait.node)),
+            y: wait.issued.map_or(names_at(0), row_at),
+        };
+        let left = WAIT + NEXT_WAIT * i16::from(wait.track.min(4));
+        let end = Point {
+            x: from.x,
+            y: row_at(wait.performed),
+        };
+        Way::Around {
+            from,
+            left: end.moved(-left, 0),
+        }
+    }
+
+    /// Appends the lines of the operations that were performed.
+    fn push_waits(&self, out: &mut Vec<u8>) -> Result<(), AllocError> {
+        let mut title = Vec::new(self.plan.alloc);
+        for wait in self.survey.waits.performed() {
+            title.clear();
+            push_labelled(&mut title, b"wait", wait.events)?;
+            push_arrow(out, "w", &self.way_of_wait(wait), &title)?;
+            push_text(out, "\n")?;
+        }
+        Ok(())
+    }
+
     /// Appends the names of the nodes below the columns, and above them if there is no row.
     fn push_uses(&self, out: &mut Vec<u8>) -> Result<(), AllocError> {
         if self.survey.rows == 0 {
@@ -126,6 +206,7 @@ impl Frame<'_> {
         out.extend_from_slice(&self.survey.guides)?;
         push_text(out, "\"/>\n")?;
         self.push_columns(out)?;
+        self.push_waits(out)?;
         let (packets, passages) = self.survey.arrows.early();
         for (packet, passage) in packets.iter().zip(passages) {
             if !passage.is_past {
@@ -133,6 +214,7 @@ impl Frame<'_> {
             }
         }
         self.push_uses(out)?;
+        self.push_passing(out)?;
         push_text(out, "<g>\n")
     }
 }

@@ -1,5 +1,6 @@
 //! What a chart says beside the column of a node.
 
+use crate::arrows::Origin;
 use crate::deed::Mark;
 use crate::sights::{Change, push_change};
 use sci_command::push_labelled;
@@ -41,12 +42,62 @@ fn push_packet(out: &mut Vec<u8>, packet: &Packet) -> Result<(), AllocError> {
     }
 }
 
+/// Appends how many events an operation waited, if it is known.
+fn push_wait(out: &mut Vec<u8>, wait: Option<u64>) -> Result<(), AllocError> {
+    match wait {
+        Some(events) => push_labelled(out, b", wait", events),
+        None => Ok(()),
+    }
+}
+
+/// Appends the name of a packet that was sent, with its receiver if it is under way at the end of the chart.
+fn push_sent(out: &mut Vec<u8>, packet: &Packet, goes_on: bool) -> Result<(), AllocError> {
+    push_packet(out, packet)?;
+    if !goes_on {
+        return Ok(());
+    }
+    push_labelled(out, b" to", u64::from(packet.target.get()))
+}
+
+/// Appends the name of a packet that was taken and came from far, with its sender if it came from above.
+fn push_taken(out: &mut Vec<u8>, packet: &Packet, origin: Origin) -> Result<(), AllocError> {
+    match origin {
+        Origin::Near => Ok(()),
+        Origin::Far => push_packet(out, packet),
+        Origin::Above => {
+            push_packet(out, packet)?;
+            push_labelled(out, b" from", u64::from(packet.source.get()))
+        }
+    }
+}
+
+/// What a chart knows of an event beside what it did.
+#[derive(Clone, Copy)]
+pub struct About {
+    /// From where a packet came that it took.
+    pub origin: Origin,
+    /// Whether a packet that it sent is under way at the end of the chart.
+    pub goes_on: bool,
+    /// How many events an operation waited that it performed.
+    pub wait: Option<u64>,
+}
+
+impl About {
+    /// Nothing is known.
+    pub fn nothing() -> About {
+        About {
+            origin: Origin::Near,
+            goes_on: false,
+            wait: None,
+        }
+    }
+}
+
 /// What an event did, and how its line's states changed at its node.
 #[derive(Clone, Copy)]
 pub struct Deed {
     pub mark: Mark,
-    /// Whether it took a packet that came from far.
-    pub is_far: bool,
+    pub about: About,
     pub change: Change,
 }
 
@@ -75,15 +126,19 @@ impl Label {
         &self.text
     }
 
-    /// Says what an event did at a node: the entry of what was performed, the name of a packet that was sent, or of one that was
-    /// taken and came from far, and how the line's states changed. Refused if memory is.
+    /// Says what an event did at a node: the entry of what was performed, with how many events it waited; the name of a packet
+    /// that was sent, with its receiver if it wasn't taken, or of one that was taken and came from far, with its sender if it
+    /// came from above; and how the line's states changed. Refused if memory is.
     pub fn tell(&mut self, machine: &Machine, node: u8, deed: &Deed) -> Result<(), AllocError> {
         self.said.clear();
         match &deed.mark {
-            Mark::Performed => push_performed(&mut self.said, machine, node)?,
-            Mark::Sent(packet) => push_packet(&mut self.said, packet)?,
-            Mark::Taken(packet) | Mark::Refused(packet) if deed.is_far => {
-                push_packet(&mut self.said, packet)?
+            Mark::Performed => {
+                push_performed(&mut self.said, machine, node)?;
+                push_wait(&mut self.said, deed.about.wait)?;
+            }
+            Mark::Sent(packet) => push_sent(&mut self.said, packet, deed.about.goes_on)?,
+            Mark::Taken(packet) | Mark::Refused(packet) => {
+                push_taken(&mut self.said, packet, deed.about.origin)?
             }
             _ => {}
         }

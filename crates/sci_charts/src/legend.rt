@@ -5,8 +5,8 @@ use sci_text::push_text;
 use std::alloc::AllocError;
 
 /// How everything looks. A request (`q`) is whole, a refused one (`x`) dashed, an answer (`a`) has long dashes, and a busy one
-/// (`b`) is dotted. An operation that is issued (`i`) is a ring, and one that is performed (`p`) a disc. The text of an event
-/// has no class, nor has a label: it is a text with an `x`.
+/// (`b`) is dotted. An operation that is issued (`i`) is a ring, and one that is performed (`p`) a disc, with a thin line (`w`)
+/// from one to the other. The text of an event has no class, nor has a label: it is a text with an `x`.
 const STYLE: &str = "\
 <style>
 text { font: 11px 'DejaVu Sans Mono', ui-monospace, monospace; fill: #222; }
@@ -16,6 +16,7 @@ text[x] { paint-order: stroke; stroke: #fff; stroke-width: 4px; stroke-linejoin:
 .ground { fill: #fff; }
 .guide { fill: none; stroke: #eee; }
 .column { fill: none; stroke: #999; }
+.w { fill: none; stroke: #777; stroke-width: .7; }
 .cross { fill: none; stroke: #777; stroke-width: 1.5; }
 .i { fill: #fff; stroke: #222; stroke-width: 1.5; }
 .p { fill: #222; stroke: #222; stroke-width: 1.5; }
@@ -73,7 +74,8 @@ fn push_marks(out: &mut Vec<u8>, at: Point) -> Result<(), AllocError> {
     push_words(out, "key", at.moved(12, 4), b"perform, its entry")?;
     let at = at.moved(ENTRY, 0);
     push_cross(out, at.moved(-4, -4), at.moved(4, 4))?;
-    push_words(out, "dead", at.moved(12, 4), b"not enabled")
+    push_words(out, "dead", at.moved(12, 4), b"not enabled")?;
+    push_sample(out, "w", at.moved(ENTRY - 8, 0), b"wait, in events")
 }
 
 /// Appends the legend of a chart, below the title. Refused if memory is.

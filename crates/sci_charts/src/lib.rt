@@ -14,5 +14,6 @@ mod plan;
 mod rows;
 mod sights;
 mod survey;
+mod waits;
 
 pub use charting::{ChartRequest, TextLines, chart};

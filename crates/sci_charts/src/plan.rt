@@ -13,9 +13,9 @@ use std::alloc::{AllocError, Global};
 
 /// How far the arrow of a packet of a node to itself goes to the left, and how much farther that of the next one goes which
 /// is under way with it.
-const LOOP: i16 = 28;
+const LOOP: i16 = 26;
 
-const NEXT_LOOP: i16 = 12;
+const NEXT_LOOP: i16 = 7;
 
 /// What a chart is drawn of, and where its columns are.
 #[derive(Clone, Copy)]
@@ -63,7 +63,7 @@ pub fn way_of(layout: Layout, packet: &Packet, passage: &Passage, heights: Heigh
         y: heights.to,
     };
     if packet.source == packet.target {
-        let left = LOOP + NEXT_LOOP * i16::from(passage.beside.min(3));
+        let left = LOOP + NEXT_LOOP * i16::from(passage.track.min(5));
         Way::Around {
             from,
             left: to.moved(-left, 0),

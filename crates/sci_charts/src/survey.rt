@@ -3,10 +3,11 @@
 use crate::arrows::Arrows;
 use crate::deed::mark_after;
 use crate::elements::{Point, push_guides, push_stroke};
-use crate::labels::{Deed, Label};
+use crate::labels::{About, Deed, Label};
 use crate::layout::{FIRST_LINE, LABEL, begins_block, block_of, names_at, push_numbered, width_of};
 use crate::plan::Plan;
 use crate::sights::{Change, Sight, Spot};
+use crate::waits::Waits;
 use sci_command::is_asked;
 use sci_core::{Machine, node_of};
 use sci_statistics::{applied, line_about};
@@ -34,6 +35,8 @@ pub struct Survey {
     pub guides: Vec<u8>,
     /// The packets that are sent and taken in them.
     pub arrows: Arrows,
+    /// The operations that are issued and performed in them.
+    pub waits: Waits,
     /// What is said of an event.
     label: Label,
     /// The text of an event.
@@ -50,6 +53,7 @@ impl Survey {
             right: 0,
             guides: Vec::new(alloc),
             arrows: Arrows::new(alloc)?,
+            waits: Waits::new(alloc),
             label: Label::new(alloc, plan.names_lines()),
             words: Vec::new(alloc),
         })
@@ -94,13 +98,20 @@ impl Survey {
         }
         let before = Sight::at(machine, spot);
         let mark = mark_after(machine, event)?;
-        if !self.plan.request.is_within(number) {
-            self.arrows.note(&mark, None)?;
+        let is_within = self.plan.request.is_within(number);
+        let row = if is_within { Some(self.rows) } else { None };
+        let about = About {
+            origin: self.arrows.note(&mark, row)?,
+            // It may go on: there is room for that.
+            goes_on: true,
+            wait: self.waits.note(&mark, spot, number, row)?,
+        };
+        if !is_within {
             return Ok(());
         }
         let deed = Deed {
             mark,
-            is_far: self.arrows.note(&mark, Some(self.rows))?,
+            about,
             change: Change {
                 before,
                 after: Sight::at(machine, spot),

@@ -6,7 +6,7 @@ use Rattle.sci_charts.proofs.drawing.Drawing.draw.Goals as goal
 pub returns-clause-rows : goal.returns-clause-rows
 returns-clause-rows c =
     let request = ap (λ (d : Drawn). d.request) c.self.view_is in
-    let text = ap (λ (d : Drawn). d.text) (c.self-2.view_is ∙ (c.known-is_far.ensures ∙ c.note_title.ensures)) in
+    let text = ap (λ (d : Drawn). d.text) (c.self-2.view_is ∙ (c.known.ensures ∙ c.note_title.ensures)) in
     let shown : c.shows.result ≡ true = grind arith in
     on_ok_weaker c.add.result (λ row. (
       row.0,
