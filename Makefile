@@ -91,7 +91,7 @@ examples: build
 charts: build
 	@scripts/gate/check_charts.py
 
-# Opens pages of schedules in a browser, and checks whether they show what the schedules do.
+# Opens pages of schedules and of logs in a browser, and checks whether they show what the other commands write.
 pages: build
 	@scripts/gate/check_page.py
 

@@ -1,13 +1,14 @@
 #!/usr/bin/env python3
-"""Opens pages of `sciview page` in a browser, and compares what stands in them with `sciview trace` and `sciview lists`.
+"""Opens pages of `sciview page` in a browser, and compares what stands in them with what other commands of `sciview` write.
 
 The pages are of the schedules of examples/, of runs of 2 to 16 nodes, of drawn events of which many aren't enabled, and of
 some lines and some events of them. The data of a page have to be the lines that `trace --json` and `lists` write. Behind each
 event the page has to show the words of `trace` for it, the last line of `lists` for the line of memory, the packets that are
 under way about it, the states that the events said last, of each line in the overview too, an arrow for each pointer and each
-packet, and the entries that were logged. Then keys are pressed, and a packet is clicked on. A page in docs/pages/ has to be what the
-program writes of the schedule of that name; `check_page.py --write` renews them. Without Chromium it says
-`skipped: no browser`, and looks at the texts alone. The last line is 'N passed, M failed', of pages.
+packet, and the entries that were logged. Then keys are pressed, and a packet is clicked on. log_pages.py says what a page of a log
+has to show. A page in docs/pages/ has to be what the program writes of the schedule or log of that name; `check_page.py --write`
+renews them. Without Chromium it says `skipped: no browser`, and looks at the texts alone. The last line is 'N passed, M failed', of
+pages.
 """
 
 import functools
@@ -21,6 +22,7 @@ import tempfile
 from collections import namedtuple
 from contextlib import nullcontext
 
+import log_pages
 from browser import Browser, found
 
 TOP = os.path.dirname(os.path.dirname(os.path.dirname(os.path.abspath(__file__))))
@@ -155,14 +157,14 @@ def moments(case):
         yield {
             "what": block,
             "here": block.split("\n")[0],
-            "list": lists.get(line, f"line {line}: not told yet"),
+            "list": lists.get(line, f"line {line}: no event so far says its list"),
             "under": "\n".join(map(packet_words, about)) or "nothing",
             "log": log[-1] if log else "nothing",
             "packets": len(about),
             "operations": sorted([n, it] for (n, of), it in pending.items() if of == line),
             "forward": sum("forward" in it for it in here.values()),
             "caches": sorted([n, it["state"] + (f" @{it['version']}" if "version" in it else "")] for n, it in here.items()),
-            "home": state_words(homes[line]) if line in homes else "not told",
+            "home": state_words(homes[line]) if line in homes else "no event of it",
             "all": sorted([of, n, state_words(it)] for (n, of), it in caches.items()),
         }
 
@@ -183,9 +185,9 @@ READ = """(counts => {
       what: text("what"), here, list: text("list"), under: text("under"), log: text("log").split("\\n")[0],
       operations: all("#picture .operation").map(it => [+it.dataset.operation, it.textContent]),
       packets: all("#picture .packet").length, forward: all("#picture path.forward").length,
-      caches: all("#picture [data-node]").map(it => [+it.dataset.node, it.querySelectorAll("text")[1].textContent]).filter(it => it[1] !== "not told"),
+      caches: all("#picture [data-node]").map(it => [+it.dataset.node, it.querySelectorAll("text")[1].textContent]).filter(it => it[1] !== "no event of it"),
       home: all("#picture .home text")[1].textContent,
-      all: cells.filter(it => it[2] !== "not told"),
+      all: cells.filter(it => it[2] !== "no event of it"),
     };
   }));
 })"""
@@ -236,30 +238,30 @@ def transaction(events, place):
     return numbers
 
 
-def written_faults(text, case):
+def written_faults(text, case, data):
     """Where a page's title or data are others than they have to be."""
     if html.unescape(re.search("<title>(.*?)</title>", text, re.DOTALL)[1]) != case.name:
         yield "another title"
-    if html.unescape(re.search('<pre id="data" hidden>(.*?)</pre>', text, re.DOTALL)[1]) != data_of(case):
+    if html.unescape(re.search('<pre id="data" hidden>(.*?)</pre>', text, re.DOTALL)[1]) != data:
         yield "other data"
     if re.search("https?:", text.replace(case.name, "")):
         yield "an address"
 
 
 def stored(case):
-    """The page in docs/ of a schedule, if there is one."""
-    path = f"{TOP}/docs/pages/{case.name.removesuffix('.schedule')}.html"
+    """The page in docs/ of a schedule or a log, if there is one."""
+    path = f"{TOP}/docs/pages/{case.name.removesuffix('.schedule').replace('.log', '-log')}.html"
     return path if os.path.exists(path) else None
 
 
 def page_of(case):
     """The text of a page."""
-    return ran("page", *case.options, "--title", case.name, given=case.given)
+    return ran("page", *getattr(case, "options", ()), "--title", case.name, given=case.given)
 
 
 def write():
     """Renews the pages in docs/."""
-    for case in cases():
+    for case in (*cases(), *log_pages.cases()):
         if stored(case):
             with open(stored(case), "w") as file:
                 file.write(page_of(case))
@@ -268,7 +270,8 @@ def write():
 def faults(browser, folder, case):
     """What is wrong with a page."""
     text = page_of(case)
-    yield from written_faults(text, case)
+    of_log = isinstance(case, log_pages.Case)
+    yield from written_faults(text, case, log_pages.data_of(case) if of_log else data_of(case))
     if stored(case):
         with open(stored(case)) as file:
             if file.read() != text:
@@ -277,8 +280,11 @@ def faults(browser, folder, case):
         path = f"{folder}/page.html"
         with open(path, "w") as file:
             file.write(text)
-        browser.open(path)
         try:
+            if of_log:
+                yield from log_pages.shown_faults(browser, path, case)
+                return
+            browser.open(path)
             yield from shown_faults(browser, case)
             yield from use_faults(browser, path, case)
         except ValueError as error:
@@ -290,7 +296,7 @@ def main():
     program = found()
     with tempfile.TemporaryDirectory(prefix="page-", ignore_cleanup_errors=True) as folder:
         with Browser(program, f"{folder}/user") if program else nullcontext() as browser:
-            for case in cases():
+            for case in (*cases(), *log_pages.cases()):
                 wrong = list(faults(browser, folder, case))
                 counts[not wrong] += 1
                 print(f"{case.name}: {'; '.join(wrong[:3]) or 'right'}", flush=True)

@@ -1,1 +1,3 @@
 pub mod Paged
+pub mod Answering
+pub mod Said

@@ -1,2 +1,4 @@
+pub mod PageKind
 pub mod PageText
 pub mod PageAnswer
+pub mod WithoutData

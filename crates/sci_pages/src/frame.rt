@@ -1,49 +1,35 @@
-//! The frame of a page: its head, its looks and its parts. What it does is in `script.rt`.
+//! The head of all pages, and the parts of a page of a schedule. What that does is in `script.rt`.
 
-/// What stands before the title.
-pub const PAGE_TITLE: &str = r#"<!doctype html>
+/// What stands before the title: the looks that all pages have.
+pub const PAGE_HEAD: &str = r#"<!doctype html>
 <html lang="en">
 <head>
 <meta charset="utf-8">
 <meta name="viewport" content="width=device-width, initial-scale=1">
 <meta http-equiv="Content-Security-Policy" content="default-src 'none'; style-src 'unsafe-inline'; script-src 'unsafe-inline'; img-src data:">
 <link rel="icon" href="data:,">
-<title>"#;
-
-/// What stands between the title and the data.
-pub const PAGE_DATA: &str = r#"</title>
 <style>
 :root {
   color-scheme: light dark;
   --ink: #1d2733; --soft: #5d6a77; --rule: #d5dbe1; --back: #fff; --box: #f4f6f8; --mark: #fff1b8; --lit: #d9e8ff;
-  --request: #1f5fa8; --answer: #22733c; --busy: #b05a00; --dead: #b3261e; --forward: #6f42c1; --tone: 42%;
+  --request: #1f5fa8; --answer: #22733c; --busy: #b05a00; --dead: #b3261e; --forward: #6f42c1; --tone: 42%; --tint: 88%;
 }
 @media (prefers-color-scheme: dark) {
   :root {
     --ink: #e6edf3; --soft: #9aa7b4; --rule: #3a434d; --back: #0f141a; --box: #1a2129; --mark: #4d3f00; --lit: #17345c;
-    --request: #6cb2ff; --answer: #5fd38d; --busy: #f0a050; --dead: #ff8b85; --forward: #c69bff; --tone: 70%;
+    --request: #6cb2ff; --answer: #5fd38d; --busy: #f0a050; --dead: #ff8b85; --forward: #c69bff; --tone: 70%; --tint: 26%;
   }
 }
 * { box-sizing: border-box; }
 body {
-  margin: 0; height: 100vh; display: grid; grid-template: auto minmax(0, 1fr) / minmax(15rem, 20rem) minmax(0, 1fr) minmax(18rem, 25rem);
+  margin: 0; height: 100vh; display: grid;
   font: 14px/1.4 system-ui, sans-serif; color: var(--ink); background: var(--back);
 }
 header { grid-column: 1 / -1; display: flex; flex-wrap: wrap; gap: .4rem .6rem; align-items: center; padding: .5rem .8rem; border-bottom: 1px solid var(--rule); }
 header h1 { font-size: 15px; margin: 0; }
-header input[type=range] { flex: 1 1 12rem; min-width: 8rem; }
-header output { min-width: 7em; }
 header fieldset { border: 0; margin: 0; padding: 0; display: flex; flex-wrap: wrap; gap: .2rem .5rem; color: var(--soft); }
 button, select { font: inherit; padding: .15rem .55rem; }
 #size, .note { color: var(--soft); }
-#events { overflow: auto; border-right: 1px solid var(--rule); font: 13px/20px ui-monospace, monospace; }
-#events ol { position: relative; margin: 0; padding: 0; list-style: none; }
-#events li { position: absolute; left: 0; right: 0; height: 20px; }
-#events a { display: block; padding: 0 .6rem; color: inherit; text-decoration: none; white-space: nowrap; }
-#events li.dead a { color: var(--soft); text-decoration: line-through; }
-#events li.lit { background: var(--lit); }
-#events li[aria-current] { background: var(--mark); }
-#events li span { color: var(--soft); display: inline-block; min-width: 3.5em; }
 main { overflow: auto; padding: .5rem .8rem; }
 aside { overflow: auto; padding: .3rem .8rem; border-left: 1px solid var(--rule); }
 h2 { font-size: 13px; font-weight: 600; margin: .8rem 0 .2rem; color: var(--soft); }
@@ -54,10 +40,35 @@ svg .in text { stroke: none; }
 svg .name { font-weight: 600; }
 svg .soft { fill: var(--soft); font-size: 12px; }
 svg rect { fill: var(--box); stroke: var(--rule); }
-svg .here rect { stroke: var(--ink); stroke-width: 2.5; }
-svg .home rect { stroke-dasharray: 4 3; }
 svg path { fill: none; stroke-width: 1.7; }
 svg marker path { fill: context-stroke; stroke: none; }
+@media (max-width: 60rem) {
+  body { display: flex; flex-direction: column; height: auto; }
+  header { position: sticky; top: 0; background: var(--back); z-index: 1; }
+  aside { border: 0; }
+}
+@media print {
+  body { display: block; height: auto; }
+}
+</style>
+<title>"#;
+
+/// What stands between the title and the data of a page of a schedule.
+pub const SCHEDULE_PARTS: &str = r#"</title>
+<style>
+body { grid-template: auto minmax(0, 1fr) / minmax(15rem, 20rem) minmax(0, 1fr) minmax(18rem, 25rem); }
+header input[type=range] { flex: 1 1 12rem; min-width: 8rem; }
+header output { min-width: 7em; }
+#events { overflow: auto; border-right: 1px solid var(--rule); font: 13px/20px ui-monospace, monospace; }
+#events ol { position: relative; margin: 0; padding: 0; list-style: none; }
+#events li { position: absolute; left: 0; right: 0; height: 20px; }
+#events a { display: block; padding: 0 .6rem; color: inherit; text-decoration: none; white-space: nowrap; }
+#events li.dead a { color: var(--soft); text-decoration: line-through; }
+#events li.lit { background: var(--lit); }
+#events li[aria-current] { background: var(--mark); }
+#events li span { color: var(--soft); display: inline-block; min-width: 3.5em; }
+svg .here rect { stroke: var(--ink); stroke-width: 2.5; }
+svg .home rect { stroke-dasharray: 4 3; }
 svg .forward { stroke: var(--forward); }
 svg .backward { stroke: var(--soft); stroke-dasharray: 2 3; }
 svg .head { stroke: var(--soft); stroke-dasharray: 6 3; }
@@ -75,13 +86,9 @@ svg .lit text { font-weight: 700; }
 #overview tr { cursor: pointer; }
 #overview tr.on { background: var(--mark); }
 @media (max-width: 60rem) {
-  body { display: flex; flex-direction: column; height: auto; }
-  header { position: sticky; top: 0; background: var(--back); z-index: 1; }
   #events { order: 1; max-height: 60vh; margin-top: .8rem; border: 0; border-top: 1px solid var(--rule); }
-  aside { border: 0; }
 }
 @media print {
-  body { display: block; height: auto; }
   header button, header input, header fieldset, header label, #events { display: none; }
 }
 </style>

@@ -1,118 +1,82 @@
-//! The command `page`: a page of HTML that steps through a schedule.
+//! The command `page`: a page of HTML that steps through a schedule, or shows a log.
 
-ghost use Rattle.std.specs.Prelude.{◌≡◌, ◌++◌, ◌<◌, ℕ, List, length, false, None, IfOk, IfSome, OnOk};
-ghost use Rattle.sci_text.specs.{declared.fault.TextFaultKind.TheVariants.{TooMany}, Tap.{has_failed}};
-ghost use Rattle.sci_core.specs.{Core.{step}, Reached.{IsReached}};
-ghost use Rattle.sci_command.specs.Answer.{HasAnswered};
-ghost use Rattle.sci_charts.specs.Rows.{shown_places};
-ghost use Rattle.sci_pages.specs.PageAnswer.{AreData, IsPageAnswer, IsPageRefusal, IsPart};
+ghost use Rattle.std.specs.Prelude.{◌≡◌, false, IfErr, IfOk, option_map};
+ghost use Rattle.sci_text.specs.Tap.{has_failed};
+ghost use Rattle.sci_command.specs.{Answer.{HasAnswered}, declared.outcome.Outcome.{Outcome}};
+ghost use Rattle.sci_pages.specs.PageAnswer.{AreDataFor, IsPageAnswer, IsPageOf, IsPageRefusal};
+ghost use Rattle.sci_pages.specs.WithoutData.{IsWithoutData, IsWithoutPage};
 
+use crate::kind::PageKind;
+use crate::limits::MAX_PAGE_BYTES;
+use crate::log_data::log_data;
 use crate::page_text::framed;
+use crate::refusals::too_many_bytes;
+use crate::schedule_data::schedule_data;
 use sci_charts::ChartRequest;
-use sci_command::{Answer, Answered, Note, Outcome, Refusal, read_asked};
-use sci_core::Machine;
-use sci_statistics::{applied, line_about};
-use sci_text::{Schedule, Tap, TextFaultKind, push_machine_line};
-use sci_traces::{ListPlace, listed_line, push_json, push_list_behind};
-use sci_words::{Event, Extent, MAX_OPERATIONS};
-use std::alloc::{AllocError, Global};
+use sci_command::{Answer, Answered, Outcome, Refusal};
+use sci_text::{Tap, read_input};
+use std::alloc::Global;
 use std::io::Read;
 
-/// The line in which the first event of a schedule stands.
-const FIRST_EVENT_LINE: u64 = 2;
-
-/// A page has at most as many events, so that a browser steps through it without a pause.
-pub const MAX_PAGE_EVENTS: u32 = 10_000;
-
-/// What is said of a page that would have more.
-const TOO_LONG: &str =
-    "a page has at most 10,000 events: --events FIRST LAST or --line L takes some of them";
-
-/// Takes a step, and appends what a trace writes of the event as JSON, and the list behind it, if it may have changed one.
-fn push_part(
-    out: &mut Vec<u8>,
-    machine: &mut Machine,
-    number: u64,
-    event: &Event,
-) -> Result<(), AllocError>
-    requires { IsReached machine.old }
-    ensures part { OnOk result ((text : List ℕ) × (out.new.items ≡ out.old.items ++ text)
-        × IsPart (record { core = machine.old; number = number; event = event.now }) text) }
-    ensures step { OnOk result (machine.new ≡ step machine.old event.now) }
-{
-    let line = listed_line(machine, None, event);
-    if push_json(out, machine, number, event)? {
-        push_list_behind(*out.allocator(), out, machine, ListPlace { number, line })
-    } else {
-        Ok(())
-    }
-}
-
-/// The data of a page: the size of the machine, and the events that are asked for. None if they are too many.
-fn data_of(
+/// The data of the page of a text, as what it begins as.
+fn data_for(
     alloc: Global,
-    schedule: &Schedule,
+    kind: PageKind,
     request: ChartRequest,
-) -> Result<Option<Vec<u8>>, AllocError>
-    ensures some { IfOk result (λ found. IfSome found (λ body. AreData request schedule.now body.items)) }
-    ensures none { IfOk result (λ found. found ≡ None →
-        MAX_PAGE_EVENTS < length (shown_places request schedule.now)) }
+    text: &[u8],
+) -> Result<Vec<u8>, Refusal>
+    ensures data { IfOk result (λ body. AreDataFor kind request text.now body.items) }
+    ensures fault { IfErr result (λ refusal. IsWithoutData kind request text.now refusal.fault) }
 {
-    let mut machine = Machine::new(alloc, schedule.extent(), MAX_OPERATIONS)?;
-    let mut data = Vec::new(alloc);
-    push_machine_line(&mut data, schedule.extent())?;
-    let mut number = FIRST_EVENT_LINE;
-    let mut count = 0;
-    for event in schedule.events() {
-        if !request.shows(line_about(&machine, event), number) {
-            let _enabled = applied(&mut machine, event)?;
-            number += 1;
-            continue;
-        }
-        if count == MAX_PAGE_EVENTS {
-            return Ok(None);
-        }
-        match push_part(&mut data, &mut machine, number, event) {
-            Ok(()) => {}
-            Err(refused) => return Err(refused),
-        }
-        number += 1;
-        count += 1;
+    match kind {
+        PageKind::Schedule => schedule_data(alloc, request, text),
+        PageKind::Log => log_data(alloc, request, text),
     }
-    Ok(Some(data))
 }
 
-/// The refusal of a page that would have too many events: TooMany, at line 0.
-fn too_long() -> Refusal
-    ensures line { result.fault.line ≡ 0 }
-    ensures kind { result.fault.kind ≡ TooMany }
+/// The page of a text, as what it begins as.
+fn page_of(alloc: Global, request: ChartRequest, title: Option<&str>, text: &[u8]) -> Answered
+    ensures page { IfOk result (λ x. (x.outcome ≡ Outcome.Done)
+        × IsPageOf request (option_map (λ it. it.now) title.entry) text.now x.text.items) }
+    ensures fault { IfErr result (λ refusal.
+        IsWithoutPage request (option_map (λ it. it.now) title.entry) text.now refusal.fault) }
 {
-    Refusal::of_input(TextFaultKind::TooMany, Note::Fixed(TOO_LONG))
+    let kind = PageKind::of(text);
+    let data = data_for(alloc, kind, request, text)?;
+    let page = framed(alloc, kind, title, &data)?;
+    if page.len() > MAX_PAGE_BYTES as usize {
+        return Err(too_many_bytes());
+    }
+    Ok(Answer {
+        text: page,
+        outcome: Outcome::Done,
+    })
 }
 
-/// Reads a schedule to its end, applies its events in text order to a new machine whose nodes may each issue 65,536
-/// operations (events that are not enabled change nothing), and gives a page of HTML with this title that steps through them:
-/// Done. Its data are the size of the machine, and of each event the JSON object that `trace` writes and, behind it, the line of
-/// `lists`, if the event may have changed a list. With a line it has the events about that line alone, and with lines of the
-/// schedule those on these lines alone. A schedule with a fault is refused, as are a reader that fails, too long an input and
-/// running out of memory, at line 0, a line that the machine doesn't have, as `range` at line 0, and more than 10,000 events, as
-/// `too-many` at line 0. After a failed read nothing more is read.
+/// Reads a schedule or a log to its end, and gives a page of HTML with this title, or with one for all of its kind: Done. An input
+/// that begins with `l` is a log, and each other one a schedule.
+///
+/// The page of a schedule steps through its events, which are applied in text order to a new machine whose nodes may each issue
+/// 65,536 operations (events that are not enabled change nothing). Its data are the size of the machine, and of each event the
+/// JSON object that `trace` writes and, behind it, the line of `lists`, if the event may have changed a list. With a line it has
+/// the events about that line alone, and with lines of the schedule those on these lines alone.
+///
+/// The data of the page of a log are the log itself, and what `explain`, `order` and `order --by-serial` write of it.
+///
+/// An input with a fault is refused, as are a reader that fails, too long an input and running out of memory, at line 0. So are a
+/// line that the machine doesn't have, and a line or events that are asked for of a log, as `range` at line 0; and more than
+/// 10,000 events or entries, and a page above 5,000,000 bytes, as `too-many` at line 0. After a failed read nothing more is read.
 pub fn page<R: Read>(
     alloc: Global,
     request: ChartRequest,
-    title: &str,
+    title: Option<&str>,
     reader: &mut Tap<R>,
 ) -> Answered
     requires { has_failed reader.old ≡ false }
     ensures { HasAnswered R.remaining reader.old reader.new
-        (IsPageAnswer request title.now) (IsPageRefusal request) result }
+        (IsPageAnswer request (option_map (λ it. it.now) title.entry))
+        (IsPageRefusal request (option_map (λ it. it.now) title.entry)) result }
 {
-    let schedule = read_asked(alloc, request.line, reader)?;
-    match data_of(alloc, &schedule, request)? {
-        None => Err(too_long()),
-        Some(data) => Ok(Answer {
-            text: framed(alloc, title, &data)?,
-            outcome: Outcome::Done,
-        }),
-    }
+    let bytes = read_input(alloc, reader)?;
+    page_of(alloc, request, title, &bytes)
 }

@@ -1,6 +1,6 @@
 -- The words of a command line.
 use Rattle.std.specs.Prelude.{◌≡◌, ◌↔◌, ◌<◌, ◌^◌, ◌⊎◌, if◌then◌else◌, ℕ, Bool, List, [], ◌∷◌, codes, Option, Some, None, Result, Ok, Err}
-use Rattle.std.specs.Prelude.{option_map, unwrap_or, true, false}
+use Rattle.std.specs.Prelude.{option_map, true, false}
 use Rattle.sci_words.specs.declared.limits.TheConstants.{MAX_LINES, MAX_NODES}
 use Rattle.sci_text.specs.Number.{number}
 use Rattle.sci_options.specs.Options.{IsGiven, is_given, number_in, place_in, two_in, value_of}
@@ -187,10 +187,6 @@ shown_names names = record { title = option_map (λ title. title.now) names.titl
 
 abbrev pub shown_in : Choice → Command × Named
 shown_in choice = (choice.command, shown_names choice.names)
-
--- the title of a page: the one that is named, or else one for all
-abbrev pub title_of : Named → List ℕ
-title_of named = unwrap_or named.title (codes "Schedule")
 
 -- whether there is no memory for words
 abbrev pub is_refused : Complaint → Bool

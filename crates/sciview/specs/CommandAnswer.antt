@@ -17,7 +17,7 @@ use Rattle.sci_outcomes.specs.{OutcomesAnswer.{IsOutcomesAnswer}, RunAnswer.{IsR
 use Rattle.sci_walks.specs.RandomAnswer.{IsRandomAnswer}
 use Rattle.sci_statistics.specs.StatsAnswer.{IsStatsAnswer}
 use Rattle.sciview.specs.declared.choice.Command.TheVariants as commands
-use Rattle.sciview.specs.Choice.{shown_names, title_of}
+use Rattle.sciview.specs.Choice.{shown_names}
 
 -- what a command says of itself
 abbrev pub help_text : Verb → List ℕ
@@ -42,8 +42,8 @@ help_for None = HELP.now
 help_for (Some verb) = help_text verb
 
 -- The text that a command writes, and how it ends, for the bytes of a reader, which has failed or not. If `judge` writes a log,
--- `lines` are the addresses of its lines of memory. If `page` writes a page, this is its title.
-abbrev pub IsAnswerFor : (lines title : List ℕ) → Command → Option (List ℕ) → Bool → List ℕ → Outcome → Type 0
+-- `lines` are the addresses of its lines of memory. If `page` writes a page, this is its title, if it is given one.
+abbrev pub IsAnswerFor : (lines : List ℕ) → (title : Option (List ℕ)) → Command → Option (List ℕ) → Bool → List ℕ → Outcome → Type 0
 IsAnswerFor lines title (commands.Order request) = IsOrderAnswer request
 IsAnswerFor lines title commands.Explain = IsExplainAnswer
 IsAnswerFor lines title commands.Check = IsCheckAnswer
@@ -63,7 +63,7 @@ IsAnswerFor lines title commands.Version = λ input failed text outcome. (text �
 
 -- the same of what words choose
 abbrev pub IsAnswerTo : (lines : List ℕ) → Choice → Option (List ℕ) → Bool → List ℕ → Outcome → Type 0
-IsAnswerTo lines choice = IsAnswerFor lines (title_of (shown_names choice.names)) choice.command
+IsAnswerTo lines choice = IsAnswerFor lines (shown_names choice.names).title choice.command
 
 -- the addresses of the lines of a log are told by `judge`, and by no other command
 abbrev pub KeepsLines : Command → (old new : List ℕ) → Type 0

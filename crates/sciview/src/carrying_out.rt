@@ -75,9 +75,7 @@ pub fn carried_out<T: Threads + Sync, R: Read, W: Write>(
             let (answered, dead) = parted(chart(alloc, request, reader));
             show(writer, answered).beside(dead)
         }
-        Command::Page(request) => {
-            show(writer, page(alloc, request, choice.names.title(), reader))
-        }
+        Command::Page(request) => { show(writer, page(alloc, request, choice.names.title, reader)) }
         Command::Random { walk, dead } => { show(writer, random_schedule(alloc, &walk, dead)) }
         Command::Run(request) => show(writer, run(alloc, request, reader)),
         Command::Outcomes(request) => { show(writer, outcomes_of(rt, alloc, request, reader)) }

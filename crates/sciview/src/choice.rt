@@ -3,7 +3,7 @@
 ghost use Rattle.std.specs.Prelude.{◌≡◌, ◌↔◌, ℕ, IfSome, IsTrue, List, [], ◌∷◌, Option, None, Some, codes, map, option_map};
 ghost use Rattle.sciview.specs.declared.choice.Command.{Command};
 ghost use Rattle.sciview.specs.Choice.{Asks, Chooses, ChoosesOf, FitsWalk, IsHelp, Named, asked_events, asked_issuing, asked_order, asked_turns};
-ghost use Rattle.sciview.specs.Choice.{IsChosenBy, command_of, IsNamed, name_words, no_names, shown_in, shown_names, title_of, walk_words};
+ghost use Rattle.sciview.specs.Choice.{IsChosenBy, command_of, IsNamed, name_words, no_names, shown_in, shown_names, walk_words};
 ghost use Rattle.sci_walks.specs.declared.random.Walk.{Walk};
 
 use crate::complaint::{Complaint, Problem};
@@ -43,7 +43,7 @@ pub enum Command {
     Stats(StatsRequest),
     /// Write a chart of a schedule.
     Chart(ChartRequest),
-    /// Write a page that steps through a schedule.
+    /// Write a page that steps through a schedule, or shows a log.
     Page(ChartRequest),
     /// Write a schedule that is drawn by chance; `dead` in a hundred of its events may be any events.
     Random { walk: Walk, dead: Option<u64> },
@@ -76,16 +76,6 @@ impl Names<'_> {
         Names {
             title: None,
             file: None,
-        }
-    }
-
-    /// The title, or that of a page with none.
-    pub fn title(&self) -> &str
-        ensures { result.now ≡ title_of (shown_names self.now) }
-    {
-        match self.title {
-            Some(title) => title,
-            None => "Schedule",
         }
     }
 

@@ -31,7 +31,7 @@ usage: sciview COMMAND [OPTIONS] [FILE]
   lists      the sharing lists behind a schedule's events
   stats      figures of a schedule
   chart      a picture of a schedule in SVG
-  page       a page that steps through a schedule in a browser
+  page       a page that steps through a schedule, or shows a log, in a browser
   random     a schedule that is drawn from a seed
 
   sciview COMMAND --help   the options of a command, and what it writes
@@ -199,9 +199,11 @@ A message sequence chart of the events of a schedule in SVG.
 pub const PAGE: &str = "\
 usage: sciview page [--line L] [--events FIRST LAST] [--title T] [FILE]
 
-A page of HTML that steps through a schedule in a browser, with no other file and
-no request: the states of its nodes, its sharing lists, the packets under way,
-and what each event did. It has at most 10,000 events.
+A page of HTML for a browser, with no other file and no request. Of a schedule it
+steps through the events: the states of the nodes, the sharing lists, the packets
+under way, and what each event did. Of a log it shows the entries by node, and
+what explain and order say of them: a cycle, an order, or what is wrong. It has
+at most 10,000 events or entries, and 5,000,000 bytes.
 
   --line L      of the events about the line L, 0 to 63, alone
   --events FIRST LAST

@@ -35,7 +35,7 @@ pub enum Verb {
     Stats,
     /// A chart of a schedule.
     Chart,
-    /// A page that steps through a schedule.
+    /// A page that steps through a schedule, or shows a log.
     Page,
     /// A schedule that is drawn by chance.
     Random,

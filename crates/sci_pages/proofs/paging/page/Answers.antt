@@ -1,25 +1,11 @@
-use Rattle.std.proofs.Common.{inr}
+use Rattle.sci_text.specs.Tap.{has_failed, tapped}
+use Rattle.sci_pages.proofs.Answering.{paged_answers}
 use Rattle.sci_pages.proofs.paging.page.Goals as goal
 
-pub returns-in-None : goal.returns-in-None
-returns-in-None g c =
-    let asked = c.in_ok-schedule.ensures in (
-      inr (
-        c.too_long.ensures.kind,
-        c.too_long.ensures.line,
-        (
-          asked.read.0,
-          (
-            asked.read.1.0,
-            asked.read.1.1,
-            record {
-              schedule = c.in_ok-schedule.schedule;
-              good = asked.good;
-              read = asked.read.1.2;
-              long = c.in_ok-data_of.ensures.none c.in-None.is;
-            },
-          ),
-        ),
-      ),
-      c.read_asked.ensures.again,
-    )
+pub returns : goal.returns
+returns g c = (
+  paged_answers c.args.request _ (g.R.Read.remaining (tapped c.args.reader.now)) (has_failed c.read_input.new.reader) c.in_ok-bytes.bytes.items
+      c.deref.result.now c.page_of.result c.in_ok-bytes.ensures.unfailed c.in_ok-bytes.ensures.read c.deref.ensures.value c.page_of.ensures.page
+      c.page_of.ensures.fault,
+  c.read_input.ensures.again,
+)

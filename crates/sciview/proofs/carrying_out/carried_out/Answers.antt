@@ -16,7 +16,7 @@ use Rattle.sci_traces.specs.{ListsAnswer.{IsListsAnswer}, PacketsAnswer.{IsPacke
 use Rattle.sci_outcomes.specs.{OutcomesAnswer.{IsOutcomesAnswer, IsOutcomesRefusal}, RunAnswer.{IsLongRun, IsRunAnswer, IsRunRefusal}}
 use Rattle.sci_walks.specs.RandomAnswer.{IsRandomAnswer, IsWalkFault}
 use Rattle.sci_statistics.specs.StatsAnswer.{IsStatsAnswer, IsStatsFault}
-use Rattle.sciview.specs.{Choice.{shown_names, title_of}, CommandAnswer.{help_for}}
+use Rattle.sciview.specs.{Choice.{shown_names}, CommandAnswer.{help_for}}
 use Rattle.sciview.proofs.carrying_out.carried_out.Goals as goal
 
 -- words of the program's own
@@ -109,9 +109,9 @@ pub returns-in-Page-clause-answer : goal.returns-in-Page-clause-answer
 returns-in-Page-clause-answer g c =
     let shown = c.show-in-Page in
     let request = c.in-Page.request in
-    let title = c.title.ensures in
-    rw c.in-Page.is (carried_out (IsPageAnswer request (title_of (shown_names c.args.choice.now.names))) (IsPageRefusal request) c.page.result
-    shown.result.refusal (λ text is. is) (rw title at c.page.ensures) shown.ensures.refusal shown.ensures.written shown.ensures.again)
+    let title = (shown_names c.args.choice.now.names).title in
+    rw c.in-Page.is (carried_out (IsPageAnswer request title) (IsPageRefusal request title) c.page.result
+    shown.result.refusal (λ text is. is) c.page.ensures shown.ensures.refusal shown.ensures.written shown.ensures.again)
 
 pub returns-in-Run-clause-answer : goal.returns-in-Run-clause-answer
 returns-in-Run-clause-answer g c =

@@ -2,9 +2,9 @@ use Rattle.std.proofs.Common.{◌≡◌, ◌+◌, ◌≤◌, drop}
 use Rattle.sci_core.specs.Reached.{IsReached}
 use Rattle.sci_text.specs.Script.{machine_line}
 use Rattle.sci_charts.specs.Rows.{shown_places}
-use Rattle.sci_pages.specs.declared.paging.TheConstants.{MAX_PAGE_EVENTS}
+use Rattle.sci_pages.specs.declared.limits.TheConstants.{MAX_PAGE_EVENTS}
 use Rattle.sci_pages.proofs.Paged.{IsPagedTo}
-use Rattle.sci_pages.proofs.paging.data_of.Given as goal
+use Rattle.sci_pages.proofs.schedule_data.data_of.Given as goal
 
 -- the parts so far
 abbrev pub invariant-loop-event : goal.invariant-loop-event

@@ -1,7 +1,7 @@
-//! What a page does: it keeps what its data said last, and shows it. It knows no protocol.
+//! What a page of a schedule does: it keeps what its data said last, and shows it. It knows no protocol.
 
 /// What stands behind the data.
-pub const PAGE_END: &str = r##"</pre>
+pub const SCHEDULE_END: &str = r##"</pre>
 <script>
 "use strict";
 const byId = id => document.getElementById(id);
@@ -199,7 +199,7 @@ function nodeDrawn(n, view, top, state, line, e, lit) {
   const pointers = cache ? [optional("forward ", cache.forward), optional("backward ", cache.backward)].filter(Boolean) : [];
   return `<g class="in${e?.node === n ? " here" : ""}" data-node="${n}"><rect x="${x - view.wide / 2}" y="${top}" width="${view.wide}" height="${NODE}" rx="6"/>`
     + text(x, top + 18, `node ${n}`, "name")
-    + `<text class="name" x="${x}" y="${top + 38}" style="fill: ${colour(cache)}">${cache ? cache.state + optional(" @", cache.version) : "not told"}</text>`
+    + `<text class="name" x="${x}" y="${top + 38}" style="fill: ${colour(cache)}">${cache ? cache.state + optional(" @", cache.version) : "no event of it"}</text>`
     + text(x, top + 55, (view.wide < 140 ? pointers.map(it => it.replace("forward", "fwd").replace("backward", "back")) : pointers).join(", ") + (cache?.sent ? " sent" : ""), "soft")
     + (operation ? `<g class="operation${operation.group === lit ? " lit" : ""}" data-operation="${n}">${text(x, top + 73, operationWords(operation), "soft")}</g>` : "") + "</g>";
 }
@@ -219,7 +219,7 @@ function homeDrawn(view, bottom, state, line) {
   const home = state.homes.get(line), at = line % nodes, y = bottom + 90;
   if (!view.middle.has(at)) return "";
   const x = view.middle.get(at), parts = [`<g class="home in"><rect x="${x - view.wide / 2}" y="${y}" width="${view.wide}" height="44" rx="6"/>`
-    + text(x, y + 18, `home of line ${line}`, "soft") + text(x, y + 36, home ? homeWords(home) : "not told", "name") + "</g>"];
+    + text(x, y + 18, `home of line ${line}`, "soft") + text(x, y + 36, home ? homeWords(home) : "no event of it", "name") + "</g>"];
   if (view.middle.has(home?.head)) parts.push(arrow(`M${x} ${y} L${view.middle.get(home.head)} ${bottom + 3}`, "head"));
   return parts.join("");
 }
@@ -263,7 +263,7 @@ function overview(state, line, e) {
   for (const row of touched) {
     for (let n = 0; n < nodes; n++) {
       const cache = state.caches.get(place(n, row));
-      fill(place(n, row), cache ? cacheWords(cache) : "not told", cache ? shortNames.get(cache.state) : "", colour(cache));
+      fill(place(n, row), cache ? cacheWords(cache) : "no event of it", cache ? shortNames.get(cache.state) : "", colour(cache));
     }
     const home = state.homes.has(row) ? homeWords(state.homes.get(row)) : "";
     fill(row, home, home, "");
@@ -312,7 +312,7 @@ function show() {
   byId("where").value = `${count} of ${events.length}`;
   byId("what").textContent = e ? told(e) : "before the first event";
   byId("log").textContent = logWords(state.logged);
-  byId("list").textContent = state.lists.get(line) ?? `line ${line}: not told yet`;
+  byId("list").textContent = state.lists.get(line) ?? `line ${line}: no event so far says its list`;
   packetsShown = draw(state, line, e, lit);
   lineShown = line;
   byId("under").textContent = packetsShown.map(it => packetWords(it.packet)).join("\n") || "nothing";

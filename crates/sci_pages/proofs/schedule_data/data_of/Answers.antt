@@ -2,7 +2,7 @@ use Rattle.std.proofs.Common.{◌≡◌, ◌<◌, ◌≤◌, arith, get_or, leng
 use Rattle.sci_words.specs.declared.{event.Event.{Event, TheVariants.{Issue}}, operation.Act.TheVariants.{Load}}
 use Rattle.sci_charts.specs.Rows.{is_shown, shown_places}
 use Rattle.sci_pages.proofs.Paged.{paged_all, paged_more, place_of, reached_step}
-use Rattle.sci_pages.proofs.paging.data_of.Goals as goal
+use Rattle.sci_pages.proofs.schedule_data.data_of.Goals as goal
 
 pub loop-event-preserved : goal.loop-event-preserved
 loop-event-preserved c =

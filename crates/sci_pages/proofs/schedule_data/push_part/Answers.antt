@@ -1,5 +1,5 @@
 use Rattle.sci_pages.proofs.Paged.{line_stays}
-use Rattle.sci_pages.proofs.paging.push_part.Goals as goal
+use Rattle.sci_pages.proofs.schedule_data.push_part.Goals as goal
 
 pub push_list_behind-requires : goal.push_list_behind-requires
 push_list_behind-requires c =

@@ -1,0 +1,84 @@
+-- A page of a text, or why there is none, as it is told of an input that was read.
+use Rattle.std.proofs.Common.{◌≡◌, ◌<◌, ◌≤◌, ◌∙◌, ℕ, List, length, Bool, false, Option, Result, Ok, Err, ap, inl, inr, subst, sym}
+use Rattle.std.specs.Prelude.{IfErr, IfOk}
+use Rattle.sci_text.specs.declared.fault.{TextFault.{TextFault}, TextFaultKind.{TextFaultKind}}
+use Rattle.sci_text.specs.declared.fault.TextFaultKind.TheVariants.{Syntax, Range, TooMany, Read, Write, Memory}
+use Rattle.sci_text.specs.FirstFault.{AreRead, IsRefusal, IsRefusalOf}
+use Rattle.sci_text.proofs.FirstFaults.{told_of_bytes}
+use Rattle.sci_command.specs.declared.{answer.Answer.{Answer}, outcome.Outcome.TheVariants.{Done}, refusal.Refusal.{Refusal}}
+use Rattle.sci_command.specs.Answer.{IsAnswered}
+use Rattle.sci_charts.specs.declared.charting.ChartRequest.{ChartRequest}
+use Rattle.sci_pages.specs.declared.{kind.PageKind.{PageKind, TheVariants.{Schedule}}, limits.TheConstants.{MAX_PAGE_BYTES}}
+use Rattle.sci_pages.specs.{PageKind.{kind_of}, PageText.{page_text}, WithoutData.{IsUnasked, IsWithoutData, IsWithoutPage}}
+use Rattle.sci_pages.specs.PageAnswer.{AreDataFor, IsBigPage, IsFaultFor, IsPageAnswer, IsPageOf, IsPageRefusal, IsPagedFault}
+
+-- ---- why a text has no data, or no page
+
+-- there was no memory
+pub refused_memory : (is_first : List ℕ → ℕ → TextFaultKind → Type 0) (input : List ℕ) (fault : TextFault) → fault.line ≡ 0 → fault.kind ≡ Memory
+    → IsRefusal is_first input fault
+refused_memory is_first input fault line kind = subst (λ (k : TextFaultKind). IsRefusalOf is_first k input fault.line) (sym kind) line
+
+pub unasked_data : (request : ChartRequest) (input : List ℕ) (fault : TextFault) → IsUnasked request.line input fault
+    → IsWithoutData Schedule request input fault
+unasked_data request input fault (inl first) = inl first
+unasked_data request input fault (inr lacks) = inr (inl lacks)
+
+same_fault : (kind : TextFaultKind) (input : List ℕ) (line : ℕ) → IsRefusalOf (IsFaultFor (kind_of input)) kind input line
+    → IsRefusalOf IsPagedFault kind input line
+same_fault Syntax input line is = is
+same_fault Range input line is = is
+same_fault TooMany input line is = is
+same_fault Read input line is = is
+same_fault Write input line is = is
+same_fault Memory input line is = is
+
+without_data : (request : ChartRequest) (title : Option (List ℕ)) (input : List ℕ) (fault : TextFault) → IsWithoutData (kind_of input) request input fault
+    → IsWithoutPage request title input fault
+without_data request title input fault (inl first) = inl (same_fault fault.kind input fault.line first)
+without_data request title input fault (inr (inl lacks)) = inr (inl lacks)
+without_data request title input fault (inr (inr many)) = inr (inr (many.0, many.1, inl many.2))
+
+-- a text without data has no page
+pub dataless : (request : ChartRequest) (title : Option (List ℕ)) (input : List ℕ) (fault : TextFault) (kind : PageKind) → kind ≡ kind_of input
+    → IsWithoutData kind request input fault → IsWithoutPage request title input fault
+dataless request title input fault kind is none =
+    without_data request title input fault (subst (λ (k : PageKind). IsWithoutData k request input fault) is none)
+
+-- ---- a page that is made
+
+module _ (request : ChartRequest) (title : Option (List ℕ)) (input : List ℕ) (kind : PageKind) (body text : List ℕ) (is : kind ≡ kind_of input)
+    (there : AreDataFor kind request input body) (written : text ≡ page_text kind title body) where
+  here : AreDataFor (kind_of input) request input body
+  here = subst (λ (k : PageKind). AreDataFor k request input body) is there
+
+  as_said : text ≡ page_text (kind_of input) title body
+  as_said = written ∙ ap (λ (k : PageKind). page_text k title body) is
+
+  pub page_made : length text ≤ MAX_PAGE_BYTES → IsPageOf request title input text
+  page_made short = record { body = body; are_data = here; written = as_said; short = short }
+
+  pub page_big : MAX_PAGE_BYTES < length text → IsBigPage request title input
+  page_big big = record { body = body; are_data = here; big = subst (λ (t : List ℕ). MAX_PAGE_BYTES < length t) as_said big }
+
+-- ---- what is told of an input
+
+without_page : (request : ChartRequest) (title : Option (List ℕ)) (known : Option (List ℕ)) (failed : Bool) (bytes : List ℕ) (fault : TextFault)
+    → failed ≡ false → AreRead known bytes → IsWithoutPage request title bytes fault
+    → IsPageRefusal request title fault.kind known failed fault.line
+without_page request title known failed bytes fault unfailed read (inl first) =
+    let result : Result Answer TextFault = Err fault in inl (told_of_bytes IsPagedFault known failed bytes result unfailed read first)
+without_page request title known failed bytes fault unfailed read (inr (inl lacks)) = inr (inl (lacks.0, lacks.1, (unfailed, (bytes, read, lacks.2))))
+without_page request title known failed bytes fault unfailed read (inr (inr long)) = inr (inr (long.0, long.1, (unfailed, (bytes, read, long.2))))
+
+-- what was made of the bytes is the answer to the input
+pub paged_answers : (request : ChartRequest) (title : Option (List ℕ)) (known : Option (List ℕ)) (failed : Bool) (bytes slice : List ℕ)
+    (result : Result Answer Refusal) → failed ≡ false → AreRead known bytes → slice ≡ bytes
+    → IfOk result (λ x. (x.outcome ≡ Done) × IsPageOf request title slice x.text.items)
+    → IfErr result (λ refusal. IsWithoutPage request title slice refusal.fault)
+    → IsAnswered (IsPageAnswer request title) (IsPageRefusal request title) known failed result
+paged_answers request title known failed bytes slice (Ok x) ok read same made refused =
+    (λ is. (let apart = made.0 in cc), rw made.0 (ok, (bytes, read, subst (λ (i : List ℕ). IsPageOf request title i x.text.items) same made.1)))
+paged_answers request title known failed bytes slice (Err refusal) ok read same made refused =
+    without_page request title known failed bytes refusal.fault ok read
+    (subst (λ (i : List ℕ). IsWithoutPage request title i refusal.fault) same refused)
