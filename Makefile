@@ -8,7 +8,7 @@ NEED_CARGO = command -v cargo > /dev/null || { echo "cargo is missing: install R
 PROGRAMS = crates/scimem/out/scimem crates/sciview/out/sciview crates/sci_circle/out/sci_circle
 SOURCES = crates.txt HANDLES $(shell find crates -name out -prune -o -path '*_tests' -prune -o \( -name '*.rt' -o -name '*.antt' \) -print)
 
-.PHONY: try run test check cosim bindings fmt bench growth instructions fuzz soak faults install build library install-library plants cases examples charts pages clean
+.PHONY: try run test check cosim bindings fmt bench growth instructions fuzz soak faults install build dist library install-library plants cases examples charts pages clean
 
 PREFIX = /usr/local
 
@@ -70,6 +70,11 @@ install-library: library
 	@echo ".so man3/sci.3" > "$(DESTDIR)$(PREFIX)/share/man/man3/lichenknit.3"
 	@echo "installed liblichenknit, lichenknit.h and sci(3) below $(DESTDIR)$(PREFIX)"
 
+# An archive of the programs and the C library for every x86-64 processor, in out/dist, which needs no kit where it is unpacked.
+dist:
+	@$(NEED_RT)
+	@scripts/make/dist.py
+
 # Builds the C library, and runs the examples of docs/SYSTEMVERILOG.md and docs/SYSTEMC.md with it, if Verilator and SystemC are there.
 cosim: library
 	@scripts/gate/check_cosim.py
@@ -100,11 +105,12 @@ pages: build
 install:
 	@if command -v rt > /dev/null; then $(MAKE) --no-print-directory build; fi
 	@for name in scimem sciview; do [ -x out/bin/$$name ] || { echo "$$name isn't built yet: run make build first"; exit 1; }; done
-	@install -d "$(DESTDIR)$(PREFIX)/bin" "$(DESTDIR)$(PREFIX)/share/man/man1" "$(DESTDIR)$(PREFIX)/share/man/man5"
+	@install -d "$(DESTDIR)$(PREFIX)/bin" "$(DESTDIR)$(PREFIX)/share/man/man1" "$(DESTDIR)$(PREFIX)/share/man/man5" "$(DESTDIR)$(PREFIX)/share/bash-completion/completions"
 	@install -m 755 out/bin/scimem out/bin/sciview "$(DESTDIR)$(PREFIX)/bin"
 	@install -m 644 docs/scimem.1 docs/sciview.1 "$(DESTDIR)$(PREFIX)/share/man/man1"
+	@for name in scimem sciview; do install -m 644 scripts/make/completion.bash "$(DESTDIR)$(PREFIX)/share/bash-completion/completions/$$name"; done
 	@scripts/make/manual_page.py > "$(DESTDIR)$(PREFIX)/share/man/man5/scimem.5"
-	@echo "installed scimem and sciview in $(DESTDIR)$(PREFIX)/bin, and scimem(1), sciview(1) and scimem(5) in $(DESTDIR)$(PREFIX)/share/man"
+	@echo "installed scimem and sciview in $(DESTDIR)$(PREFIX)/bin, scimem(1), sciview(1) and scimem(5) in $(DESTDIR)$(PREFIX)/share/man, and completion for bash"
 	@if [ -f out/library/liblichenknit.a ]; then $(MAKE) --no-print-directory -o library install-library; fi
 
 # Builds tests and the programs over what earlier checks kept, and has memory, reads and writes refused. With CRATE=NAME

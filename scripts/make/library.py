@@ -10,6 +10,8 @@ import sys
 
 TOP = os.path.dirname(os.path.dirname(os.path.dirname(os.path.abspath(__file__))))
 OUT = f"{TOP}/out/library"
+# The proved part.
+PROVED = f"{TOP}/crates/sci_c/out/libsci_c.a"
 
 
 def works(name):
@@ -48,7 +50,7 @@ def build_archive(cc):
     """One object with the proved part and support.c. No other name than sci_* is seen outside it."""
     run(cc, "-std=c11", "-O2", "-g", "-fno-eliminate-unused-debug-types", f"-ffile-prefix-map={TOP}=.", "-fPIC", "-Wall", "-Wextra", "-Werror",
         f"-I{TOP}/include", "-c", f"{TOP}/library/support.c", "-o", "support.o")
-    run("ld", "-r", "-o", "lichenknit.o", "--whole-archive", f"{TOP}/crates/sci_c/out/libsci_c.a", "--no-whole-archive", "support.o")
+    run("ld", "-r", "-o", "lichenknit.o", "--whole-archive", PROVED, "--no-whole-archive", "support.o")
     run("objcopy", "--wildcard", "--keep-global-symbol=sci_*", "lichenknit.o")
     if os.path.exists(f"{OUT}/liblichenknit.a"):
         os.remove(f"{OUT}/liblichenknit.a")
