@@ -5,12 +5,14 @@ all orders.
     scripts/measure/fuzz_traces.py [SECONDS [SEED [PROGRAM]]]        60 seconds and seed 1, if it isn't said
 
 Half of the traces write each word once, and never 0, so that the verdict has to be the right one. The others may write words
-again, and may be undecided then if they aren't coherent; so may those in which times contradict the order of a processor. Some
-have times, and some say last words. Of a coherent trace it is counted how many versions explain it, which has to be one exactly if
+again, and may be undecided then if they aren't coherent. Some have times, which may contradict the order of a processor, and some
+say last words. Of a coherent trace it is counted how many versions explain it, which has to be one exactly if
 they are said to be forced; where they are said to be undecided, nothing is wanted. The log is asked for, too: it has to have the
 trace's operations in each processor's order, and one memory of one thread has to explain each line, by the log's versions, which
 have to respect the times if these count. With `--order` the answer has to be that of a search of all orders; it may be unknown if
-the trace isn't sequentially consistent, and with times only versions that respect them count. The last line is 'N passed, M failed', of traces.
+the trace isn't sequentially consistent, and with times only versions that respect them count. A cycle has to end where it begins,
+by operations of one processor in their order, by a word that the one wrote and the other found, or by words at one address. The
+last line is 'N passed, M failed', of traces.
 """
 
 import os
@@ -30,6 +32,7 @@ FOREVER = 2**64 - 1
 
 FIRST = re.compile(rb"(coherent|not coherent at ([0-9]+)|undecided at ([0-9]+))\Z")
 NO_ORDER = (b"not sequentially consistent", b"order unknown")
+LINK = re.compile(rb"line ([0-9]+): .* comes before line ([0-9]+): .* \((program order|reads from|order of words)\)\Z")
 STEP = re.compile(rb"(line [0-9]+: |nothing comes between the two of line [0-9]+: |0 at the start comes before line [0-9]+: |nobody wrote the last word)")
 
 
@@ -188,10 +191,14 @@ def made(chance):
 
 
 def text_of(chance, accesses, lasts):
-    lines = [it.text() for it in accesses]
+    """The text of a trace. Each operation is told its line."""
+    lines = list(accesses)
     for address, word in lasts.items():
         lines.insert(chance.randint(0, len(lines)), f"final M[{address}] == {word}")
-    return "".join(it + "\n" for it in lines).encode()
+    for number, it in enumerate(lines):
+        if isinstance(it, Access):
+            it.line = number + 1
+    return "".join((it.text() if isinstance(it, Access) else it) + "\n" for it in lines).encode()
 
 
 def wanted(accesses, lasts, timed):
@@ -199,8 +206,8 @@ def wanted(accesses, lasts, timed):
     found = {}
     for address in sorted({it.address for it in accesses} | set(lasts)):
         there = [it for it in accesses if it.address == address]
-        clear = not timed or is_monotone(there)
-        found[address] = (is_coherent(there, lasts.get(address), timed), is_once(there) and clear, clear)
+        once = is_once(there)
+        found[address] = (is_coherent(there, lasts.get(address), timed), once, once or not timed or is_monotone(there))
     return found
 
 
@@ -304,10 +311,33 @@ def is_freedom(accesses, lasts, timed, said):
     return said == (b"versions forced" if forced else b"versions free")
 
 
+def is_cycle(accesses, lines):
+    """Whether lines tell a cycle of operations, each of which is before the next one for the reason that is said."""
+    by_line = dict(zip((it.line for it in accesses), accesses))
+    links = [LINK.match(it) for it in lines if not it.startswith(b"  ")]
+    if not all(links) or not all(STEP.match(it[2:]) for it in lines if it.startswith(b"  ")):
+        return False
+    for link, next_one in zip(links, links[1:] + links[:1]):
+        first, second = by_line[int(link[1])], by_line[int(link[2])]
+        if link[2] != next_one[1] or first is second:
+            return False
+        if link[3] == b"program order":
+            right = first.processor == second.processor and first.line < second.line
+        elif link[3] == b"reads from":
+            right = first.address == second.address and first.writes() and second.read == first.wrote
+        else:
+            right = first.address == second.address
+        if not right:
+            return False
+    return True
+
+
 def is_order(accesses, lasts, timed, run):
     """Whether what is said of one order of all operations of a coherent trace is right."""
     lines = run.stdout.split(b"\n")
-    if run.stderr or len(lines) != 4 or run.returncode != (0 if lines[2] == b"sequentially consistent" else 1):
+    if run.stderr or len(lines) < 4 or run.returncode != (0 if lines[2] == b"sequentially consistent" else 1):
+        return False
+    if len(lines) > 4 and (lines[2] != NO_ORDER[0] or not is_cycle(accesses, lines[3:-1])):
         return False
     if is_sequential(accesses, lasts):
         return lines[2] == b"sequentially consistent" or timed and lines[2] in NO_ORDER
@@ -323,6 +353,7 @@ def failure(job):
     given = text_of(chance, accesses, lasts)
     words = [program, "judge", *(["--times"] if timed else [])]
     run = subprocess.run(words, input=given, stdout=subprocess.PIPE, stderr=subprocess.PIPE, timeout=60)
+    told = run.stdout
     right = not run.stderr and is_right(wanted(accesses, lasts, timed), run.returncode, run.stdout)
     if right:
         log = subprocess.run([*words, "--log"], input=given, stdout=subprocess.PIPE, stderr=subprocess.PIPE, timeout=60)
@@ -331,13 +362,13 @@ def failure(job):
             right = right and is_freedom(accesses, lasts, timed, run.stdout.split(b"\n")[1])
             if right:
                 log = subprocess.run([*words, "--order"], input=given, stdout=subprocess.PIPE, stderr=subprocess.PIPE, timeout=60)
-                right = is_order(accesses, lasts, timed, log)
+                right, told = is_order(accesses, lasts, timed, log), log.stdout
         else:
             right = (log.returncode, log.stdout, log.stderr) == (run.returncode, run.stdout, run.stderr)
         if not right:
             run = log
     wrong = None if right else f"trace {number}: {' '.join(words[1:])}, status {run.returncode}\n{given.decode()}-- {run.stdout.decode()}"
-    kind = b" ".join(run.stdout.split(b"\n")[:2]) if run.returncode == 0 and right else run.stdout.split(b" ")[0].strip()
+    kind = b", ".join(told.split(b"\n")[:3]) if told.startswith(b"coherent") else told.split(b" ")[0].strip()
     return wrong, kind.decode()
 
 

@@ -1,3 +1,4 @@
 pub mod Lines
 pub mod Appends
 pub mod Logs
+pub mod CycleLines

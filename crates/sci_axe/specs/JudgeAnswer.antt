@@ -18,17 +18,17 @@ pub record IsLogText (trace : Trace) (sites : List SiteVersions) (text : List �
   pub written : text ≡ log_text MAX_NODES log.logs log.last
 
 -- what is said of one order of all operations holds; it is said of a coherent trace, if it is asked for
-abbrev pub IsOrdering : (asked : Bool) → Trace → Judgement → Option Consistency → Type 0
-IsOrdering asked trace (Coherent sites) None = asked ≡ false
-IsOrdering asked trace (Coherent sites) (Some consistency) = (asked ≡ true) × IsConsistency trace sites.items consistency
-IsOrdering asked trace (NotCoherent address there witness) consistency = consistency ≡ None
-IsOrdering asked trace (Undecided address) consistency = consistency ≡ None
+abbrev pub IsOrdering : JudgeRequest → Trace → Judgement → Option Consistency → Type 0
+IsOrdering request trace (Coherent sites) None = request.ordered ≡ false
+IsOrdering request trace (Coherent sites) (Some consistency) = (request.ordered ≡ true) × IsConsistency request.timed trace sites.items consistency
+IsOrdering request trace (NotCoherent address there witness) consistency = consistency ≡ None
+IsOrdering request trace (Undecided address) consistency = consistency ≡ None
 
 -- the words of a judgement and of an order, and no line of memory
 pub record IsVerdictText (request : JudgeRequest) (trace : Trace) (judgement : Judgement) (lines text : List ℕ) (outcome : Outcome) : Type 0 where
   pub consistency : Option Consistency
-  pub ordering : IsOrdering request.ordered trace judgement consistency
-  pub written : text ≡ judgement_text judgement ++ consistency_text consistency
+  pub ordering : IsOrdering request trace judgement consistency
+  pub written : text ≡ judgement_text judgement ++ consistency_text trace.accesses.items consistency
   pub ends : outcome ≡ outcome_of judgement consistency
   pub no_lines : lines ≡ []
 

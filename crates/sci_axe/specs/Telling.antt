@@ -1,15 +1,17 @@
 -- What is written of a judgement.
-use Rattle.std.specs.Prelude.{ℕ, ◌==◌, if◌then◌else◌, List, [], ◌++◌, codes, Option, Some, None, slice_index_or}
+use Rattle.std.specs.Prelude.{ℕ, ◌==◌, nat_le, if◌then◌else◌, List, [], ◌∷◌, ◌++◌, codes, Option, Some, None, slice_index_or}
 use Rattle.std.specs.List.{flat_map, list_any}
 use Rattle.sci_text.specs.Number.{field, number}
 use Rattle.sci_command.specs.declared.outcome.Outcome.{Outcome, TheVariants.{Done, Unlawful}}
 use Rattle.sci_judge.specs.declared.access.{Access.{Access}, Kind.{Kind, TheVariants.{Load, Store, Atomic}}}
 use Rattle.sci_judge.specs.declared.witness.{Step.{Step, TheVariants.{Follows, Swaps, Falls, Rises, Starts, Ends}}}
-use Rattle.sci_judge.specs.declared.witness.Witness.{Witness, TheVariants.{Unwritten, UnwrittenLast, Early, Circle}}
+use Rattle.sci_judge.specs.declared.witness.Witness.{Witness, TheVariants.{Unwritten, UnwrittenLast, Early, Circle, Round}}
 use Rattle.sci_judge.specs.declared.judging.{Judgement.{Judgement, TheVariants.{Coherent, NotCoherent, Undecided}}, SiteVersions.{SiteVersions}}
 use Rattle.sci_judge.specs.declared.consistency.Consistency.{Consistency}
 use Rattle.sci_judge.specs.declared.consistency.Consistency.TheVariants as consistency
-use Rattle.sci_judge.specs.Judgement.{is_free, is_unknown}
+use Rattle.sci_judge.specs.declared.cycle.{Link.{Link}, Reason.{Reason}}
+use Rattle.sci_judge.specs.declared.cycle.Reason.TheVariants as reason
+use Rattle.sci_judge.specs.Judgement.{at_address, is_free, is_unknown}
 
 -- ---- operations
 
@@ -46,14 +48,17 @@ told_at accesses words place = words ++ access_text (access_at accesses place)
 
 -- ---- witnesses
 
--- two operations of one processor, or two that are apart in time
-unfoldable pub order_text : Access → Access → List ℕ
-order_text earlier later = if earlier.processor == later.processor then codes " (program order)\n" else codes " (time)\n"
+-- two operations of one processor in this order, or two that are apart in time
+unfoldable pub order_text : List Access → (earlier later : ℕ) → List ℕ
+order_text accesses earlier later =
+    if nat_le later earlier
+    then codes " (time)\n"
+    else if (access_at accesses earlier).processor == (access_at accesses later).processor then codes " (program order)\n" else codes " (time)\n"
 
 -- that one operation comes before another, and why
 unfoldable pub pair_text : List Access → (earlier later : ℕ) → List ℕ
 pair_text accesses earlier later =
-    told_at accesses [] earlier ++ (told_at accesses (codes " comes before ") later ++ order_text (access_at accesses earlier) (access_at accesses later))
+    told_at accesses [] earlier ++ (told_at accesses (codes " comes before ") later ++ order_text accesses earlier later)
 
 -- that what an atomic read and wrote stand together
 unfoldable pub joint_text : List Access → ℕ → List ℕ
@@ -72,11 +77,17 @@ step_text accesses (Rises place) = joint_text accesses place
 step_text accesses (Starts place) = told_at accesses (codes "0 at the start comes before ") place ++ codes "\n"
 step_text accesses (Ends place) = told_at accesses [] place ++ codes " comes before the last word\n"
 
+-- that one operation comes before the first of some, each of them before the next one, and the last one before another operation
+unfoldable pub turn_text : List Access → (from : ℕ) → (through : List ℕ) → (to : ℕ) → List ℕ
+turn_text accesses from [] to = pair_text accesses from to
+turn_text accesses from (next ∷ through) to = pair_text accesses from next ++ turn_text accesses next through to
+
 unfoldable pub witness_text : List Access → Witness → List ℕ
 witness_text accesses (Unwritten reader) = told_at accesses [] reader ++ codes " finds a word that nobody wrote\n"
 witness_text accesses UnwrittenLast = codes "nobody wrote the last word\n"
 witness_text accesses (Early reader writer) = early_text accesses reader writer
 witness_text accesses (Circle steps) = flat_map (step_text accesses) steps.items
+witness_text accesses (Round maker through) = turn_text accesses maker through.items maker
 
 -- ---- judgements
 
@@ -91,17 +102,50 @@ judgement_text (Coherent sites) = codes "coherent\n" ++ versions_text sites.item
 judgement_text (NotCoherent address accesses witness) = codes "not coherent at" ++ (field address ++ (codes "\n" ++ witness_text accesses.items witness))
 judgement_text (Undecided address) = codes "undecided at" ++ (field address ++ codes "\n")
 
+-- ---- cycles
+
+-- the lines of steps between words, each behind two blanks
+unfoldable pub inner_text : List Access → Step → List ℕ
+inner_text accesses step = codes "  " ++ step_text accesses step
+
+-- why the operation at a place stands before another one in every order
+unfoldable pub reason_text : List Access → (place : ℕ) → Reason → List ℕ
+reason_text accesses place reason.Program = codes " (program order)\n"
+reason_text accesses place reason.ReadsFrom = codes " (reads from)\n"
+reason_text accesses place (reason.Words steps) =
+    codes " (order of words)\n" ++ flat_map (inner_text (at_address (access_at accesses place).address accesses)) steps.items
+
+unfoldable pub link_text : List Access → Link → (to : ℕ) → List ℕ
+link_text accesses link to =
+    told_at accesses [] link.place ++ (told_at accesses (codes " comes before ") to ++ reason_text accesses link.place link.reason)
+
+-- that the operation of one link stands before that of the first of some, each of them before that of the next one, and the last
+-- one before an operation
+unfoldable pub links_text : List Access → Link → List Link → (to : ℕ) → List ℕ
+links_text accesses link [] to = link_text accesses link to
+links_text accesses link (next ∷ links) to = link_text accesses link next.place ++ links_text accesses next links to
+
+unfoldable pub cycle_text : List Access → List Link → List ℕ
+cycle_text accesses [] = []
+cycle_text accesses (link ∷ links) = links_text accesses link links link.place
+
+-- that no order explains all operations, with a cycle
+unfoldable pub no_order_text : List Access → List Link → List ℕ
+no_order_text accesses links = codes "not sequentially consistent\n" ++ cycle_text accesses links
+
 -- whether one order explains all operations, if that is asked for
-unfoldable pub consistency_text : Option Consistency → List ℕ
-consistency_text None = []
-consistency_text (Some consistency.Sequential) = codes "sequentially consistent\n"
-consistency_text (Some consistency.NotSequential) = codes "not sequentially consistent\n"
-consistency_text (Some consistency.Unknown) = codes "order unknown\n"
+unfoldable pub consistency_text : List Access → Option Consistency → List ℕ
+consistency_text accesses None = []
+consistency_text accesses (Some consistency.Sequential) = codes "sequentially consistent\n"
+consistency_text accesses (Some (consistency.Cycle links)) = no_order_text accesses links.items
+consistency_text accesses (Some consistency.NotSequential) = codes "not sequentially consistent\n"
+consistency_text accesses (Some consistency.Unknown) = codes "order unknown\n"
 
 -- how the command ends
 abbrev pub outcome_of : Judgement → Option Consistency → Outcome
 outcome_of (Coherent sites) None = Done
 outcome_of (Coherent sites) (Some consistency.Sequential) = Done
+outcome_of (Coherent sites) (Some (consistency.Cycle links)) = Unlawful
 outcome_of (Coherent sites) (Some consistency.NotSequential) = Unlawful
 outcome_of (Coherent sites) (Some consistency.Unknown) = Unlawful
 outcome_of (NotCoherent address accesses witness) order = Unlawful

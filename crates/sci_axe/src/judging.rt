@@ -96,11 +96,11 @@ fn ordering(
     judgement: &Judgement,
 ) -> Result<Option<Consistency>, AllocError>
     requires { AreKnown trace.now.accesses.items }
-    ensures { IfOk result (IsOrdering request.ordered trace.now judgement.now) }
+    ensures { IfOk result (IsOrdering request trace.now judgement.now) }
 {
     match judgement {
         Judgement::Coherent(sites) if request.ordered => {
-            Ok(Some(consistency_of(alloc, trace, sites)?))
+            Ok(Some(consistency_of(alloc, trace, sites, request.timed)?))
         }
         _ => Ok(None),
     }
@@ -127,6 +127,7 @@ pub fn judge_trace<R: Read>(
     lines.clear();
     let bytes = read_input(alloc, reader)?;
     let trace = read_trace(alloc, &bytes)?;
+    drop(bytes);
     let way = Way {
         timed: request.timed,
         ordered: request.ordered,
@@ -137,7 +138,7 @@ pub fn judge_trace<R: Read>(
         Some(sites) => logged(alloc, &trace, sites, lines),
         None => {
             let consistency = ordering(alloc, request, &trace, &judgement)?;
-            Ok(told(alloc, &judgement, consistency)?)
+            Ok(told(alloc, &judgement, &trace.accesses, &consistency)?)
         }
     }
 }

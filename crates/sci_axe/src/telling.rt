@@ -1,12 +1,12 @@
 //! What is written of a judgement.
 
 ghost use Rattle.std.specs.{Prelude.{◌≡◌, ◌++◌, IfOk, OnOk}, List.{flat_map, list_any}};
-ghost use Rattle.sci_axe.specs.Telling.{access_at as access_at_of, access_text, early_text, found_text, consistency_text, joint_text, judgement_text as judgement_text_of, kind_text, memory_text, order_text, pair_text};
-ghost use Rattle.sci_axe.specs.Telling.{outcome_of, step_text, told_at, versions_text, witness_text, wrote_text};
-ghost use Rattle.sci_judge.specs.Judgement.{is_free, is_unknown};
+ghost use Rattle.sci_axe.specs.Telling.{access_at as access_at_of, access_text, cycle_text, early_text, found_text, consistency_text, inner_text, joint_text, judgement_text as judgement_text_of, kind_text, link_text, memory_text, order_text, pair_text, reason_text};
+ghost use Rattle.sci_axe.specs.Telling.{no_order_text, outcome_of, step_text, told_at, turn_text, versions_text, witness_text, wrote_text};
+ghost use Rattle.sci_judge.specs.Judgement.{at_address, is_free, is_unknown};
 
 use sci_command::{Answer, Outcome};
-use sci_judge::{Access, Consistency, Judgement, Kind, SiteVersions, Step, Witness};
+use sci_judge::{Access, Consistency, Judgement, Kind, Link, Reason, SiteVersions, Step, Witness};
 use sci_text::{push_field, push_number, push_text};
 use sci_words::Word;
 use std::alloc::{AllocError, Global};
@@ -104,12 +104,15 @@ fn push_at(
     push_access(out, &access_at(accesses, place))
 }
 
-/// Why one operation comes before another.
+/// Why the operation at one place comes before that at another.
 #[tactic(auto, unfolding(crate::specs::Telling::order_text))]
-fn order_words(earlier: &Access, later: &Access) -> &'static str
-    ensures { result.now ≡ order_text earlier.now later.now }
+fn order_words(accesses: &[Access], earlier: usize, later: usize) -> &'static str
+    ensures { result.now ≡ order_text accesses.now earlier later }
 {
-    if earlier.processor == later.processor {
+    if later <= earlier {
+        return " (time)\n";
+    }
+    if access_at(accesses, earlier).processor == access_at(accesses, later).processor {
         " (program order)\n"
     } else {
         " (time)\n"
@@ -129,8 +132,7 @@ fn push_pair(
 {
     push_at(out, accesses, "", earlier)?;
     push_at(out, accesses, " comes before ", later)?;
-    let words = order_words(&access_at(accesses, earlier), &access_at(accesses, later));
-    push_text(out, words)
+    push_text(out, order_words(accesses, earlier, later))
 }
 
 /// Appends that nothing stands between what an atomic read and what it wrote.
@@ -191,6 +193,25 @@ fn push_steps(out: &mut Vec<u8>, accesses: &[Access], steps: &[Step]) -> Result<
     Ok(())
 }
 
+/// Appends that an operation comes before itself, through others.
+#[tactic(auto, unfolding(crate::specs::Telling::turn_text))]
+fn push_round(
+    out: &mut Vec<u8>,
+    accesses: &[Access],
+    maker: usize,
+    through: &[usize],
+) -> Result<(), AllocError>
+    ensures { OnOk result
+        (out.new.items ≡ out.old.items ++ turn_text accesses.now maker through.now maker) }
+{
+    let mut place = maker;
+    for next in through {
+        push_pair(out, accesses, place, *next)?;
+        place = *next;
+    }
+    push_pair(out, accesses, place, maker)
+}
+
 /// Appends the lines of a witness.
 #[tactic(auto, unfolding(crate::specs::Telling::witness_text))]
 fn push_witness(out: &mut Vec<u8>, accesses: &[Access], witness: &Witness) -> Result<(), AllocError>
@@ -205,7 +226,98 @@ fn push_witness(out: &mut Vec<u8>, accesses: &[Access], witness: &Witness) -> Re
         Witness::UnwrittenLast => push_text(out, "nobody wrote the last word\n"),
         Witness::Early { reader, writer } => push_early(out, accesses, *reader, *writer),
         Witness::Circle(steps) => push_steps(out, accesses, steps),
+        Witness::Round { maker, through } => push_round(out, accesses, *maker, through),
     }
+}
+
+/// The operations at an address.
+fn operations_at(
+    alloc: Global,
+    accesses: &[Access],
+    address: u64,
+) -> Result<Vec<Access>, AllocError>
+    ensures { IfOk result (λ there. there.items ≡ at_address address accesses.now) }
+{
+    let mut there = Vec::new(alloc);
+    for access in accesses {
+        if access.address == address {
+            there.push(*access)?;
+        }
+    }
+    Ok(there)
+}
+
+/// Appends the line of a step between words, behind two blanks.
+#[tactic(auto, unfolding(crate::specs::Telling::inner_text))]
+fn push_inner_step(out: &mut Vec<u8>, accesses: &[Access], step: &Step) -> Result<(), AllocError>
+    ensures { OnOk result
+        (out.new.items ≡ out.old.items ++ inner_text accesses.now step.now) }
+{
+    push_text(out, "  ")?;
+    push_step(out, accesses, step)
+}
+
+/// Appends the lines of such steps.
+fn push_inner(out: &mut Vec<u8>, accesses: &[Access], steps: &[Step]) -> Result<(), AllocError>
+    ensures { OnOk result
+        (out.new.items ≡ out.old.items ++ flat_map (inner_text accesses.now) steps.now) }
+{
+    for step in steps {
+        push_inner_step(out, accesses, step)?;
+    }
+    Ok(())
+}
+
+/// Appends why the operation of a link stands before another one.
+#[tactic(auto, unfolding(crate::specs::Telling::reason_text))]
+fn push_reason(out: &mut Vec<u8>, accesses: &[Access], link: &Link) -> Result<(), AllocError>
+    ensures { OnOk result (out.new.items
+        ≡ out.old.items ++ reason_text accesses.now link.now.place link.now.reason) }
+{
+    match &link.reason {
+        Reason::Program => push_text(out, " (program order)\n"),
+        Reason::ReadsFrom => push_text(out, " (reads from)\n"),
+        Reason::Words(steps) => {
+            let address = access_at(accesses, link.place).address;
+            let there = operations_at(*out.allocator(), accesses, address)?;
+            push_text(out, " (order of words)\n")?;
+            push_inner(out, &there, steps)
+        }
+    }
+}
+
+/// Appends that the operation of a link stands before one at a place, and why.
+#[tactic(auto, unfolding(crate::specs::Telling::link_text))]
+fn push_link(
+    out: &mut Vec<u8>,
+    accesses: &[Access],
+    link: &Link,
+    place: usize,
+) -> Result<(), AllocError>
+    ensures { OnOk result
+        (out.new.items ≡ out.old.items ++ link_text accesses.now link.now place) }
+{
+    push_at(out, accesses, "", link.place)?;
+    push_at(out, accesses, " comes before ", place)?;
+    push_reason(out, accesses, link)
+}
+
+/// Appends the lines of a cycle.
+#[tactic(auto, unfolding(crate::specs::Telling::cycle_text))]
+fn push_cycle(out: &mut Vec<u8>, accesses: &[Access], links: &[Link]) -> Result<(), AllocError>
+    ensures { OnOk result
+        (out.new.items ≡ out.old.items ++ cycle_text accesses.now links.now) }
+{
+    let Some((first, others)) = links.split_first() else {
+        return Ok(());
+    };
+    let mut link = first;
+    for next in others {
+        push_link(out, accesses, link, next.place)?;
+        link = next;
+    }
+    push_link(out, accesses, link, first.place)?;
+    Ok(())
 }
 
 /// Whether other versions explain the operations at some address as well.
@@ -245,16 +357,32 @@ fn versions_words(sites: &[SiteVersions]) -> &'static str
     "versions forced\n"
 }
 
-/// Whether one order explains all operations, in words.
+/// Appends that no order explains all operations, with a cycle.
+#[tactic(auto, unfolding(crate::specs::Telling::no_order_text))]
+fn push_no_order(out: &mut Vec<u8>, accesses: &[Access], links: &[Link]) -> Result<(), AllocError>
+    ensures { OnOk result
+        (out.new.items ≡ out.old.items ++ no_order_text accesses.now links.now) }
+{
+    push_text(out, "not sequentially consistent\n")?;
+    push_cycle(out, accesses, links)
+}
+
+/// Appends whether one order explains all operations, if that is said.
 #[tactic(auto, unfolding(crate::specs::Telling::consistency_text))]
-fn consistency_words(consistency: Option<Consistency>) -> &'static str
-    ensures { result.now ≡ consistency_text consistency }
+fn push_consistency(
+    out: &mut Vec<u8>,
+    accesses: &[Access],
+    consistency: &Option<Consistency>,
+) -> Result<(), AllocError>
+    ensures { OnOk result (out.new.items
+        ≡ out.old.items ++ consistency_text accesses.now consistency.now) }
 {
     match consistency {
-        None => "",
-        Some(Consistency::Sequential) => "sequentially consistent\n",
-        Some(Consistency::NotSequential) => "not sequentially consistent\n",
-        Some(Consistency::Unknown) => "order unknown\n",
+        None => Ok(()),
+        Some(Consistency::Sequential) => push_text(out, "sequentially consistent\n"),
+        Some(Consistency::Cycle(links)) => push_no_order(out, accesses, links),
+        Some(Consistency::NotSequential) => push_text(out, "not sequentially consistent\n"),
+        Some(Consistency::Unknown) => push_text(out, "order unknown\n"),
     }
 }
 
@@ -288,21 +416,22 @@ fn judgement_text(alloc: Global, judgement: &Judgement) -> Result<Vec<u8>, Alloc
     Ok(text)
 }
 
-/// What is written of a judgement and of an order of all operations, and how the command ends then.
+/// What is written of a judgement of these operations and of an order of all of them, and how the command ends then.
 pub fn told(
     alloc: Global,
     judgement: &Judgement,
-    consistency: Option<Consistency>,
+    accesses: &[Access],
+    consistency: &Option<Consistency>,
 ) -> Result<Answer, AllocError>
-    ensures text { IfOk result (λ answer.
-        answer.text.items ≡ judgement_text_of judgement.now ++ consistency_text consistency) }
-    ensures ends { IfOk result (λ answer. answer.outcome ≡ outcome_of judgement.now consistency) }
+    ensures text { IfOk result (λ answer. answer.text.items
+        ≡ judgement_text_of judgement.now ++ consistency_text accesses.now consistency.now) }
+    ensures ends { IfOk result (λ answer. answer.outcome ≡ outcome_of judgement.now consistency.now) }
 {
     let outcome = match (judgement, consistency) {
         (Judgement::Coherent(_), None | Some(Consistency::Sequential)) => Outcome::Done,
         _ => Outcome::Unlawful,
     };
     let mut text = judgement_text(alloc, judgement)?;
-    push_text(&mut text, consistency_words(consistency))?;
+    push_consistency(&mut text, accesses, consistency)?;
     Ok(Answer { text, outcome })
 }

@@ -9,18 +9,17 @@ use Rattle.sci_history.proofs.{Consequences.{among_all, made_at, placed_did, pla
 use Rattle.sci_versions.specs.Stretches.{IsWriter}
 use Rattle.sci_versions.proofs.{Cycles.{change_between}, Words.{is_placed, zero_at_start}}
 use Rattle.sci_judge.specs.declared.{access.{Access.{Access}, Kind.{Kind, TheVariants.{Load, Store, Atomic}}}, forcing.Maker.{Maker}}
-use Rattle.sci_judge.specs.declared.witness.Claim.{Claim}
 use Rattle.sci_judge.specs.Access.{AreKnown, is_making, is_writing, left_by}
 use Rattle.sci_judge.specs.{Coherent.{reply_of}, Stamped.{IsExplainedBy}, Witness.{AreWrittenOnce, ComesBefore, IsAt}}
-use Rattle.sci_judge.specs.Forced.{AreForced, AreHeld, AreParted, IsAbove, IsHeld, IsMaker, IsRanked, IsUnder, IsWordBefore}
+use Rattle.sci_judge.specs.Forced.{AreForced, AreHeld, AreParted, IsAbove, IsMaker, IsRanked, IsUnder, IsWordBefore}
 use Rattle.sci_judge.proofs.Explained.{Explanation, end_of, entry_in, entry_leaves, entry_makes, in_order, is_line, operation_of, placed_in, read_at}
 use Rattle.sci_judge.proofs.Explained.{same_entry, top_of, version_in, word_in, written_once}
 use Rattle.sci_judge.proofs.{Once.{no_access}, Refuted.{path, stored_not_got}, Stamps.{among_logs}}
 
 -- ---- versions of operations that others explain
 
-abbrev explanation : (timed : Bool) (accesses : List Access) (last : Option ℕ) (others : List ℕ) → AreKnown accesses → IsExplainedBy timed accesses last others
-    → Explanation
+abbrev pub explanation : (timed : Bool) (accesses : List Access) (last : Option ℕ) (others : List ℕ) → AreKnown accesses
+    → IsExplainedBy timed accesses last others → Explanation
 explanation timed accesses last others known is = record {
   timed = timed;
   accesses = accesses;
@@ -36,10 +35,10 @@ abbrev At : List ℕ → (place version : ℕ) → Type 0
 At others place version = slice_get others place ≡ Some version
 
 -- the versions of an explanation are these
-abbrev AreOf : Explanation → List ℕ → Type 0
+abbrev pub AreOf : Explanation → List ℕ → Type 0
 AreOf e others = (i : ℕ) (a : Access) (at : IsAt e.accesses i a) → At others i (version_in e i a at)
 
-are_of : (timed : Bool) (accesses : List Access) (last : Option ℕ) (others : List ℕ) (known : AreKnown accesses)
+pub are_of : (timed : Bool) (accesses : List Access) (last : Option ℕ) (others : List ℕ) (known : AreKnown accesses)
     (is : IsExplainedBy timed accesses last others) → AreOf (explanation timed accesses last others known is) others
 are_of timed accesses last others known is = λ i a at.
     let e = explanation timed accesses last others known is in
@@ -94,7 +93,7 @@ writing_changes (Atomic read wrote) value writing leaves got = elim (cases_eq re
   | inr differs ↦ differs (let is : Got read ≡ Got wrote = got ∙ ap Got (sym leaves) in cc)
 ]
 
-writing_makes : (kind : Kind) → is_writing kind ≡ true → is_making kind ≡ true
+pub writing_makes : (kind : Kind) → is_writing kind ≡ true → is_making kind ≡ true
 writing_makes (Load read) writing = writing
 writing_makes (Store wrote) writing = refl
 writing_makes (Atomic read wrote) writing = refl
@@ -125,15 +124,15 @@ from_writer e once i version a at_a writing within has =
     omega arith
 
 -- what leaves a word stands behind the one that wrote it
-behind_writer : (e : Explanation) → AreWrittenOnce e.accesses → (i j : ℕ) (a b : Access) (at_a : IsAt e.accesses i a) (at_b : IsAt e.accesses j b)
+pub behind_writer : (e : Explanation) → AreWrittenOnce e.accesses → (i j : ℕ) (a b : Access) (at_a : IsAt e.accesses i a) (at_b : IsAt e.accesses j b)
     → is_writing a.kind ≡ true → left_by a.kind ≡ left_by b.kind → version_in e i a at_a ≤ version_in e j b at_b
 behind_writer e once i j a b at_a at_b writing same =
     let here = placed_in e j b at_b in
     from_writer e once i (version_in e j b at_b) a at_a writing here.within (here.leaves ∙ sym same)
 
 -- and a maker that leaves the word as it was stands behind the one that wrote it
-reads_same : (e : Explanation) → AreWrittenOnce e.accesses → (i j : ℕ) (a b : Access) (at_a : IsAt e.accesses i a) (at_b : IsAt e.accesses j b) (kind : Kind)
-    → b.kind ≡ kind → is_writing a.kind ≡ true → is_writing kind ≡ false → is_making kind ≡ true → left_by a.kind ≡ left_by kind
+pub reads_same : (e : Explanation) → AreWrittenOnce e.accesses → (i j : ℕ) (a b : Access) (at_a : IsAt e.accesses i a) (at_b : IsAt e.accesses j b)
+    (kind : Kind) → b.kind ≡ kind → is_writing a.kind ≡ true → is_writing kind ≡ false → is_making kind ≡ true → left_by a.kind ≡ left_by kind
     → version_in e i a at_a < version_in e j b at_b
 reads_same e once i j a b at_a at_b (Load read) is writing kept making same = absurd (let no_ : true ≡ false = sym making in cc)
 reads_same e once i j a b at_a at_b (Store wrote) is writing kept making same = absurd (let no_ : true ≡ false = kept in cc)
@@ -149,7 +148,7 @@ reads_same e once i j a b at_a at_b (Atomic read wrote) is writing kept making s
 ]
 
 -- words that are parted
-below : (e : Explanation) → AreWrittenOnce e.accesses → (i j word : ℕ) (a b : Access) (at_a : IsAt e.accesses i a) (at_b : IsAt e.accesses j b)
+pub below : (e : Explanation) → AreWrittenOnce e.accesses → (i j word : ℕ) (a b : Access) (at_a : IsAt e.accesses i a) (at_b : IsAt e.accesses j b)
     → left_by a.kind ≡ word → AreParted e.timed e.accesses e.last word (left_by b.kind) → version_in e i a at_a < version_in e j b at_b
 below e once i j word a b at_a at_b leaves parted =
     let shown = path e once parted.0 None (record { low = word; high = left_by b.kind }) tt parted.1 in

@@ -8,3 +8,4 @@ pub mod Timely
 pub mod Forced
 pub mod ForcedChecks
 pub mod TraceLogs
+pub mod Cycles

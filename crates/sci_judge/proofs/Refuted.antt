@@ -11,10 +11,10 @@ use Rattle.sci_versions.specs.Stretches.{IsWriter}
 use Rattle.sci_versions.proofs.{Cycles.{apart, change_between}, Words.{zero_at_start}}
 use Rattle.sci_judge.specs.declared.access.{Access.{Access}, Kind.{Kind, TheVariants.{Load, Store, Atomic}}}
 use Rattle.sci_judge.specs.declared.witness.{Claim.{Claim}, Step.{Step, TheVariants.{Follows, Swaps, Falls, Rises, Starts, Ends}}}
-use Rattle.sci_judge.specs.declared.witness.Witness.{Witness, TheVariants.{Unwritten, UnwrittenLast, Early, Circle}}
+use Rattle.sci_judge.specs.declared.witness.Witness.{Witness, TheVariants.{Unwritten, UnwrittenLast, Early, Circle, Round}}
 use Rattle.sci_judge.specs.Access.{AreKnown, found_by, is_making, is_writing, left_by}
 use Rattle.sci_judge.specs.Coherent.{IsCoherent, StandsBefore, reply_of}
-use Rattle.sci_judge.specs.Witness.{AreWrittenOnce, ComesBefore, GoesOn, IsAt, IsCircle, IsPath, IsUnwritten, IsWitness, Leads, writes}
+use Rattle.sci_judge.specs.Witness.{AreInTurn, AreWrittenOnce, ComesBefore, GoesOn, IsAt, IsCircle, IsPath, IsRound, IsUnwritten, IsWitness, Leads, writes}
 use Rattle.sci_judge.proofs.Explained.{Explanation, end_of, entry_in, entry_leaves, entry_makes, in_order, is_line, placed_in, read_at, top_of, word_in}
 use Rattle.sci_judge.proofs.Explained.{written_at, written_once}
 
@@ -251,6 +251,24 @@ early e reader writer word y x at_y at_x leaves stores before once =
     let within = change.within in
     absurd (omega arith)
 
+-- ---- a round
+
+in_turn : (e : Explanation) (from : ℕ) (y : Access) (at_y : IsAt e.accesses from y) (through : List ℕ) (to : ℕ) (x : Access) (at_x : IsAt e.accesses to x)
+    → AreInTurn e.timed e.accesses from y through to x → StandsBefore (entry_in e from y at_y).entry (entry_in e to x at_x).entry
+in_turn e from y at_y [] to x at_x is = in_order e from to y x at_y at_x is
+in_turn e from y at_y (next ∷ through) to x at_x is =
+    let first = in_order e from next y is.0 at_y is.1 is.2 in
+    let others = in_turn e next is.0 is.1 through to x at_x is.3 in
+    let behind = first.0 in
+    let not_before = others.0 in
+    (omega arith, λ making. let less = others.1 making in omega arith)
+
+round : (e : Explanation) (maker : ℕ) (through : List ℕ) → IsRound e.timed e.accesses maker through → ⊥
+round e maker through is =
+    let has = entry_in e maker is.0 is.1 in
+    let less = (in_turn e maker is.0 is.1 through maker is.0 is.1 is.3).1 (entry_makes has.entry maker is.0 has.same ∙ is.2) in
+    absurd (omega arith)
+
 -- ---- a witness
 
 pub refuted : (e : Explanation) (witness : Witness) → IsWitness e.timed e.accesses e.last witness → ⊥
@@ -261,6 +279,7 @@ refuted e (Unwritten reader) is =
 refuted e UnwrittenLast is = unwritten e is.0 (top_of e) (omega arith) (at_top e is.0 is.1) is.2
 refuted e (Early reader writer) is = let h = is.1 in early e reader writer h.2 h.0 h.1 h.3 h.4 h.5 h.6 h.7 is.0
 refuted e (Circle steps) is = circle e is.0 steps.items is.1
+refuted e (Round maker through) is = round e maker through.items is
 
 pub rules_out : (timed : Bool) (accesses : List Access) (last : Option ℕ) (witness : Witness) → AreKnown accesses → IsWitness timed accesses last witness
     → IsCoherent timed accesses last → ⊥

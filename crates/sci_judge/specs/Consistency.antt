@@ -1,10 +1,10 @@
 -- Whether one order of all operations explains a trace.
-use Rattle.std.specs.Prelude.{◌≡◌, List, All}
+use Rattle.std.specs.Prelude.{◌≡◌, Bool, List, All}
 use Rattle.sci_history.specs.Sequential.{IsSequentiallyConsistent}
 use Rattle.sci_judge.specs.declared.{consistency.Consistency.{Consistency}, judging.SiteVersions.{SiteVersions}, logging.Log.{Log}, trace.Trace.{Trace}}
 use Rattle.sci_judge.specs.declared.consistency.Consistency.TheVariants as consistency
 use Rattle.sci_judge.specs.declared.finding.Freedom.TheVariants.{Forced}
-use Rattle.sci_judge.specs.Logged.{IsLogOf}
+use Rattle.sci_judge.specs.{Cycle.{HasNoOrderAtAll, IsCycle}, Logged.{IsLogOf}}
 
 -- a log of the trace by these versions is sequentially consistent
 abbrev pub HasOrder : Trace → List SiteVersions → Type 0
@@ -19,7 +19,8 @@ abbrev pub HasNoOrder : Trace → List SiteVersions → Type 0
 HasNoOrder trace sites = AreAllForced sites × (log : Log) × IsLogOf trace sites log × (IsSequentiallyConsistent log.logs log.last → ⊥)
 
 -- what is answered holds
-abbrev pub IsConsistency : Trace → List SiteVersions → Consistency → Type 0
-IsConsistency trace sites consistency.Sequential = HasOrder trace sites
-IsConsistency trace sites consistency.NotSequential = HasNoOrder trace sites
-IsConsistency trace sites consistency.Unknown = Unit {0}
+abbrev pub IsConsistency : (timed : Bool) → Trace → List SiteVersions → Consistency → Type 0
+IsConsistency timed trace sites consistency.Sequential = HasOrder trace sites
+IsConsistency timed trace sites (consistency.Cycle links) = IsCycle timed trace links.items × HasNoOrderAtAll timed trace
+IsConsistency timed trace sites consistency.NotSequential = HasNoOrder trace sites
+IsConsistency timed trace sites consistency.Unknown = Unit {0}

@@ -6,4 +6,5 @@ pub mod Judgement
 pub mod Times
 pub mod Forced
 pub mod Logged
+pub mod Cycle
 pub mod Consistency

@@ -3,8 +3,8 @@ use Rattle.std.specs.Prelude.{◌≡◌, ◌≢◌, ◌<◌, ◌⊎◌, ◌==◌
 use Rattle.std.specs.List.{list_any}
 use Rattle.sci_judge.specs.declared.access.{Access.{Access}, Kind.{TheVariants.{Store, Atomic}}}
 use Rattle.sci_judge.specs.declared.witness.{Claim.{Claim}, Step.{Step, TheVariants.{Follows, Swaps, Falls, Rises, Starts, Ends}}}
-use Rattle.sci_judge.specs.declared.witness.Witness.{Witness, TheVariants.{Unwritten, UnwrittenLast, Early, Circle}}
-use Rattle.sci_judge.specs.Access.{found_by, is_writing, left_by}
+use Rattle.sci_judge.specs.declared.witness.Witness.{Witness, TheVariants.{Unwritten, UnwrittenLast, Early, Circle, Round}}
+use Rattle.sci_judge.specs.Access.{found_by, is_making, is_writing, left_by}
 
 -- the operation at a place of the trace
 abbrev pub IsAt : List Access → ℕ → Access → Type 0
@@ -67,9 +67,21 @@ IsEarly timed accesses reader writer =
     (y : Access) × (x : Access) × (word : ℕ) × IsAt accesses reader y × IsAt accesses writer x × (left_by y.kind ≡ word) × (x.kind ≡ Store word)
     × ComesBefore timed reader writer y x
 
+-- The one operation comes before the first of these, each of them before the next one, and the last one before the other operation.
+abbrev pub AreInTurn : (timed : Bool) → List Access → (from : ℕ) → (y : Access) → (through : List ℕ) → (to : ℕ) → (x : Access) → Type 0
+AreInTurn timed accesses from y [] to x = ComesBefore timed from to y x
+AreInTurn timed accesses from y (next ∷ through) to x =
+    (z : Access) × IsAt accesses next z × ComesBefore timed from next y z × AreInTurn timed accesses next z through to x
+
+-- an operation that makes a version comes before itself
+abbrev pub IsRound : (timed : Bool) → List Access → (maker : ℕ) → (through : List ℕ) → Type 0
+IsRound timed accesses maker through =
+    (z : Access) × IsAt accesses maker z × (is_making z.kind ≡ true) × AreInTurn timed accesses maker z through maker z
+
 -- what a witness says of the operations at one address and of the last word there
 abbrev pub IsWitness : (timed : Bool) → List Access → (last : Option ℕ) → Witness → Type 0
 IsWitness timed accesses last (Unwritten reader) = (x : Access) × IsAt accesses reader x × IsUnwritten accesses (found_by x.kind)
 IsWitness timed accesses last UnwrittenLast = (word : ℕ) × (last ≡ Some word) × IsUnwritten accesses word
 IsWitness timed accesses last (Early reader writer) = AreWrittenOnce accesses × IsEarly timed accesses reader writer
 IsWitness timed accesses last (Circle steps) = AreWrittenOnce accesses × IsCircle timed accesses last steps.items
+IsWitness timed accesses last (Round maker through) = IsRound timed accesses maker through.items

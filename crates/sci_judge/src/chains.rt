@@ -270,7 +270,7 @@ impl Chains<'_> {
         Ok(element(&self.rank, low)? < element(&self.rank, high)?)
     }
 
-    /// Versions by an order of the chains. In a stretch the operation that wrote it comes first, and the others as in the trace.
+    /// Versions by an order of the chains. In a stretch the operation that wrote it comes first.
     pub fn versions(&self, alloc: Global, order: &[usize]) -> Result<Vec<u64>, Stop> {
         let lists = self.by_stretch(alloc)?;
         let mut versions = Vec::from_elem(alloc, 0, self.site.accesses.len())?;
@@ -324,28 +324,14 @@ impl Chains<'_> {
         }
     }
 
-    /// The operations in the order of the trace; or if times count, of their begins, each behind its processor's before it.
-    fn by_begin(&self, alloc: Global) -> Result<Vec<(u64, usize)>, Stop> {
-        let mut latest = [0; PROCESSORS];
-        let mut places = Vec::with_capacity(alloc, self.site.accesses.len())?;
-        for (place, access) in self.site.accesses.iter().enumerate() {
-            let processor = access.processor as usize;
-            let begin = element(&latest, processor)?.max(access.begin);
-            replace(&mut latest, processor, begin)?;
-            places.push((if self.site.timed { begin } else { 0 }, place))?;
-        }
-        places.sort_by_key(|timed| timed.0)?;
-        Ok(places)
-    }
-
-    /// The operations of each stretch, in the order of the trace, or of their begins if times count.
+    /// The operations of each stretch, in the order of the trace, or in one that times allow if they count.
     fn by_stretch(&self, alloc: Global) -> Result<Lists, Stop> {
-        let places = self.by_begin(alloc)?;
+        let places = self.in_order(alloc)?;
         let mut lists = Lists {
             first: Vec::from_elem(alloc, None, self.chain.len())?,
             next: Vec::from_elem(alloc, None, self.site.accesses.len())?,
         };
-        for (_, place) in places.iter().rev() {
+        for place in places.iter().rev() {
             let stretch = self.left(*place)?;
             replace(&mut lists.next, *place, element(&lists.first, stretch)?)?;
             replace(&mut lists.first, stretch, Some(*place))?;

@@ -2,7 +2,7 @@
 
 ghost use Rattle.std.specs.Prelude.{◌≡◌, true, false, IfOk, IfSome, None};
 ghost use Rattle.std.specs.{Bool.{OnTrue}, List.{list_any}};
-ghost use Rattle.sci_judge.specs.Witness.{AreWrittenOnce, GoesOn, IsPath, IsCircle, IsEarly, IsUnwritten, IsWitness, Leads, writes as writes_word};
+ghost use Rattle.sci_judge.specs.Witness.{AreWrittenOnce, GoesOn, IsPath, IsCircle, IsEarly, IsRound, IsUnwritten, IsWitness, Leads, writes as writes_word};
 
 use crate::access::{Access, Kind};
 use crate::site::Site;
@@ -169,6 +169,27 @@ impl Site<'_> {
         }
     }
 
+    /// Whether an operation that makes a version comes before itself, through these.
+    fn is_round(&self, maker: usize, through: &[usize]) -> bool
+        ensures { result ≡ true →
+            IsRound self.now.timed self.now.accesses.now maker through.now }
+    {
+        let Some(access) = self.at(maker) else {
+            return false;
+        };
+        if !access.kind.is_making() {
+            return false;
+        }
+        let mut place = maker;
+        for next in through {
+            let Some(_) = self.ordered(place, *next) else {
+                return false;
+            };
+            place = *next;
+        }
+        matches!(self.ordered(place, maker), Some(_))
+    }
+
     /// Whether a witness shows that the operations are not coherent. True only if it does. Refused if memory is.
     pub fn is_shown_by(&self, alloc: Global, witness: &Witness) -> Result<bool, AllocError>
         ensures { IfOk result (λ shown. shown ≡ true →
@@ -189,6 +210,7 @@ impl Site<'_> {
             Witness::Circle(steps) => {
                 Ok(self.is_circle(steps) && are_written_once(alloc, self.accesses)?)
             }
+            Witness::Round { maker, through } => Ok(self.is_round(*maker, through)),
         }
     }
 }

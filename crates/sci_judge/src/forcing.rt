@@ -1,9 +1,9 @@
 //! The check that versions are forced: no others explain the operations.
 
-ghost use Rattle.std.specs.Prelude.{◌≡◌, ◌<◌, ℕ, true, IfOk, IfSome, length};
-ghost use Rattle.sci_judge.specs.{Access.{AreKnown}, Witness.{ComesBefore, IsAt}};
+ghost use Rattle.std.specs.Prelude.{◌≡◌, ◌<◌, ℕ, true, IfOk, IfSome, None, length};
+ghost use Rattle.sci_judge.specs.{Access.{AreKnown}, Witness.{ComesBefore, IsAt, IsPath}};
 ghost use Rattle.sci_judge.specs.declared.access.Access.{Access};
-ghost use Rattle.sci_judge.specs.Forced.{AreForced, AreHeld, AreParted, IsAbove, IsBehindPrevious, IsHeld, IsMaker, IsRanked, IsUnder, IsWordBefore};
+ghost use Rattle.sci_judge.specs.Forced.{AreForced, AreHeld, IsAbove, IsBehindPrevious, IsHeld, IsMaker, IsRanked, IsUnder, IsWordBefore};
 
 use crate::access::Access;
 use crate::checking::are_written_once;
@@ -73,9 +73,9 @@ impl Site<'_> {
     }
 
     /// Whether steps lead from one word to another.
-    fn are_parted(&self, steps: &[Step], low: Word, high: Word) -> bool
-        ensures { result ≡ true →
-            AreParted self.now.timed self.now.accesses.now self.now.last low high }
+    pub(crate) fn are_parted(&self, steps: &[Step], low: Word, high: Word) -> bool
+        ensures { result ≡ true → IsPath self.now.timed self.now.accesses.now self.now.last None
+            steps.now (record { low = low; high = high }) }
     {
         match self.led_by(steps) {
             Some(claim) => claim.low == low && claim.high == high,

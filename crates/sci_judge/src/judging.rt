@@ -45,7 +45,7 @@ pub enum Judgement {
 }
 
 /// The operations by their addresses, and those at one address as they stand.
-fn by_address(alloc: Global, accesses: &[Access]) -> Result<Vec<Access>, AllocError>
+pub(crate) fn by_address(alloc: Global, accesses: &[Access]) -> Result<Vec<Access>, AllocError>
     ensures rising { IfOk result
         (λ sorted. IsNonDecreasingBy (λ access. access.address) sorted.items) }
     ensures same { IfOk result (λ sorted. (address : ℕ) →
@@ -57,7 +57,7 @@ fn by_address(alloc: Global, accesses: &[Access]) -> Result<Vec<Access>, AllocEr
 }
 
 /// The operations at an address, of operations by their addresses.
-fn operations_at(sorted: &[Access], address: u64) -> &[Access]
+pub(crate) fn operations_at(sorted: &[Access], address: u64) -> &[Access]
     requires { IsNonDecreasingBy (λ access. access.address) sorted.now }
     ensures { result.now ≡ at_address address sorted.now }
 {
@@ -138,9 +138,9 @@ pub fn judge(alloc: Global, trace: &Trace, way: Way) -> Result<Judgement, AllocE
     requires { AreKnown trace.now.accesses.items }
     ensures { IfOk result (IsJudgement way.timed trace.now) }
 {
+    let guesses = guesses(alloc, trace, way)?;
     let sorted = by_address(alloc, &trace.accesses)?;
     let addresses = named(alloc, trace)?;
-    let guesses = guesses(alloc, trace, way)?;
     let mut explained = Vec::new(alloc);
     for at in addresses.iter() {
         let address = *at;

@@ -11,21 +11,56 @@ use std::collections::{BTreeMap, BTreeSet};
 
 const PROCESSORS: usize = MAX_NODES as usize;
 
-/// An operation, as the search looks at it. Addresses and words at an address have numbers.
+/// An operation, as the search looks at it. Addresses and words at an address have numbers. There is one for each operation of the
+/// trace, so it is small.
 #[derive(Clone, Copy)]
 struct Turn {
-    processor: usize,
-    site: usize,
-    /// The word that it has to find.
-    reads: Option<usize>,
-    /// The word that it puts in its place.
-    writes: Option<usize>,
+    processor: u8,
     is_making: bool,
+    site: u32,
+    /// The word that it has to find.
+    reads: Option<u32>,
+    /// The word that it puts in its place.
+    writes: Option<u32>,
+    /// The next operation of its processor.
+    next: Option<u32>,
     begin: u64,
     /// The first end of it and those behind it in its processor.
     least_end: u64,
-    /// The next operation of its processor.
-    next: Option<usize>,
+}
+
+/// A number as a list's index.
+fn index(number: Option<u32>) -> Option<usize> {
+    match number {
+        Some(number) => Some(number as usize),
+        None => None,
+    }
+}
+
+/// A number of which there aren't more than operations.
+fn small(number: usize) -> Result<u32, Stop> {
+    match u32::try_from(number) {
+        Ok(number) => Ok(number),
+        Err(_) => Err(Stop::GaveUp),
+    }
+}
+
+impl Turn {
+    fn processor(&self) -> usize {
+        self.processor as usize
+    }
+
+    fn site(&self) -> usize {
+        self.site as usize
+    }
+
+    fn reads(&self) -> Option<usize> {
+        index(self.reads)
+    }
+
+    fn writes(&self) -> Option<usize> {
+        index(self.writes)
+    }
 }
 
 /// The numbers of the words at each address.
@@ -73,15 +108,15 @@ impl Numbers {
         let site = self.site(access.address)?;
         let reads = match access.kind {
             Kind::Store(_) => None,
-            Kind::Load(read) | Kind::Atomic { read, .. } => Some(self.word(site, read)?),
+            Kind::Load(read) | Kind::Atomic { read, .. } => Some(small(self.word(site, read)?)?),
         };
         let writes = match access.kind.is_writing() {
-            true => Some(self.word(site, access.kind.left())?),
+            true => Some(small(self.word(site, access.kind.left())?)?),
             false => None,
         };
         Ok(Turn {
-            processor: access.processor as usize,
-            site,
+            processor: access.processor,
+            site: small(site)?,
             reads,
             writes,
             is_making: access.kind.is_making(),
@@ -117,7 +152,9 @@ pub struct Search {
     /// The operations that are placed, each with the word that was there before.
     placed: Vec<(usize, usize)>,
     choices: Vec<Choice>,
-    /// Digests of the states from which nothing more is to be tried.
+    /// Whether a choice was taken back. Until then no state comes again.
+    has_gone_back: bool,
+    /// Digests of the states since then, from which nothing more is to be tried when they come again.
     seen: BTreeSet<u64>,
     digest: u64,
     /// How many choices may still be made.
@@ -158,6 +195,7 @@ impl Search {
             writers: Vec::from_elem(alloc, 0, count)?,
             placed: Vec::new(alloc),
             choices: Vec::new(alloc),
+            has_gone_back: false,
             seen: BTreeSet::new(alloc),
             digest: 0,
             limit,
@@ -179,17 +217,18 @@ impl Search {
     fn count(&mut self) -> Result<(), Stop> {
         for place in (0..self.turns.len()).rev() {
             let mut turn = element(&self.turns, place)?;
-            turn.next = element(&self.fronts, turn.processor)?;
-            if let Some(next) = turn.next {
+            let next = element(&self.fronts, turn.processor())?;
+            if let Some(next) = next {
+                turn.next = Some(small(next)?);
                 turn.least_end = turn.least_end.min(element(&self.turns, next)?.least_end);
             }
             replace(&mut self.turns, place, turn)?;
-            replace(&mut self.fronts, turn.processor, Some(place))?;
-            if let Some(word) = turn.reads {
+            replace(&mut self.fronts, turn.processor(), Some(place))?;
+            if let Some(word) = turn.reads() {
                 let readers = element(&self.readers, word)?;
                 replace(&mut self.readers, word, readers.saturating_add(1))?;
             }
-            if let Some(word) = turn.writes {
+            if let Some(word) = turn.writes() {
                 let writers = element(&self.writers, word)?;
                 replace(&mut self.writers, word, writers.saturating_add(1))?;
             }
@@ -199,8 +238,8 @@ impl Search {
 
     /// Whether an operation at the front may be placed: it finds its word, and nothing that isn't placed had ended before it began.
     fn is_ready(&self, turn: &Turn) -> Result<bool, Stop> {
-        if let Some(word) = turn.reads {
-            if element(&self.words, turn.site)? != word {
+        if let Some(word) = turn.reads() {
+            if element(&self.words, turn.site())? != word {
                 return Ok(false);
             }
         }
@@ -219,32 +258,32 @@ impl Search {
 
     /// Whether an operation that is ready would put away a word that is still needed, and that nothing writes again.
     fn is_fatal(&self, turn: &Turn) -> Result<bool, Stop> {
-        let word = element(&self.words, turn.site)?;
-        let Some(written) = turn.writes else {
+        let word = element(&self.words, turn.site())?;
+        let Some(written) = turn.writes() else {
             return Ok(false);
         };
         if written == word || element(&self.writers, word)? > 0 {
             return Ok(false);
         }
         let readers = element(&self.readers, word)?;
-        let needed = readers > usize::from(turn.reads == Some(word));
-        Ok(needed || element(&self.lasts, turn.site)? == Some(word))
+        let needed = readers > usize::from(turn.reads() == Some(word));
+        Ok(needed || element(&self.lasts, turn.site())? == Some(word))
     }
 
     /// Places an operation that stands at the front.
     fn place(&mut self, place: usize) -> Result<(), Stop> {
         let turn = element(&self.turns, place)?;
-        let word = element(&self.words, turn.site)?;
-        replace(&mut self.fronts, turn.processor, turn.next)?;
-        if let Some(read) = turn.reads {
+        let word = element(&self.words, turn.site())?;
+        replace(&mut self.fronts, turn.processor(), index(turn.next))?;
+        if let Some(read) = turn.reads() {
             let readers = element(&self.readers, read)?;
             replace(&mut self.readers, read, readers.saturating_sub(1))?;
         }
-        if let Some(written) = turn.writes {
+        if let Some(written) = turn.writes() {
             let writers = element(&self.writers, written)?;
             replace(&mut self.writers, written, writers.saturating_sub(1))?;
-            replace(&mut self.words, turn.site, written)?;
-            self.digest ^= mixed(turn.site, word) ^ mixed(turn.site, written);
+            replace(&mut self.words, turn.site(), written)?;
+            self.digest ^= mixed(turn.site(), word) ^ mixed(turn.site(), written);
         }
         self.digest ^= mixed(usize::MAX, place);
         self.placed.push((place, word))?;
@@ -258,16 +297,16 @@ impl Search {
                 return Err(Stop::GaveUp);
             };
             let turn = element(&self.turns, place)?;
-            replace(&mut self.fronts, turn.processor, Some(place))?;
-            if let Some(read) = turn.reads {
+            replace(&mut self.fronts, turn.processor(), Some(place))?;
+            if let Some(read) = turn.reads() {
                 let readers = element(&self.readers, read)?;
                 replace(&mut self.readers, read, readers.saturating_add(1))?;
             }
-            if let Some(written) = turn.writes {
+            if let Some(written) = turn.writes() {
                 let writers = element(&self.writers, written)?;
                 replace(&mut self.writers, written, writers.saturating_add(1))?;
-                replace(&mut self.words, turn.site, word)?;
-                self.digest ^= mixed(turn.site, word) ^ mixed(turn.site, written);
+                replace(&mut self.words, turn.site(), word)?;
+                self.digest ^= mixed(turn.site(), word) ^ mixed(turn.site(), written);
             }
             self.digest ^= mixed(usize::MAX, place);
         }
@@ -295,7 +334,7 @@ impl Search {
                 return Ok(());
             };
             let turn = element(&self.turns, place)?;
-            if turn.writes.is_some() || !self.is_ready(&turn)? {
+            if turn.writes().is_some() || !self.is_ready(&turn)? {
                 return Ok(());
             }
             self.place(place)?;
@@ -334,6 +373,7 @@ impl Search {
                 return Err(Stop::GaveUp);
             };
             self.take_back(choice.placed)?;
+            self.has_gone_back = true;
             from = choice.tried.saturating_add(1);
         }
         Err(Stop::GaveUp)
@@ -345,9 +385,9 @@ impl Search {
         let mut versions = Vec::from_elem(alloc, 0, self.turns.len())?;
         for (place, _) in self.placed.iter() {
             let turn = element(&self.turns, *place)?;
-            let version: u64 = element(&latest, turn.site)?;
+            let version: u64 = element(&latest, turn.site())?;
             let version = version.saturating_add(u64::from(turn.is_making));
-            replace(&mut latest, turn.site, version)?;
+            replace(&mut latest, turn.site(), version)?;
             replace(&mut versions, *place, version)?;
         }
         Ok(versions)
@@ -360,8 +400,8 @@ impl Search {
             if self.placed.len() == self.turns.len() {
                 return self.versions(alloc);
             }
-            let fresh = self.seen.insert(self.digest)?;
-            self.choose(if fresh { 0 } else { usize::MAX })?;
+            let is_known = self.has_gone_back && !self.seen.insert(self.digest)?;
+            self.choose(if is_known { usize::MAX } else { 0 })?;
         }
         Err(Stop::GaveUp)
     }

@@ -39,4 +39,7 @@ pub enum Witness {
     Early { reader: usize, writer: usize },
     /// Steps after which a word would stand before itself.
     Circle(Vec<Step>),
+    /// An operation that makes a version comes before itself: it comes before the first of these, each of them before the next one,
+    /// and the last one before it.
+    Round { maker: usize, through: Vec<usize> },
 }

@@ -1,5 +1,5 @@
 use Rattle.std.proofs.Common.{◌≡◌, Option, None, Some, sym, ◌∙◌}
-use Rattle.sci_judge.specs.declared.consistency.Consistency.{Consistency, TheVariants.{Sequential, NotSequential, Unknown}}
+use Rattle.sci_judge.specs.declared.consistency.Consistency.{Consistency, TheVariants.{Sequential, Cycle, NotSequential, Unknown}}
 use Rattle.sci_text.specs.Tap.{has_failed, tapped}
 use Rattle.sci_command.specs.declared.outcome.Outcome.{TheVariants.{Refused}}
 use Rattle.sci_command.proofs.Answers.{answer_made}
@@ -11,6 +11,7 @@ use Rattle.sci_axe.proofs.judging.judge_trace.Goals as goal
 not_refused : (judgement : Judgement) (consistency : Option Consistency) → outcome_of judgement consistency ≡ Refused → ⊥
 not_refused (Coherent sites) None is = cc
 not_refused (Coherent sites) (Some Sequential) is = cc
+not_refused (Coherent sites) (Some (Cycle links)) is = cc
 not_refused (Coherent sites) (Some NotSequential) is = cc
 not_refused (Coherent sites) (Some Unknown) is = cc
 not_refused (NotCoherent address accesses witness) consistency is = cc
@@ -52,7 +53,7 @@ returns g c =
                 told = verdict_told c.args.request trace judgement lines answer.text.items answer.outcome c.in-None.ensures (record {
                   consistency = consistency;
                   ordering = c.in_ok-consistency-in-None.ensures;
-                  written = told.ensures.text;
+                  written = rw (sym c.deref-in-None.ensures.value) told.ensures.text;
                   ends = told.ensures.ends;
                   no_lines = c.clear.ensures.items;
                 });

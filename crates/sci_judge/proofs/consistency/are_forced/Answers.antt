@@ -1,6 +1,6 @@
 use Rattle.std.proofs.Common.{ℕ, get_or, arith, sym, ap, ◌∙◌, inl, inr}
 use Rattle.std.proofs.lemmas.{Bool.{cases_eq}, List.{get_or_default}}
-use Rattle.sci_judge.specs.declared.{finding.Freedom.TheVariants.{Forced}, judging.SiteVersions.{SiteVersions}}
+use Rattle.sci_judge.specs.declared.{judging.SiteVersions.{SiteVersions}}
 use Rattle.sci_judge.proofs.consistency.are_forced.Goals as goal
 
 pub loop-site-preserved : goal.loop-site-preserved

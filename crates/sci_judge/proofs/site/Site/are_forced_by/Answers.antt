@@ -1,4 +1,3 @@
-use Rattle.std.proofs.Common.{false}
 use Rattle.sci_judge.proofs.Forced.{forced}
 use Rattle.sci_judge.proofs.site.Site.are_forced_by.Goals as goal
 

@@ -1,4 +1,4 @@
-use Rattle.std.proofs.Common.{ℕ, false, Some, sym, ap, ◌∙◌, arith}
+use Rattle.std.proofs.Common.{ℕ, Some, sym, ap, ◌∙◌, arith}
 use Rattle.sci_judge.proofs.ForcedChecks.{held_more}
 use Rattle.std.proofs.lemmas.Option.{slice_get-get_or, slice_get_within}
 use Rattle.sci_judge.proofs.site.Site.are_held.Goals as goal

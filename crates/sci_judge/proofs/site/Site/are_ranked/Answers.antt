@@ -1,4 +1,3 @@
-use Rattle.std.proofs.Common.{false}
 use Rattle.sci_judge.specs.Forced.{IsRanked}
 use Rattle.sci_judge.proofs.ForcedChecks.{ranked_more}
 use Rattle.sci_judge.proofs.site.Site.are_ranked.Goals as goal

@@ -1,4 +1,4 @@
-use Rattle.std.proofs.Common.{◌≡◌, true, false, sym, ap, ◌∙◌, arith, inl, inr}
+use Rattle.std.proofs.Common.{sym, ap, ◌∙◌, arith, inl, inr}
 use Rattle.sci_judge.specs.{Access.{is_writing}, declared.access.Access.{Access}}
 use Rattle.sci_judge.proofs.ForcedChecks.{behind, one_access}
 use Rattle.sci_judge.proofs.site.Site.is_behind_previous.Goals as goal

@@ -1,4 +1,4 @@
-use Rattle.std.proofs.Common.{◌≡◌, true, sym, ap, ◌∙◌, inl, inr}
+use Rattle.std.proofs.Common.{◌≡◌, sym, ap, ◌∙◌, inl, inr}
 use Rattle.sci_judge.specs.{Access.{left_by}, declared.access.Access.{Access}}
 use Rattle.sci_judge.proofs.ForcedChecks.{one_access}
 use Rattle.sci_judge.proofs.site.Site.is_under.Goals as goal
