@@ -19,7 +19,7 @@ returns-in-Err-clause-kind c =
     let within : IsEventWithin schedule.nodes schedule.lines event =
     within_of schedule c.loop-event.machine.size _ event c.loop-event.invariant.nodes_are c.loop-event.invariant.lines_are c.loop-event.invariant.sized
     c.in_ok-event.ensures.within in
-    c.from.ensures ∙ memory_alone schedule event c.in-Err.fault within room c.in-Err.ensures.refused
+    c.of_input.ensures.kind ∙ (c.from.ensures ∙ memory_alone schedule event c.in-Err.fault within room c.in-Err.ensures.refused)
 
 pub returns-clause-walked : goal.returns-clause-walked
 returns-clause-walked c =
