@@ -84,4 +84,5 @@ def main():
     return 1 if failed or not run else 0
 
 
-sys.exit(main())
+if __name__ == "__main__":
+    sys.exit(main())

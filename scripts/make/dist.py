@@ -1,6 +1,6 @@
 #!/usr/bin/env python3
 """Makes out/dist/lichenknit-VERSION-x86_64-linux.tar.gz: both programs and the C library, proved and built for every x86-64
-processor, with the header, what pkg-config and CMake read, the manual pages, completion for bash, the examples, README, CHANGELOG,
+processor over the libraries that make test or make check left in crates/*/out/rlib, with the header, what pkg-config and CMake read, the manual pages, completion for bash, the examples, README, CHANGELOG,
 the licence and SHA-256 sums. The same sources give the same bytes. Then the archive is unpacked, and the first examples of README
 run in it without a kit on the PATH."""
 
@@ -18,8 +18,7 @@ TOP = os.path.dirname(os.path.dirname(os.path.dirname(os.path.abspath(__file__))
 sys.path.append(f"{TOP}/scripts/gate")
 
 import library  # noqa: E402
-from check import copy_for  # noqa: E402
-from crates import libraries  # noqa: E402
+from build_library import build_library, build_program  # noqa: E402
 from run_examples import examples, is_printed  # noqa: E402
 from version import version  # noqa: E402
 
@@ -40,16 +39,13 @@ to are in the repository.
 """
 
 
-def built(name, kind):
-    """Proves and builds a crate for every processor of the target, on a copy of it, and gives the file."""
-    folder = f"{copy_for(name, libraries())}/crates/{name}"
-    given = f"{folder}/stdin" if os.path.exists(f"{folder}/stdin") else os.devnull
-    words = open(f"{folder}/args", encoding="utf-8").read().split() if os.path.exists(f"{folder}/args") else []
-    with open(given, "rb") as read:
-        run = subprocess.run(["rt", kind, "--cpu", "x86-64", *(["--", *words] if kind == "run" else [])], cwd=folder, stdin=read, capture_output=True)
-    made = f"{folder}/out/{name if kind == 'run' else f'lib{name}.a'}"
-    if not os.path.exists(made):
-        sys.exit((run.stdout + run.stderr).decode(errors="replace"))
+def built(name):
+    """Proves and builds a program or the C library for every processor of the target, and gives the file."""
+    made = f"{DIST}/built/{name}"
+    flags = ("--cpu", "x86-64")
+    refused = build_library(made, *flags) if name == "sci_c" else build_program(name, made, *flags)
+    if refused:
+        sys.exit(f"{name} isn't built: run make test or make check first, which build the libraries that it stands on")
     return made
 
 
@@ -67,7 +63,7 @@ def put_file(path, source, mode=0o644):
 
 def put_programs():
     for name in PROGRAMS:
-        put_file(f"bin/{name}", built(name, "run"), 0o755)
+        put_file(f"bin/{name}", built(name), 0o755)
         put_file(f"share/man/man1/{name}.1", f"docs/{name}.1")
         put_file(f"share/bash-completion/completions/{name}", "scripts/make/completion.bash")
     put("share/man/man5/scimem.5", subprocess.run([f"{TOP}/scripts/make/manual_page.py"], stdout=subprocess.PIPE, check=True).stdout)
@@ -75,7 +71,7 @@ def put_programs():
 
 def put_library():
     major = library.version()[0]
-    library.PROVED, library.OUT, os.environ["PREFIX"] = built("sci_c", "lib"), f"{DIST}/library", "${pcfiledir}/../.."
+    library.PROVED, library.OUT, os.environ["PREFIX"] = built("sci_c"), f"{DIST}/library", "${pcfiledir}/../.."
     library.build(library.compiler())
     put_file("lib/liblichenknit.a", f"{library.OUT}/liblichenknit.a")
     put_file(f"lib/liblichenknit.so.{major}", f"{library.OUT}/liblichenknit.so.{major}", 0o755)
