@@ -1,7 +1,7 @@
 #!/usr/bin/env python3
 """Makes out/dist/lichenknit-VERSION-x86_64-linux.tar.gz: both programs and the C library, proved and built for every x86-64
 processor over the libraries that make test or make check left in crates/*/out/rlib, with the header, what pkg-config and CMake read, the manual pages, completion for bash, the examples, README, CHANGELOG,
-the licence and SHA-256 sums. The same sources give the same bytes. Then the archive is unpacked, and the first examples of README
+the licence and SHA-256 sums. The same files are packed into the same bytes. Then the archive is unpacked, and the first examples of README
 run in it without a kit on the PATH."""
 
 import gzip
