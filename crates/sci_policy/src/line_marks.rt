@@ -35,6 +35,13 @@ impl LineMarks {
         }
     }
 
+    /// A set of the same lines.
+    pub(crate) fn copy(&self) -> LineMarks
+        ensures { result ≡ self.now }
+    {
+        LineMarks { set: self.set }
+    }
+
     /// Whether a line is in the set.
     pub(crate) fn has(&self, line: u8) -> bool
         ensures { result ≡ has_line self.now line }

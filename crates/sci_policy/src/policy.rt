@@ -64,6 +64,19 @@ impl Policy {
         }
     }
 
+    /// A policy that remembers the same.
+    pub fn copy(&self) -> Policy
+        ensures { result ≡ self.now }
+    {
+        Policy {
+            draining: self.draining.copy(),
+            due: self.due.copy(),
+            patience: self.patience,
+            turns: self.turns,
+            served: self.served,
+        }
+    }
+
     /// What the node does next: the first rule that fits says so. It is enabled. On a node of a reached state it is None
     /// only if no operation is pending or some line awaits an answer.
     pub fn next(&mut self, node: &Node) -> Option<Want>
