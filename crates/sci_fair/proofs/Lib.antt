@@ -7,3 +7,6 @@ pub mod Followers
 pub mod RankTables
 pub mod Suits
 pub mod RankSteps
+pub mod ReadSteps
+pub mod WholeTurns
+pub mod Few

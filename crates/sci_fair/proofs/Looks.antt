@@ -27,7 +27,7 @@ use Rattle.sci_words.specs.declared.event.Event.TheVariants as event
 -- ---- events that leave a lane of requests as it is
 
 -- the side of node n sends into another lane than this, or takes from another
-abbrev SideSpares : Core → ℕ → ℕ → Side → Type 0
+abbrev pub SideSpares : Core → ℕ → ℕ → Side → Type 0
 SideSpares core n place (Sends kind next letter) = place ≢ lane_place core.size.nodes kind n letter.target
 SideSpares core n place (Takes kind from taking) = from < core.size.nodes → place ≢ lane_place core.size.nodes kind from n
 SideSpares core n place _ = Unit {0}
@@ -36,10 +36,10 @@ pub record Spared (old new : Core) (place : ℕ) : Type 0 where
   pub lane : lane_at new place ≡ lane_at old place
   pub size : new.size ≡ old.size
 
-set_spares : (core : Core) (n p place : ℕ) (next : NodeOf) (lane : List Letter) → place ≢ p → Spared core (with_lane (with_node core n next) p lane) place
+pub set_spares : (core : Core) (n p place : ℕ) (next : NodeOf) (lane : List Letter) → place ≢ p → Spared core (with_lane (with_node core n next) p lane) place
 set_spares core n p place next lane other = record { lane = get_or-set_other core.lanes p place lane [] other; size = refl }
 
-side_spares : (core new : Core) (n place : ℕ) (s : Side) → SideSpares core n place s → step_by core n s ≡ Some new → Spared core new place
+pub side_spares : (core new : Core) (n place : ℕ) (s : Side) → SideSpares core n place s → step_by core n s ≡ Some new → Spared core new place
 side_spares core new n place Idle spares is = cc
 side_spares core new n place (Changes next) spares is =
     let made : with_node core n next ≡ new = cc in
@@ -54,17 +54,17 @@ side_spares core new n place (Takes kind from taking) spares is =
     (set_spares core n (lane_place core.size.nodes kind from n) place front.next front.rest (spares front.sender))
 
 -- the events of node n in its turn that leave the lane of requests from node j as it is
-abbrev SparesFrom : ℕ → Event → Type 0
+abbrev pub SparesFrom : ℕ → Event → Type 0
 SparesFrom j (event.Serve from n) = from ≢ j
 SparesFrom j (event.Refuse from n) = from ≢ j
 SparesFrom j (event.Reply n) = Unit {0}
 SparesFrom j (event.Accept from n) = Unit {0}
 SparesFrom j _ = ⊥
 
-answers_apart : (nodes from to j n : ℕ) → j < nodes → n < nodes → lane_place nodes Requests j n ≢ lane_place nodes Answers from to
+pub answers_apart : (nodes from to j n : ℕ) → j < nodes → n < nodes → lane_place nodes Requests j n ≢ lane_place nodes Answers from to
 answers_apart nodes from to j n f t = grind (arith, place_requests, place_answers)
 
-senders_apart : (nodes from j n : ℕ) → j < nodes → n < nodes → from < nodes → from ≢ j → lane_place nodes Requests j n ≢ lane_place nodes Requests from n
+pub senders_apart : (nodes from j n : ℕ) → j < nodes → n < nodes → from < nodes → from ≢ j → lane_place nodes Requests j n ≢ lane_place nodes Requests from n
 senders_apart nodes from j n f t below other = λ same.
     other (sym (place_from nodes Requests from n below t) ∙ (ap (λ (p : ℕ). p / nodes % nodes) (sym same) ∙ place_from nodes Requests j n f t))
 
@@ -81,7 +81,7 @@ event_spares core n j (event.Reply m) f t own spares = reply_spares core n j (no
 event_spares core n j (event.Accept from m) f t own spares = λ below. answers_apart core.size.nodes from n j n f t
 event_spares core n j _ f t own spares = elim spares [ ]
 
-step_spares : (core new : Core) (n j : ℕ) (e : Event) → j < core.size.nodes → n < core.size.nodes → node_of e ≡ n → SparesFrom j e
+pub step_spares : (core new : Core) (n j : ℕ) (e : Event) → j < core.size.nodes → n < core.size.nodes → node_of e ≡ n → SparesFrom j e
     → stepping core e ≡ Some new → Spared core new (lane_place core.size.nodes Requests j n)
 step_spares core new n j e f t own spares steps =
     side_spares core new n (lane_place core.size.nodes Requests j n) (side (node_at core n) e) (event_spares core n j e f t own spares)

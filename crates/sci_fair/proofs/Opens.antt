@@ -53,7 +53,7 @@ lanes_same old new opened is = λ p. subst (λ (lanes : List (List Letter)). IsO
 -- ---- a node none of whose lines joins has no Cread under way
 
 -- what holds of all of two lists holds of all of each
-all_parts : {X : Type 0} (P : X → Type 0) (xs ys : List X) → AllByRecursion P (xs ++ ys) → AllByRecursion P xs × AllByRecursion P ys
+pub all_parts : {X : Type 0} (P : X → Type 0) (xs ys : List X) → AllByRecursion P (xs ++ ys) → AllByRecursion P xs × AllByRecursion P ys
 all_parts P [] ys all = (tt, all)
 all_parts P (x ∷ xs) ys all = let parts = all_parts P xs ys all.1 in ((all.0, parts.0), parts.1)
 
@@ -162,7 +162,7 @@ ask_fits core policy n line k sent reached some asks wants to =
 answer_plain : (b : Body) → is_request b ≡ false → changes_list b ≡ false
 answer_plain b e = search rules
 
-none_there : (count place : ℕ) → get_or {A = List Letter} (replicate count []) place [] ≡ []
+pub none_there : (count place : ℕ) → get_or {A = List Letter} (replicate count []) place [] ≡ []
 none_there zero place = refl
 none_there (suc count) zero = refl
 none_there (suc count) (suc place) = none_there count place

@@ -1,16 +1,18 @@
 -- No event of a turn raises the rank of any node's line, but for the exceptions. It changes one node by one row of a table.
-use Rattle.std.proofs.Common.{◌≡◌, ◌<◌, ℕ, Bool, true, false, ◌&&◌, ◌||◌, if◌then◌else◌, List, Option, Some, None, refl, sym, ap, subst, arith, rules}
+use Rattle.std.proofs.Common.{◌≡◌, ◌<◌, ℕ, ◌∷◌, All, Bool, true, false, ◌&&◌, ◌||◌, if◌then◌else◌, List, Option, Some, None, refl, sym, ap, subst, arith, rules}
 use Rattle.std.proofs.Common.{◌∙◌, inl, inr, get_or-set_other}
-use Rattle.std.proofs.lemmas.Bool.{cases_eq}
+use Rattle.std.proofs.lemmas.{Bool.{cases_eq}, List.Elements.{All-head}}
+use Rattle.std.specs.List.{AllByRecursion}
 use Rattle.std.specs.Prelude.{IfSome, is_some, slice_get}
 use Rattle.sci_words.specs.{declared.event.{AskKind.{AskKind}, Event.{Event}}, Operation.{is_maker}}
 use Rattle.sci_packets.specs.declared.body.Body.{Body}
-use Rattle.sci_cache.specs.{State.{CacheState}, Asking.{Asked}}
+use Rattle.sci_cache.specs.{State.{CacheState, Asking}, Asking.{Asked}}
 use Rattle.sci_cache.specs.{Line.{LineState, ask_or_fault, line_in, untouched}, Cache.{Letter, cache_asked, line_of, with_line}}
 use Rattle.sci_core.specs.declared.{lane.LaneKind.TheVariants.{Answers, Requests}, pending.Pending.{Pending}}
-use Rattle.sci_core.specs.Core.{Core, node_at, side, stepping, with_node}
+use Rattle.sci_core.specs.Core.{Core, lane_of, lane_place, node_at, side, stepping, with_node}
 use Rattle.sci_core.specs.Node.{NodeOf, asked_by, no_node, node_accepting, node_asking, node_refusing, node_replying, node_serving, pending_on}
-use Rattle.sci_core.specs.Reached.{IsReached}
+use Rattle.sci_core.specs.{Reached.{IsReached}, Sharing.{asker_of}, WellFormed.{IsInLane}}
+use Rattle.sci_core.proofs.{Step.Places.{place_answers, place_to}, Tidy.TidySteps.{answer_asker}, WellFormed.WellFormedSteps.{reached_well}}
 use Rattle.sci_core.proofs.Basics.{Lists.{at_place_set}, Options.{if_below, of_some}}
 use Rattle.sci_core.proofs.Step.NodeSides.{AcceptedAs, At_home, In_cache, RefusedAs, ServedAs, accept_as, refuse_as, reply_as, serve_as}
 use Rattle.sci_policy.specs.declared.decision.Decision.{Decision}
@@ -18,7 +20,8 @@ use Rattle.sci_policy.specs.{Lines.{is_head, is_maker_of, state_on}, Turn.{decid
 use Rattle.sci_policy.specs.Policy.{PolicyOf, decided, is_cread}
 use Rattle.sci_turn.specs.Moves.{IsOwn, taking_event}
 use Rattle.sci_turn.proofs.Working.{own_node, stepped}
-use Rattle.sci_fair.specs.Rank.{IsHeldFor, never_rises, work_in, work_on}
+use Rattle.sci_fair.specs.Rank.{IsHeldFor, answers_well, fits_read, never_rises, work_in, work_on}
+use Rattle.sci_fair.specs.Reads.{FitsRead, ReadsFit}
 use Rattle.sci_fair.proofs.{RankTables.{accepting_keeps, asking_keeps, same_state, serving_keeps}, Suits.{AskSuits, wanted_suits}, Taking.{sent_out, took}}
 use Rattle.sci_policy.specs.declared.decision.Decision.TheVariants as decision
 use Rattle.sci_words.specs.declared.event.Event.TheVariants as event
@@ -72,8 +75,28 @@ served_kept node next request held (In_cache served is made) =
     (serving_keeps (work_on node request.line) (state_on node request.line) request.source request.body held) in
     subst (RankKept node) made (record { work = λ line. refl; rank = line_kept node request.line (line_in (line_of node.cache request.line) served.0) lower })
 
-accepted_kept : (node next : NodeOf) (answer : Letter) → AcceptedAs node answer next → RankKept node next
-accepted_kept node next answer does = grind (arith, of_some, accepting_keeps, line_kept)
+accepted_kept : (node next : NodeOf) (answer : Letter) → answers_well (work_on node answer.line) (state_on node answer.line) answer.body ≡ true
+    → AcceptedAs node answer next → RankKept node next
+accepted_kept node next answer fits does = grind (arith, of_some, accepting_keeps, line_kept)
+
+well_if : (work : Option Bool) (s : CacheState) (answer : Body) → (s ≡ Asking → fits_read work answer ≡ true) → answers_well work s answer ≡ true
+well_if work Asking answer fits = fits refl
+well_if work _ answer fits = refl
+
+-- the front of a lane of answers fits what its taker reads for
+front_fits : (core : Core) (from n : ℕ) (letter : Letter) (rest : List Letter) → IsReached core → ReadsFit core → from < core.size.nodes → n < core.size.nodes
+    → lane_of core Answers from n ≡ letter ∷ rest
+    → answers_well (work_on (node_at core n) letter.line) (state_on (node_at core n) letter.line) letter.body ≡ true
+front_fits core from n letter rest reached fit f t front =
+    let place = lane_place core.size.nodes Answers from n in
+    let first = All-head (IsInLane core.size.nodes core.size.lines place) letter rest
+    (subst (All (IsInLane core.size.nodes core.size.lines place)) front ((reached_well core reached).each_lane place)) in
+    let asker : asker_of letter ≡ n =
+    answer_asker letter (first.answer (place_answers core.size.nodes from n)).answers ∙ (first.to ∙ place_to core.size.nodes Answers from n t) in
+    let fits : FitsRead core letter = (subst (AllByRecursion (FitsRead core)) front (fit.lanes place)).0 in
+    well_if (work_on (node_at core n) letter.line) (state_on (node_at core n) letter.line) letter.body (λ asking.
+    subst (λ (m : ℕ). fits_read (work_on (node_at core m) letter.line) letter.body ≡ true) asker
+    (fits (subst (λ (m : ℕ). state_on (node_at core m) letter.line ≡ Asking) (sym asker) asking)))
 
 made_kept : (node : NodeOf) (line : ℕ) (lacks : Bool) (made : Option Asked)
     → IfSome made (λ (a : Asked). never_rises (work_on node line) (state_on node line) a.next ≡ true)
@@ -107,9 +130,9 @@ serves_it : (policy : PolicyOf) (node : NodeOf) (from n : ℕ) (letter : Letter)
 serves_it policy node from n letter true is = cc
 serves_it policy node from n letter false is = decided_serve (decided policy node letter) from n is
 
-pub event_kept : (core new : Core) (n : ℕ) (before after : PolicyOf) (e : Event) → IsReached core → n < core.size.nodes → IsOwn n before core e after
-    → stepping core e ≡ Some new → (m : ℕ) → RankKept (node_at core m) (node_at new m)
-event_kept core new n before after (event.Serve from i) reached some own steps =
+pub event_kept : (core new : Core) (n : ℕ) (before after : PolicyOf) (e : Event) → IsReached core → ReadsFit core → n < core.size.nodes
+    → IsOwn n before core e after → stepping core e ≡ Some new → (m : ℕ) → RankKept (node_at core m) (node_at new m)
+event_kept core new n before after (event.Serve from i) reached fit some own steps =
     let front = took core new n from Requests (node_serving (node_at core n))
     (stepped core new n (event.Serve from i) (side (node_at core n) (event.Serve from i)) some own.kind.own refl steps) in
     let decides : taking_event before (node_at core n) from n (Some front.letter) ≡ Some (event.Serve from n) =
@@ -119,32 +142,33 @@ event_kept core new n before after (event.Serve from i) reached some own steps =
     (served_kept (node_at core n) front.next front.letter (serve_held before (node_at core n) front.letter serves)
     (of_some (ServedAs (node_at core n) front.letter) (node_serving (node_at core n) front.letter) front.next front.takes
     (serve_as (node_at core n) front.letter)))
-event_kept core new n before after (event.Refuse from i) reached some own steps =
+event_kept core new n before after (event.Refuse from i) reached fit some own steps =
     let front = took core new n from Requests (node_refusing (node_at core n))
     (stepped core new n (event.Refuse from i) (side (node_at core n) (event.Refuse from i)) some own.kind.own refl steps) in
     let does = of_some (RefusedAs (node_at core n) front.letter) (node_refusing (node_at core n) front.letter) front.next front.takes
     (refuse_as (node_at core n) front.letter) in
     all_kept core new n front.next reached some (λ k. ap (λ (c : Core). node_at c k) (sym front.made)) (subst (RankKept (node_at core n)) does.then_
     (record { work = λ line. refl; rank = λ line. same_state (work_on (node_at core n) line) (state_on (node_at core n) line) }))
-event_kept core new n before after (event.Accept from i) reached some own steps =
+event_kept core new n before after (event.Accept from i) reached fit some own steps =
     let front = took core new n from Answers (node_accepting (node_at core n))
     (stepped core new n (event.Accept from i) (side (node_at core n) (event.Accept from i)) some own.kind.own refl steps) in
     all_kept core new n front.next reached some (λ k. ap (λ (c : Core). node_at c k) (sym front.made)) (accepted_kept (node_at core n) front.next front.letter
+    (front_fits core from n front.letter front.rest reached fit front.sender some front.front)
     (of_some (AcceptedAs (node_at core n) front.letter) (node_accepting (node_at core n) front.letter) front.next front.takes
     (accept_as (node_at core n) front.letter)))
-event_kept core new n before after (event.Reply i) reached some own steps =
+event_kept core new n before after (event.Reply i) reached fit some own steps =
     let out = sent_out core new n Answers (node_replying (node_at core n))
     (stepped core new n (event.Reply i) (side (node_at core n) (event.Reply i)) some own.kind.own refl steps) in
     let does = of_some (λ (sent : NodeOf × Letter). (record (node_at core n) { waiting = None }) ≡ sent.0) (node_replying (node_at core n)) out.sent out.there
     (reply_as (node_at core n)) in
     all_kept core new n out.sent.0 reached some (λ k. ap (λ (c : Core). node_at c k) (sym out.made)) (subst (RankKept (node_at core n)) does
     (record { work = λ line. refl; rank = λ line. same_state (work_on (node_at core n) line) (state_on (node_at core n) line) }))
-event_kept core new n before after (event.Ask i line k) reached some own steps =
+event_kept core new n before after (event.Ask i line k) reached fit some own steps =
     let out = sent_out core new n Requests (node_asking (node_at core n) line k)
     (stepped core new n (event.Ask i line k) (side (node_at core n) (event.Ask i line k)) some own.kind.own refl steps) in
     let suits = wanted_suits before n (node_at core n) line k (record { core = core; reached = reached; some = some; here = refl }) own.decides.0 in
     all_kept core new n out.sent.0 reached some (λ k. ap (λ (c : Core). node_at c k) (sym out.made))
     (of_some (λ (sent : NodeOf × Letter). RankKept (node_at core n) sent.0) (node_asking (node_at core n) line k) out.sent out.there
     (asked_kept (node_at core n) line k suits))
-event_kept core new n before after (event.Issue i op) reached some own steps = let no = own.kind.kind in cc
-event_kept core new n before after (event.Perform i line) reached some own steps = let no = own.kind.kind in cc
+event_kept core new n before after (event.Issue i op) reached fit some own steps = let no = own.kind.kind in cc
+event_kept core new n before after (event.Perform i line) reached fit some own steps = let no = own.kind.kind in cc

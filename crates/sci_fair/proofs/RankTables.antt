@@ -4,13 +4,14 @@ use Rattle.std.specs.Prelude.{IfSome, nat_le, nat_lt}
 use Rattle.sci_words.specs.declared.event.AskKind.{AskKind}
 use Rattle.sci_packets.specs.declared.body.Body.{Body}
 use Rattle.sci_cache.specs.{State.{CacheState}, Asking.{Asked, asking}, Serving.{serving}, Accepting.{accepting}}
-use Rattle.sci_fair.specs.Rank.{IsHeldFor, can_perform, never_rises, rank, suits}
+use Rattle.sci_fair.specs.Rank.{IsHeldFor, answers_well, can_perform, never_rises, rank, suits}
 
 pub same_state : (work : Option Bool) (s : CacheState) → never_rises work s s ≡ true
 same_state work s = search rules
 
-pub accepting_keeps : (work : Option Bool) (s : CacheState) (answer : Body) → IfSome (accepting s answer) (λ next. never_rises work s next ≡ true)
-accepting_keeps work s answer = search rules
+pub accepting_keeps : (work : Option Bool) (s : CacheState) (answer : Body) → answers_well work s answer ≡ true
+    → IfSome (accepting s answer) (λ next. never_rises work s next ≡ true)
+accepting_keeps work s answer fits = search rules
 
 pub serving_keeps : (work : Option Bool) (s : CacheState) (n : ℕ) (request : Body) → IsHeldFor work s request
     → IfSome (serving s n request) (λ (served : CacheState × Body). never_rises work s served.0 ≡ true)

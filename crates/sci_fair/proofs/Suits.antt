@@ -42,16 +42,16 @@ ask_suits : (node : NodeOf) (line : ℕ) → IfSome (ask_of node line) (SuitsWan
 ask_suits node line = grind (arith, mapped, own_suits)
 
 -- a line with an operation is read
-read_with : (b maker : Bool) → suits (Some b) (read_kind maker) ≡ true
-read_with b maker = search rules
+read_with : (maker : Bool) → suits (Some maker) (read_kind maker) ≡ true
+read_with maker = search rules
 
-read_suits : (pending : Option Pending) (maker : Bool) → is_some pending ≡ true → suits (work_in pending) (read_kind maker) ≡ true
-read_suits None maker some = cc
-read_suits (Some p) maker some = read_with (is_maker p.op) maker
+read_suits : (pending : Option Pending) → is_some pending ≡ true → suits (work_in pending) (read_kind (is_maker_of pending)) ≡ true
+read_suits None some = cc
+read_suits (Some p) some = read_with (is_maker p.op)
 
 read_if : (node : NodeOf) (line : ℕ) (free : Bool) → has_pending node line ≡ true
     → IfSome (if free then Some (Ask line (read_kind (has_maker node line))) else None) (SuitsWant node)
-read_if node line true some = read_suits (pending_on node line) (has_maker node line) some
+read_if node line true some = read_suits (pending_on node line) some
 read_if node line false some = tt
 
 asked_suits : (node : NodeOf) (line : ℕ) (s : CacheState) → has_pending node line ≡ true → IfSome (asked_in node line s) (SuitsWant node)

@@ -3,8 +3,8 @@ use Rattle.std.specs.Prelude.{◌≡◌, ℕ, Bool, true, false, ◌&&◌, ◌||
 use Rattle.sci_words.specs.{declared.event.AskKind.{AskKind}, Operation.{is_maker}}
 use Rattle.sci_cache.specs.State.{CacheState, Out, Asking, Joining, FreshJoining, Head, FreshHead, Below, Purging, Claiming, Clearing, Returning, Rolling}
 use Rattle.sci_cache.specs.State.{Telling, Fading}
-use Rattle.sci_packets.specs.declared.body.Body.{Body}
-use Rattle.sci_policy.specs.{Lines.{is_head}, Policy.{is_cread}}
+use Rattle.sci_packets.specs.declared.body.Body.{Body, TheVariants.{Fdata, Fread, Mdata, Mgone, Mread}}
+use Rattle.sci_policy.specs.{Lines.{is_head, state_on}, Policy.{is_cread}}
 use Rattle.sci_core.specs.{declared.pending.Pending.{Pending}, Node.{NodeOf, pending_on}}
 use Rattle.sci_words.specs.declared.event.AskKind.TheVariants as kind
 
@@ -75,6 +75,15 @@ rank (Some true) state = rank_making state
 
 -- ---- what changes a rank
 
+-- whether a packet is a read for what is pending, or an answer to one
+abbrev pub fits_read : Option Bool → Body → Bool
+fits_read (Some maker) Mread = true
+fits_read (Some false) Fread = true
+fits_read (Some maker) (Mdata c) = true
+fits_read (Some maker) (Mgone p) = true
+fits_read (Some false) (Fdata p c) = true
+fits_read _ _ = false
+
 -- whether what is pending can be performed in this state
 abbrev pub can_perform : Option Bool → CacheState → Bool
 can_perform (Some false) (Head f c) = true
@@ -83,25 +92,32 @@ can_perform (Some false) (Below f b c) = true
 can_perform (Some true) (Head None c) = true
 can_perform _ _ = false
 
--- three changes that raise the rank: a read that is refused; a maker's read that is answered by fresh contents; and a load
--- purged that could be performed
+-- nothing that is pending at the node can be performed
+abbrev pub CannotPerform : NodeOf → Type 0
+CannotPerform node = (line : ℕ) → can_perform (work_on node line) (state_on node line) ≡ false
+
+-- the one change that raises the rank: a load is purged that could be performed
 abbrev pub is_excepted : Option Bool → CacheState → CacheState → Bool
-is_excepted work Asking Out = true
-is_excepted (Some true) Asking (FreshHead f c) = true
-is_excepted (Some true) Asking (FreshJoining p sent c) = true
 is_excepted (Some false) (Below f b c) Out = true
 is_excepted _ _ _ = false
 
--- the rank doesn't rise from one state to the next, but by one of these changes
+-- the rank doesn't rise from one state to the next, but by this change
 abbrev pub never_rises : Option Bool → CacheState → CacheState → Bool
 never_rises work old new = nat_le (rank work new) (rank work old) || is_excepted work old new
 
--- what is asked suits what is pending: no line is read for nothing, and no list is given back while a maker waits
+-- what is asked suits what is pending: no line is read for nothing, or to be fresh for a maker; and no list is given back while a
+-- maker waits
 abbrev pub suits : Option Bool → AskKind → Bool
 suits None kind.Mread = false
 suits None kind.Fread = false
+suits (Some true) kind.Fread = false
 suits (Some true) kind.Clear = false
 suits _ _ = true
+
+-- an answer to a read fits what is pending
+abbrev pub answers_well : Option Bool → CacheState → Body → Bool
+answers_well work Asking answer = fits_read work answer
+answers_well work state answer = true
 
 -- while a maker is pending, a request is no Cread for a head: such a one is refused
 abbrev pub IsHeldFor : Option Bool → CacheState → Body → Type 0

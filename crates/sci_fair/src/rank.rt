@@ -1,14 +1,14 @@
 //! The rank of a node's line, which no event of a turn raises.
 
-ghost use Rattle.std.specs.Prelude.{◌≡◌, ◌<◌, ◌≤◌, ℕ, Bool, true, false, Option, None, Some, IfSome};
+ghost use Rattle.std.specs.{Prelude.{◌≡◌, ◌<◌, ◌≤◌, ◌*◌, ℕ, Bool, true, false, List, Option, None, Some, IfSome}, List.{AllByRecursion}};
 ghost use Rattle.sci_words.specs.declared.{event.{AskKind.{AskKind}, Event.{Event}}, stamped.Stamped.{Stamped}};
 ghost use Rattle.sci_packets.specs.declared.body.Body.{Body};
 ghost use Rattle.sci_cache.specs.{Accepting.{accepting}, Asking.{asking}, Serving.{serving}, State.{CacheState, Purging}};
-ghost use Rattle.sci_core.specs.{Core.{Core, node_at, stepping}, Node.{NodeOf, pending_on}, Reached.{IsReached, IsReachedNode}};
+ghost use Rattle.sci_core.specs.{Core.{Core, node_at, node_of, stepping}, Node.{NodeOf, pending_on}, Reached.{IsReached, IsReachedNode}};
 ghost use Rattle.sci_core.specs.{Shape.{follows, state_at}, Sharing.{answer_to}};
 ghost use Rattle.sci_policy.specs.{declared.want.Want.TheVariants.{Ask}, Lines.{state_on}, Policy.{PolicyOf, next_wanted}};
-ghost use Rattle.sci_turn.specs.Moves.{IsOwn};
-ghost use Rattle.sci_fair.specs.Rank.{IsHeldFor, can_perform, never_rises, rank, suits, work_on};
+ghost use Rattle.sci_turn.specs.Moves.{IsOwn, Leads};
+ghost use Rattle.sci_fair.specs.{Changes.{AreSteps, rank_at}, Rank.{CannotPerform, IsHeldFor, answers_well, can_perform, never_rises, rank, suits, work_on}, Reads.{ReadsFit}};
 
 /// While a Purge is under way to a node, the node's line is Below or Rolling. So it never answers the Purge as busy.
 pub fn purges_find_followers()
@@ -17,10 +17,12 @@ pub fn purges_find_followers()
         → follows (state_at core line q) ≡ true }
 {}
 
-/// The tables never raise the rank, whatever is pending: to accept; to serve, if a Cread for the head of a pending maker is
-/// refused; and to ask what suits what is pending, where it can't be performed.
+/// The tables never raise the rank, whatever is pending, but where a load is purged that could be performed: to accept, if an
+/// answer to a read fits what is pending; to serve, if a Cread for the head of a pending maker is refused; and to ask what
+/// suits what is pending, where it can't be performed.
 pub fn tables_never_raise_the_rank()
     ensures accept { (work : Option Bool) (state : CacheState) (answer : Body)
+        → answers_well work state answer ≡ true
         → IfSome (accepting state answer) (λ next. never_rises work state next ≡ true) }
     ensures serve { (work : Option Bool) (state : CacheState) (n : ℕ) (request : Body)
         → IsHeldFor work state request
@@ -44,13 +46,31 @@ pub fn asks_suit_what_is_pending()
         × (can_perform (work_on node line) (state_on node line) ≡ false) }
 {}
 
-/// Each event of a turn leaves what is pending at each node, and raises the rank of none of its lines, but for the three
-/// changes of `is_excepted`.
-pub fn turns_never_raise_the_rank()
+/// Each event of a turn leaves what is pending at each node, and raises the rank of none of its lines, but where a load is
+/// purged that could be performed.
+pub fn events_never_raise_the_rank()
     ensures { (core new : Core) (n : ℕ) (before after : PolicyOf) (e : Event)
-        → IsReached core → n < core.size.nodes
+        → IsReached core → ReadsFit core → n < core.size.nodes
         → IsOwn n before core e after → stepping core e ≡ Some new → (m line : ℕ)
         → (pending_on (node_at new m) line ≡ pending_on (node_at core m) line)
         × (never_rises (work_on (node_at core m) line)
         (state_on (node_at core m) line) (state_on (node_at new m) line) ≡ true) }
+{}
+
+/// A whole turn of a node raises no rank of any node's line, if nothing could be performed at the node when the turn began.
+/// And what is pending stays as it is.
+pub fn turns_never_raise_the_rank()
+    ensures { (n : ℕ) (core new : Core) (before after : PolicyOf) (events : List Event)
+        → IsReached core → ReadsFit core → n < core.size.nodes → CannotPerform (node_at core n)
+        → AllByRecursion (λ e. node_of e ≡ n) events → Leads n before core events after new
+        → (m line : ℕ) → (pending_on (node_at new m) line ≡ pending_on (node_at core m) line)
+        × (rank_at new m line ≤ rank_at core m line) }
+{}
+
+/// Between two Performs few steps change a rank: at most 46 for each line of each node. A step is an Issue, or a turn of a
+/// node that can perform nothing; whatever its policy remembers, and in whatever order nodes take turns. All other turns only
+/// try again what failed.
+pub fn real_changes_are_few()
+    ensures { (changes : ℕ) (core : Core) (cores : List Core) → IsReached core → ReadsFit core
+        → AreSteps changes core cores → changes ≤ 46 * core.size.lines * core.size.nodes }
 {}

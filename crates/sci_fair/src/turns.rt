@@ -8,7 +8,7 @@ ghost use Rattle.sci_core.specs.{Draining.{IsDrained}, Node.{pending_on}, Reache
 ghost use Rattle.sci_policy.specs.declared.{policy.TheConstants.{PATIENCE}, progress.Progress.{Progress}};
 ghost use Rattle.sci_policy.specs.Policy.{PolicyOf, turned};
 ghost use Rattle.sci_turn.specs.{Moves.{IsOwn}, Posts.{PostOf, post_at}, Whole.{IsWholeTurn}};
-ghost use Rattle.sci_fair.specs.{Lanes.{AreOpen, IsWork}, Looks.{HasLooked}, Stuck.{IsStuck}, Vain.{AreInVain}};
+ghost use Rattle.sci_fair.specs.{Lanes.{AreOpen, IsWork}, Looks.{HasLooked}, Reads.{ReadsFit}, Stuck.{IsStuck}, Vain.{AreInVain}};
 
 use sci_policy::PATIENCE;
 
@@ -25,6 +25,19 @@ pub fn turns_keep_lanes_open()
         → IsOwn n before core e after → stepping core e ≡ Some new → AreOpen new }
     ensures works { (core new : Core) (e : Event) → IsReached core → AreOpen core
         → IsWork e → stepping core e ≡ Some new → AreOpen new }
+{}
+
+/// In a machine that works by turns, what a node that reads a line is answered fits what is pending there: no read is refused,
+/// and a maker is never answered by fresh contents. So it is in one that opens, and in one where nothing is under way. And it
+/// stays so with each event of a turn, each Issue and each Perform.
+pub fn turns_answer_reads()
+    ensures first { (size : Size) → ReadsFit (opening size) }
+    ensures drained { (core : Core) → IsDrained core → ReadsFit core }
+    ensures turns { (core new : Core) (before after : PolicyOf) (n : ℕ) (e : Event)
+        → IsReached core → ReadsFit core → n < core.size.nodes
+        → IsOwn n before core e after → stepping core e ≡ Some new → ReadsFit new }
+    ensures works { (core new : Core) (e : Event) → IsReached core → ReadsFit core
+        → IsWork e → stepping core e ≡ Some new → ReadsFit new }
 {}
 
 /// A whole turn of a node that has the machine for itself looks at the lane of requests from each node. It finds the lane
