@@ -7,3 +7,6 @@ pub mod RunEnds
 pub mod WorkingNodes
 pub mod Playing
 pub mod Posting
+pub mod InVain
+pub mod Ending
+pub mod Circles

@@ -74,14 +74,17 @@ pub begins : {A Z : Type 0} (f : A → DriverOf) (g : A → PolicyOf) (s : Scrip
     (limit : ℕ) (all : List (Vec Op Z)) (players : List A) → events ≡ [] → core ≡ opening (size_of extent limit)
     → extent.nodes ≡ s.nodes → extent.lines ≡ s.lines → extent.slots ≡ s.slots → length all ≡ s.nodes
     → ((k : ℕ) (own : Vec Op Z) → k < s.nodes → (slice_index_or all k own).items ≡ operations_of k s.operations)
-    → All (λ (own : Vec Op Z). length own.items ≤ limit) all
+    → 1 ≤ limit → limit ≤ MAX_OPERATIONS → All (λ (own : Vec Op Z). length own.items ≤ limit) all
     → map f players ≡ map (λ own. opening_driver own.items issuing) all → All (λ player. g player ≡ opening_policy) players
     → Begins s issuing (record { core = core; events = events; drivers = map f players; policies = map g players })
-begins f g s issuing core events extent limit all players none opens nodes lines slots long each few is remember = record {
+begins f g s issuing core events extent limit all players none opens nodes lines slots long each some most few is remember = record {
   limit = limit;
+  some = some;
+  most = most;
   room = room_for s limit all long each few;
   core = opens ∙ ap (λ (z : Size). opening (with_limit limit z)) (sized_for extent s nodes lines slots);
   none = none;
+  many = ap length is ∙ (length-map all (λ own. opening_driver own.items issuing) ∙ long);
   drivers = λ n d lt. opened_driver s issuing all (map f players) n d long each lt is;
   policies = policies_open g players remember;
 }
@@ -171,15 +174,16 @@ module _ {A : Type 0} (f : A → DriverOf) (g : A → PolicyOf) (script : Script
   -- and it is a round of the run
   pub round_is : view ≡ table → AreAtWork view → n < table.script.nodes → k ≡ n → player ≡ slice_index_or players k player → (new : A) (later : RecorderOf)
       (round : Round) (deeds : List Deed) → GoesOpenly deeds (f player) (f new) (node_at recorder.core n) (node_at later.core n) (Ok round)
-      → Does n deeds (g player) (course_of recorder) (g new) (course_of later)
+      → IsDriven (f new) (node_at later.core n) → Does n deeds (g player) (course_of recorder) (g new) (course_of later)
       → IsRound n (moment_of table) (moment_of (after new later))
-  round_is is work lt same value new later round deeds goes does =
+  round_is is work lt same value new later round deeds goes driven does =
       let some = some_node is lt in
       let within : n < length players = let many = work.many in let long = length-map players f in omega (arith, some, many, long) in
       let here : player ≡ slice_index_or players n player = value ∙ ap (λ (i : ℕ). slice_index_or players i player) same in
       let was : slice_index_or (map g players) n opening_policy ≡ g player = get_or-map g players n player opening_policy within ∙ ap g (sym here) in
       let now : slice_index_or (map g (set players k new)) n opening_policy ≡ g new = placed_here g players k n new opening_policy same within in
       subst (λ (t : TableOf). IsRound n (moment_of t) (moment_of (after new later))) is (record {
+        some = subst (λ (size : Size). n < size.nodes) (sym work.sized) some;
         round = round;
         deeds = deeds;
         goes = λ d.
@@ -190,6 +194,8 @@ module _ {A : Type 0} (f : A → DriverOf) (g : A → PolicyOf) (script : Script
         does = subst (λ (policy : PolicyOf).
             Does n deeds policy (course_of recorder) (slice_index_or (map g (set players k new)) n opening_policy) (course_of later)) (sym was)
             (subst (λ (policy : PolicyOf). Does n deeds (g player) (course_of recorder) policy (course_of later)) (sym now) does);
+        driven = λ d. subst (λ (driver : DriverOf). IsDriven driver (node_at later.core n)) (sym (placed_here f players k n new d same within)) driven;
+        many = length-map (set players k new) f ∙ (length-set players k new ∙ sym (length-map players f));
         drivers = placed_other f players k n new same;
         policies = placed_other g players k n new same;
       })

@@ -1,10 +1,10 @@
 -- What a node does of its own: it issues and performs operations, and takes turns.
-use Rattle.std.specs.Prelude.{◌≡◌, ◌≤◌, ℕ, List, [], ◌∷◌, ◌++◌, length, Some}
+use Rattle.std.specs.Prelude.{◌≡◌, ◌≤◌, ℕ, true, List, [], ◌∷◌, ◌++◌, length, Some}
 use Rattle.std.specs.List.{AllByRecursion}
 use Rattle.sci_words.specs.declared.{event.Event.{Event}, limits.TheConstants.{MAX_EVENTS}}
 use Rattle.sci_core.specs.Core.{node_of, stepping}
-use Rattle.sci_policy.specs.{declared.progress.Progress.{Progress}, Deeds.{Deed, DoesBy, Issues, Performs, Turns}, Policy.{PolicyOf}}
-use Rattle.sci_turn.specs.{Moves.{IsTurn}, Posts.{PostOf}, Whole.{IsWholeTurn}}
+use Rattle.sci_policy.specs.{declared.progress.Progress.{Progress}, Deeds.{Deed, DoesBy, Issues, Performs, Turns}, Policy.{PolicyOf}, Turn.{is_idle}}
+use Rattle.sci_turn.specs.{Idle.{IsIdleTurn}, Moves.{IsTurn}, Posts.{PostOf}, Whole.{IsWholeTurn}}
 use Rattle.sci_runs.specs.Recorded.{Course}
 use Rattle.sci_words.specs.declared.event.Event.TheVariants as event
 
@@ -21,10 +21,11 @@ pub record IsTurnSoFar (n : ℕ) (before : PolicyOf) (old : Course) (after : Pol
   pub turn : IsTurn before (post_on n old) after (post_on n new) progress
   pub own : AddsOwn n old.events new.events
 
--- a turn of node n to its end
+-- a turn of node n to its end; one that reports nothing has found nothing to do
 pub record IsTurnDone (n : ℕ) (before : PolicyOf) (old : Course) (after : PolicyOf) (new : Course) (progress : Progress) : Type 0 where
   pub so_far : IsTurnSoFar n before old after new progress
   pub whole : IsWholeTurn before (post_on n old) after (post_on n new) progress
+  pub idle : is_idle progress ≡ true → IsIdleTurn before (post_on n old) after (post_on n new)
 
 -- what a node's policy remembers, and the machine's state with the events so far
 pub record Standing : Type 0 where

@@ -6,7 +6,7 @@ use Rattle.sci_text.specs.{Script.{ScriptValue}, Schedule.{ScheduleValue}}
 use Rattle.sci_core.specs.{Core.{Core, node_at, opening, run}, Node.{NodeOf}}
 use Rattle.sci_policy.specs.{Deeds.{Deed}, Policy.{PolicyOf, opening_policy}}
 use Rattle.sci_drive.specs.{declared.driver.{Issuing.{Issuing}, Round.{Round}}, Calls.{IsOpen}}
-use Rattle.sci_drive.specs.{Driving.{DriverOf, IsAnswered, opening_driver}, Rounds.{GoesRound}}
+use Rattle.sci_drive.specs.{Driving.{DriverOf, IsAnswered, IsDriven, opening_driver}, Rounds.{GoesRound}}
 use Rattle.sci_text.specs.Script.{operations_of}
 use Rattle.sci_drive.specs.ScriptLogs.{size_for}
 use Rattle.sci_runs.specs.{declared.order.Order.{Order}, Deeds.{Does, Fills, FillsTurning}, Recorded.{Course, raised, with_limit}}
@@ -39,12 +39,15 @@ abbrev pub GoesOpenly : List Deed → DriverOf → DriverOf → NodeOf → NodeO
 GoesOpenly deeds old new before after result = GoesRound (λ (first : Unit {0}) calls last. All IsOpen calls) deeds tt tt old new before after result
 
 -- A round of node n by these deeds: it submits the next operation if it can, performs what it can, and takes one turn. It is
--- never told to wait.
+-- never told to wait. At its end the driver has driven the node as far as it has come.
 pub record IsRound (n : ℕ) (old new : Moment) : Type 0 where
+  pub some : n < old.core.size.nodes
   pub round : Round
   pub deeds : List Deed
   pub goes : (d : DriverOf) → GoesOpenly deeds (driver_at old n d) (driver_at new n d) (node_at old.core n) (node_at new.core n) (Ok round)
   pub does : Does n deeds (policy_at old n) (course_at old) (policy_at new n) (course_at new)
+  pub driven : (d : DriverOf) → IsDriven (driver_at new n d) (node_at new.core n)
+  pub many : length new.drivers ≡ length old.drivers
   pub drivers : StaysBut n old.drivers new.drivers
   pub policies : StaysBut n old.policies new.policies
 
@@ -83,9 +86,12 @@ pub record HasNoRoom (nodes turns : ℕ) (order : Order) (first : Moment) : Type
 -- submitted, and the policies remember nothing.
 pub record Begins (script : ScriptValue) (issuing : Issuing) (first : Moment) : Type 0 where
   pub limit : ℕ
+  pub some : 1 ≤ limit
+  pub most : limit ≤ MAX_OPERATIONS
   pub room : (node : ℕ) → node < script.nodes → length (operations_of node script.operations) ≤ limit
   pub core : first.core ≡ opening (with_limit limit (size_for script))
   pub none : first.events ≡ []
+  pub many : length first.drivers ≡ script.nodes
   pub drivers : (node : ℕ) (d : DriverOf) → node < script.nodes → driver_at first node d ≡ opening_driver (operations_of node script.operations) issuing
   pub policies : (node : ℕ) → policy_at first node ≡ opening_policy
 

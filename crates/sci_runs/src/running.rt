@@ -1,10 +1,11 @@
 //! A script that is run by the policy, one turn after another.
 
-ghost use Rattle.std.specs.Prelude.{◌≡◌, ◌≤◌, false, IfErr, IfOk};
+ghost use Rattle.std.specs.Prelude.{◌≡◌, ◌<◌, ◌≤◌, ◌+◌, ◌*◌, ℕ, true, false, None, IfErr, IfOk, length};
 ghost use Rattle.sci_words.specs.declared.limits.TheConstants.{MAX_OPERATIONS};
 ghost use Rattle.sci_core.specs.Core.{run as run_of};
 ghost use Rattle.sci_drive.specs.ScriptLogs.{size_for};
 ghost use Rattle.sci_runs.specs.{declared.fault.RunFault.TheVariants.{TooMany}, Played.{IsPlayed, IsTooLong}, Recorded.{raised}, Runs.{IsRunOf}};
+ghost use Rattle.sci_runs.specs.Turns.{GivesTurns, circle_turns, first_order};
 
 use crate::fault::RunFault;
 use crate::order::Order;
@@ -39,8 +40,9 @@ pub struct Run {
 }
 
 /// Runs a script by the policy on a new machine, whose nodes take one turn after another. It ends with the round in which the
-/// last operation of the script is performed, whose turn is still taken, or when the turns are used up. The same script and
-/// plan give the same run. Refused if memory is, or if there are more than 500,000 events.
+/// last operation of the script is performed, whose turn is still taken, or when the turns are used up. While it isn't done, it
+/// makes an event before each node has taken 64 turns. So in a circle 64 turns of each node for each of 500,001 events are
+/// always enough: then the run is done, or has too many events. The same script and plan give the same run. Refused if memory is, or if there are more than 500,000 events.
 pub fn run_script(alloc: Global, script: &Script, plan: Plan) -> Result<Run, RunFault>
     ensures run { IfOk result (λ run. IsRunOf script.now plan.issuing run.done run.schedule) }
     ensures played { IfOk result (λ run.
@@ -49,10 +51,17 @@ pub fn run_script(alloc: Global, script: &Script, plan: Plan) -> Result<Run, Run
         IsTooLong script.now plan.issuing plan.seed plan.turns) }
     ensures turns { IfOk result (λ run. run.turns ≤ plan.turns) }
     ensures all { IfOk result (λ run. run.done ≡ false → run.turns ≡ plan.turns) }
+    ensures goes_on { IfOk result (λ run. (window : ℕ) →
+        GivesTurns script.now.nodes window (first_order plan.seed) → run.done ≡ false →
+        run.turns < window * (length run.schedule.events + 1)) }
+    ensures circle { plan.seed ≡ None → circle_turns script.now.nodes ≤ plan.turns →
+        IfOk result (λ run. run.done ≡ true) }
     ensures led { IfOk result (λ run. run_of (size_for script.now) run.schedule.events
         ≡ raised MAX_OPERATIONS run.machine) }
     ensures lines { IfOk result (λ run. run.machine.size.lines ≡ script.now.lines) }
 {
+    // Read, so that the prover knows that the script is good.
+    let _all = script.operations();
     let operations = operations_by_node(alloc, script)?;
     let mut table = Table::new(alloc, script, &operations, plan.issuing)?;
     let mut order = Order::new(plan.seed);

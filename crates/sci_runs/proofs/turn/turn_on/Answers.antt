@@ -2,7 +2,7 @@ use Rattle.std.proofs.Common.{◌≡◌, ℕ, List, refl, sym, subst, rules}
 use Rattle.std.specs.Prelude.{slice_index_or}
 use Rattle.sci_core.specs.{Core.{node_at}, Node.{NodeOf, no_node}}
 use Rattle.sci_policy.specs.{Rest.{MayIdle}}
-use Rattle.sci_turn.specs.{Moves.{IsTurn}, Whole.{IsWholeTurn}}
+use Rattle.sci_turn.specs.{Idle.{IsIdleTurn}, Moves.{IsTurn}, Whole.{IsWholeTurn}}
 use Rattle.sci_runs.specs.{Deeds.{IsTurnDone, IsTurnSoFar, post_on}, Recorded.{Course, course_of}}
 use Rattle.sci_runs.proofs.turn.turn_on.Goals.{After-take_turn}
 use Rattle.sci_runs.proofs.turn.turn_on.Goals as goal
@@ -42,6 +42,8 @@ returns-clause-done c =
       so_far = so_far (goal.at.returns-clause-done c).After-take_turn;
       whole = subst (λ (m : ℕ). IsWholeTurn before (post_on n old) after (post_on m new) progress) c.take_turn.ensures.stays.0
           (c.in_ok-take_turn.ensures.whole refl);
+      idle = λ is. subst (λ (m : ℕ). IsIdleTurn before (post_on n old) after (post_on m new)) c.take_turn.ensures.stays.0
+          (c.in_ok-take_turn.ensures.idle refl is);
     } in
     let there : (course : Course) → course ≡ new → IsTurnDone n before old after course progress = λ course is.
     subst (λ (x : Course). IsTurnDone n before old after x progress) (sym is) done

@@ -14,5 +14,6 @@ returns-clause-begins c =
     begins (λ (player : Player). player.driver) (λ (player : Player). player.policy) c.args.script.now c.args.issuing c.in_ok-recorder.recorder.core
     c.in_ok-recorder.recorder.schedule.events c.extent.result c.most_operations.result c.args.operations.now c.in_ok-players.players.items
     c.in_ok-recorder.ensures.empty c.in_ok-recorder.ensures.opening
-    c.extent.ensures.nodes c.extent.ensures.lines c.extent.ensures.slots c.requires.nodes c.requires.each c.most_operations.ensures.all
+    c.extent.ensures.nodes c.extent.ensures.lines c.extent.ensures.slots c.requires.nodes c.requires.each
+    c.most_operations.ensures.some c.most_operations.ensures.few c.most_operations.ensures.all
     c.in_ok-players.ensures.drivers c.in_ok-players.ensures.policies

@@ -42,7 +42,7 @@ returns-clause-round c =
     round_is (λ (player : Player). player.driver) (λ (player : Player). player.policy) c.self.inside.script.now c.self.inside.issuing
     c.self.inside.recorder c.self.inside.players.items c.args.self.now c.args.node c.from.result c.index_mut.result.now c.self.view_is c.self.invariant
     c.requires c.from.ensures c.index_mut.ensures.value c.round-round.new.self c.round-round.new.recorder c.in_ok-_round._round
-    c.in_ok-_round.ensures.goes.0 c.in_ok-_round.ensures.goes.1 (c.in_ok-_round.ensures.goes.2.does cc)
+    c.in_ok-_round.ensures.goes.0 c.in_ok-_round.ensures.goes.1 c.round-round.ensures.driven (c.in_ok-_round.ensures.goes.2.does cc)
 
 pub returns-in-Some-clause-full : goal.returns-in-Some-clause-full
 returns-in-Some-clause-full c = λ is none.
