@@ -1,5 +1,5 @@
 -- What `run` writes for its input.
-use Rattle.std.specs.Prelude.{◌≡◌, ◌≤◌, ◌⊎◌, ℕ, Bool, true, false, List, Option, unwrap_or}
+use Rattle.std.specs.Prelude.{◌≡◌, ◌≤◌, ◌⊎◌, ℕ, Bool, true, false, List, Option, None, unwrap_or}
 use Rattle.sci_words.specs.declared.limits.TheConstants.{MAX_TURNS}
 use Rattle.sci_text.specs.{declared.fault.TextFaultKind.{TextFaultKind, TheVariants.{TooMany}}, FirstFault.{IsTold}}
 use Rattle.sci_text.specs.{Schedule.{ScheduleValue, schedule_text}, Script.{IsScript, ScriptValue, script_text}}
@@ -21,7 +21,7 @@ abbrev pub IsRunRefusal : (List ℕ → Type 0) → TextFaultKind → Option (Li
 IsRunRefusal is_long kind input failed at = IsTold IsScriptFault kind input failed at ⊎ ((kind ≡ TooMany) × (at ≡ 0) × IsReadAs input failed is_long)
 
 -- The input is the text of a script, and the schedule of a run of it is written. The run has taken as many turns as it may,
--- unless it is done, in the order that was asked for.
+-- unless it is done, in the order that was asked for. In a circle, and without a limit of turns, it is done.
 pub record IsRunText (request : RunRequest) (done : Bool) (input text : List ℕ) : Type 0 where
   pub script : ScriptValue
   pub good : IsScript script
@@ -32,6 +32,7 @@ pub record IsRunText (request : RunRequest) (done : Bool) (input text : List ℕ
   pub played : IsPlayed script request.issuing request.seed turns done schedule
   pub few : turns ≤ unwrap_or request.turns MAX_TURNS
   pub all : done ≡ false → turns ≡ unwrap_or request.turns MAX_TURNS
+  pub circle : request.seed ≡ None → request.turns ≡ None → done ≡ true
   pub written : text ≡ schedule_text schedule
 
 -- what `run` writes, and how it ends, for the bytes of a reader, which has failed or not: Unlawful if the turns were used up

@@ -54,7 +54,7 @@ pub(crate) fn refusal_of(fault: RunFault, too_long: &'static str) -> Refusal
 
 /// Reads a script to its end, runs it by the policy on a new machine whose nodes take one turn after another, and gives the
 /// schedule of the run: every event, in its order. It is Done if each operation of the script was performed, and Unlawful if
-/// the turns were used up first. A script with a fault is refused, as are a reader that fails, too long an input and running
+/// the turns were used up first, which needs a seed or a limit of turns. A script with a fault is refused, as are a reader that fails, too long an input and running
 /// out of memory, at line 0, and a run of more than 500,000 events, as `too-many` at line 0. After a failed read nothing more
 /// is read.
 pub fn run<R: Read>(alloc: Global, request: RunRequest, reader: &mut Tap<R>) -> Answered

@@ -21,6 +21,7 @@ returns g c = (
             played = search rules;
             few = search rules;
             all = search rules;
+            circle = λ none unlimited. ?;
             written = search rules;
           },
         ),

@@ -21,8 +21,8 @@ played c = search rules
 
 pub returns-clause-goes_on : goal.returns-clause-goes_on
 returns-clause-goes_on c = λ window gives is.
-    has_ended c.args.script.now c.args.plan.issuing c.args.plan.seed c.in_ok-ran.ran.turns c.in_ok-ran.ran.done c.finish-ended.result.schedule c.operations-all.ensures.good
-    (played c) window gives is
+    has_ended c.args.script.now c.args.plan.issuing c.args.plan.seed c.in_ok-ran.ran.turns c.in_ok-ran.ran.done c.finish-ended.result.schedule
+    c.operations-all.ensures.good (played c) window gives is
 
 pub returns-clause-circle : goal.returns-clause-circle
 returns-clause-circle c = λ none enough.
