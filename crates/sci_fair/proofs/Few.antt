@@ -12,7 +12,7 @@ use Rattle.sci_core.proofs.WellFormed.WellFormedSteps.{reached_stepping, reached
 use Rattle.sci_policy.specs.Lines.{state_on}
 use Rattle.sci_turn.proofs.Working.{stepped}
 use Rattle.sci_fair.specs.{Changes.{AreSteps, HasChanged, IsStep, Issues, Turns, rank_at}, Rank.{rank, work_in, work_on}, Reads.{ReadsFit}}
-use Rattle.sci_fair.proofs.{RankTables.{issue_lowers, rank_within}, ReadSteps.{changed_by, changed_out, issued_cache, work_reads}}
+use Rattle.sci_fair.proofs.{RankTables.{issue_lowers, rank_within}, ReadCarries.{changed_by, issued_cache}, ReadSteps.{changed_out, work_reads}}
 use Rattle.sci_fair.proofs.WholeTurns.{turn_kept}
 
 -- ---- sums
@@ -138,7 +138,8 @@ total_falls old new kept changed =
     let lines = old.size.lines in
     let low = kept.lower changed.node changed.line in
     let other = changed.other in
-    let falls : rank_at new changed.node changed.line < rank_at old changed.node changed.line = elim (cases_lt (rank_at new changed.node changed.line) (rank_at old changed.node changed.line)) [
+    let falls : rank_at new changed.node changed.line < rank_at old changed.node changed.line = elim
+    (cases_lt (rank_at new changed.node changed.line) (rank_at old changed.node changed.line)) [
       | inl lt ↦ lt
       | inr le ↦ absurd (other (omega (arith, low, le)))
     ] in

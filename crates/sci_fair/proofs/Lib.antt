@@ -7,6 +7,7 @@ pub mod Followers
 pub mod RankTables
 pub mod Suits
 pub mod RankSteps
+pub mod ReadCarries
 pub mod ReadSteps
 pub mod WholeTurns
 pub mod Few

@@ -1,7 +1,8 @@
 -- A whole turn of a node raises no rank, if nothing could be performed at the node when it began. Of the events of the turn only a
 -- Purge of a load may raise it. The node that purges the line has asked before the turn began, so the line followed then: it was
 -- Below, where the load could be performed, or Rolling, which has a higher rank than what is left in the end.
-use Rattle.std.proofs.Common.{◌≡◌, ◌≢◌, ◌≤◌, ◌<◌, ◌/◌, ◌%◌, ◌⊎◌, ℕ, zero, suc, Bool, true, false, ◌||◌, cond, arith, List, [], ◌∷◌, ◌++◌, filter, get_or, length}
+use Rattle.std.proofs.Common.{◌≡◌, ◌≢◌, ◌≤◌, ◌<◌, ◌/◌, ◌%◌, ◌⊎◌, ℕ, zero, suc, Bool, true, false, ◌||◌, cond, arith, List, [], ◌∷◌, ◌++◌, filter, get_or}
+use Rattle.std.proofs.Common.{length}
 use Rattle.std.proofs.Common.{Ok, Option, Some, None, refl, sym, ap, subst, ◌∙◌, inl, inr, rules, get_or-set_same, All}
 use Rattle.std.proofs.lemmas.{Bool.{cases_eq, le-leb, leb-true}, List.{append_assoc, Elements.{All-head}}}
 use Rattle.std.specs.{Prelude.{IfSome, nat_le, option_to_list}, List.{AllByRecursion, flat_map}}
@@ -17,7 +18,8 @@ use Rattle.sci_core.specs.Node.{NodeOf, node_accepting, node_asking, node_refusi
 use Rattle.sci_core.specs.{Reached.{IsReached}, Shape.{follows, state_at}, Sharing.{answer_in, answer_to, is_about, packets_of, under_way}, Size.{Size}}
 use Rattle.sci_core.specs.{Tidy.{HasItsPackets, IsAwaited, IsSentIn}, WellFormed.{IsInLane}}
 use Rattle.sci_core.proofs.Basics.{Lists.{at_place_set}, Options.{of_some}}
-use Rattle.sci_core.proofs.Step.{NodeSides.{AcceptedAs, At_home, In_cache, RefusedAs, ServedAs, accept_as, refuse_as, reply_as, serve_as}, Places.{place_from, place_requests, place_to}}
+use Rattle.sci_core.proofs.Step.NodeSides.{AcceptedAs, At_home, In_cache, RefusedAs, ServedAs, accept_as, refuse_as, reply_as, serve_as}
+use Rattle.sci_core.proofs.Step.Places.{place_from, place_requests, place_to}
 use Rattle.sci_core.proofs.{Step.Steps.{lane_below}, Tidy.{TidyRuns.{reached_tidy}, TidySteps.{about_from, request_asker}}}
 use Rattle.sci_core.proofs.WellFormed.WellFormedSteps.{reached_stepping, reached_well, size_either}
 use Rattle.sci_policy.specs.{Lines.{state_on}, Policy.{PolicyOf}}
@@ -25,7 +27,8 @@ use Rattle.sci_policy.proofs.Targets.{asked_target}
 use Rattle.sci_turn.{specs.Moves.{IsOwn, Leads}, proofs.Working.{other_stays, stepped}}
 use Rattle.sci_fair.specs.{Rank.{CannotPerform, can_perform, is_excepted, never_rises, rank, work_in, work_on}, Reads.{ReadsFit}}
 use Rattle.sci_fair.proofs.{Followers.{purge_finds}, Looks.{Spared, SparesFrom, set_spares, step_spares}, RankSteps.{event_kept}}
-use Rattle.sci_fair.proofs.ReadSteps.{AsksAs, ask_as, changed_by, turn_reads}
+use Rattle.sci_fair.proofs.ReadCarries.{AsksAs, ask_as, changed_by}
+use Rattle.sci_fair.proofs.ReadSteps.{turn_reads}
 use Rattle.sci_fair.proofs.{Taking.{TookFront, sent_out, took}}
 use Rattle.sci_words.specs.declared.event.Event.TheVariants as event
 
@@ -61,7 +64,8 @@ asks_out : (state : CacheState) (k : AskKind) → IfSome (asking state k) (λ (a
 asks_out state k = search rules
 
 -- a load that follows, and can't be performed, is on a line with a rank that is no lower than that of a line with no entry
-follows_high : (state : CacheState) → follows state ≡ true → can_perform (Some false) state ≡ false → nat_le (rank (Some false) Out) (rank (Some false) state) ≡ true
+follows_high : (state : CacheState) → follows state ≡ true → can_perform (Some false) state ≡ false → nat_le (rank (Some false) Out)
+    (rank (Some false) state) ≡ true
 follows_high state is cannot = search rules
 
 -- ---- how a line that is Below comes to be Out
@@ -80,7 +84,8 @@ record IsPurged (core : Core) (n line : ℕ) : Type 0 where
 line_out : (node : NodeOf) (at : ℕ) (part : LineState) (k : ℕ) → is_below (state_on node k) ≡ true → (line_of (with_line node.cache at part) k).state ≡ Out
     → (k ≡ at) × (part.state ≡ Out)
 line_out node at part =
-    at_place_set (λ (k : ℕ) (l : LineState). is_below (state_on node k) ≡ true → l.state ≡ Out → (k ≡ at) × (part.state ≡ Out)) node.cache.lines at part untouched
+    at_place_set (λ (k : ℕ) (l : LineState). is_below (state_on node k) ≡ true → l.state ≡ Out → (k ≡ at) ×
+    (part.state ≡ Out)) node.cache.lines at part untouched
     (λ k below out. absurd (below_stays (state_on node k) below out)) (λ below out. (refl, out))
 
 same_below : (node next : NodeOf) (line : ℕ) → state_on next line ≡ state_on node line → is_below (state_on node line) ≡ true → state_on next line ≡ Out → ⊥
@@ -91,7 +96,8 @@ served_out : (node next : NodeOf) (request : Letter) (line : ℕ) → ServedAs n
 served_out node next request line (At_home served home is made) below out =
     absurd (same_below node next line (ap (λ (part : NodeOf). state_on part line) (sym made)) below out)
 served_out node next request line (In_cache served is made) below out =
-    let at = line_out node request.line (line_in (line_of node.cache request.line) served.0) line below (ap (λ (part : NodeOf). state_on part line) made ∙ out) in
+    let at = line_out node request.line (line_in (line_of node.cache request.line) served.0) line below
+    (ap (λ (part : NodeOf). state_on part line) made ∙ out) in
     let here : is_below (state_on node request.line) ≡ true = subst (λ (k : ℕ). is_below (state_on node k) ≡ true) at.0 below in (
       at.0,
       of_some (λ (r : CacheState × Body). r.0 ≡ Out → request.body ≡ Purge) (serving (state_on node request.line) request.source request.body) served is
@@ -101,7 +107,8 @@ served_out node next request line (In_cache served is made) below out =
 accepted_out : (node next : NodeOf) (answer : Letter) (line : ℕ) → AcceptedAs node answer next → is_below (state_on node line) ≡ true → state_on next line ≡ Out
     → ⊥
 accepted_out node next answer line does below out =
-    let at = line_out node answer.line (line_in (line_of node.cache answer.line) does.state) line below (ap (λ (part : NodeOf). state_on part line) does.then_ ∙ out) in
+    let at = line_out node answer.line (line_in (line_of node.cache answer.line) does.state) line below
+    (ap (λ (part : NodeOf). state_on part line) does.then_ ∙ out) in
     let here : is_below (state_on node answer.line) ≡ true = subst (λ (k : ℕ). is_below (state_on node k) ≡ true) at.0 below in
     let clash : None ≡ Some does.state = sym (below_accepts (state_on node answer.line) answer.body here) ∙ does.accepts in cc
 
@@ -115,7 +122,8 @@ purged_by : (core new : Core) (n : ℕ) (before after : PolicyOf) (e : Event) �
     → stepping core e ≡ Some new → (line : ℕ) → is_below (state_on (node_at core n) line) ≡ true → state_on (node_at new n) line ≡ Out → IsPurged core n line
 purged_by core new n before after (event.Serve from i) reached some own steps line below out =
     let node = node_at core n in
-    let front = took core new n from Requests (node_serving node) (stepped core new n (event.Serve from i) (side node (event.Serve from i)) some own.kind.own refl steps)
+    let front = took core new n from Requests (node_serving node)
+    (stepped core new n (event.Serve from i) (side node (event.Serve from i)) some own.kind.own refl steps)
     in
     let does = of_some (ServedAs node front.letter) (node_serving node front.letter) front.next front.takes (serve_as node front.letter) in
     let changed = changed_by core new n front.next reached some (λ k. ap (λ (c : Core). node_at c k) (sym front.made)) in
@@ -123,14 +131,16 @@ purged_by core new n before after (event.Serve from i) reached some own steps li
     record { from = from; sender = front.sender; letter = front.letter; rest = front.rest; front = front.front; about = sym purge.0; purge = purge.1 }
 purged_by core new n before after (event.Refuse from i) reached some own steps line below out =
     let node = node_at core n in
-    let front = took core new n from Requests (node_refusing node) (stepped core new n (event.Refuse from i) (side node (event.Refuse from i)) some own.kind.own refl steps)
+    let front = took core new n from Requests (node_refusing node)
+    (stepped core new n (event.Refuse from i) (side node (event.Refuse from i)) some own.kind.own refl steps)
     in
     let does = of_some (RefusedAs node front.letter) (node_refusing node front.letter) front.next front.takes (refuse_as node front.letter) in
     let changed = changed_by core new n front.next reached some (λ k. ap (λ (c : Core). node_at c k) (sym front.made)) in
     absurd (same_below node (node_at new n) line (ap (λ (part : NodeOf). state_on part line) (changed.own ∙ sym does.then_)) below out)
 purged_by core new n before after (event.Accept from i) reached some own steps line below out =
     let node = node_at core n in
-    let front = took core new n from Answers (node_accepting node) (stepped core new n (event.Accept from i) (side node (event.Accept from i)) some own.kind.own refl steps)
+    let front = took core new n from Answers (node_accepting node)
+    (stepped core new n (event.Accept from i) (side node (event.Accept from i)) some own.kind.own refl steps)
     in
     let does = of_some (AcceptedAs node front.letter) (node_accepting node front.letter) front.next front.takes (accept_as node front.letter) in
     let changed = changed_by core new n front.next reached some (λ k. ap (λ (c : Core). node_at c k) (sym front.made)) in
@@ -143,7 +153,8 @@ purged_by core new n before after (event.Reply i) reached some own steps line be
     absurd (same_below node (node_at new n) line (ap (λ (part : NodeOf). state_on part line) (changed.own ∙ sym does)) below out)
 purged_by core new n before after (event.Ask i at k) reached some own steps line below out =
     let node = node_at core n in
-    let sent = sent_out core new n Requests (node_asking node at k) (stepped core new n (event.Ask i at k) (side node (event.Ask i at k)) some own.kind.own refl steps) in
+    let sent = sent_out core new n Requests (node_asking node at k)
+    (stepped core new n (event.Ask i at k) (side node (event.Ask i at k)) some own.kind.own refl steps) in
     let made = of_some (AsksAs node at k) (node_asking node at k) sent.sent sent.there (ask_as node at k) in
     let changed = changed_by core new n sent.sent.0 reached some (λ j. ap (λ (c : Core). node_at c j) (sym sent.made)) in
     absurd (asked_out node at k sent.sent line made below (ap (λ (part : NodeOf). state_on part line) (sym changed.own) ∙ out))
@@ -192,7 +203,8 @@ sole home line (x ∷ []) letter has (inl same) = record {
 sole home line (x ∷ []) letter has (inr among) = elim among [ ]
 sole home line (x ∷ y ∷ packets) letter has among = elim has [ ]
 
-sent_purge : (home : ℕ) (state : CacheState) (letter : Letter) → IsSentIn home state letter → letter.body ≡ Purge → (c : Stamped) × (state ≡ Purging letter.target c)
+sent_purge : (home : ℕ) (state : CacheState) (letter : Letter) → IsSentIn home state letter → letter.body ≡ Purge → (c : Stamped) ×
+    (state ≡ Purging letter.target c)
 sent_purge home (Purging q c) letter sent purge = (c, ap (λ (k : ℕ). Purging k c) (sym sent.1))
 sent_purge home state letter sent purge = absurd (grind arith)
 
@@ -209,7 +221,8 @@ askers_apart nodes j n to f t below other = λ same.
 abbrev HasLost : List Letter → List Letter → Type 0
 HasLost old new = (taken : List Letter) × (old ≡ taken ++ new)
 
-spared_lost : (old new : Core) (j n : ℕ) → Spared old new (lane_place old.size.nodes Requests j n) → HasLost (lane_of old Requests j n) (lane_of new Requests j n)
+spared_lost : (old new : Core) (j n : ℕ) → Spared old new (lane_place old.size.nodes Requests j n) → HasLost (lane_of old Requests j n)
+    (lane_of new Requests j n)
 spared_lost old new j n spared =
     ([], sym (ap (λ (z : Size). lane_at new (lane_place z.nodes Requests j n)) spared.size ∙ spared.lane))
 
@@ -239,11 +252,13 @@ module _ (core new : Core) (n j : ℕ) (reached : IsReached core) (some : n < co
   lost_by before after (event.Serve from i) own steps =
       let node = node_at core n in
       taken_lost (event.Serve from i) from (node_serving node) own.kind.own (λ other. other) steps
-      (took core new n from Requests (node_serving node) (stepped core new n (event.Serve from i) (side node (event.Serve from i)) some own.kind.own refl steps))
+      (took core new n from Requests (node_serving node)
+      (stepped core new n (event.Serve from i) (side node (event.Serve from i)) some own.kind.own refl steps))
   lost_by before after (event.Refuse from i) own steps =
       let node = node_at core n in
       taken_lost (event.Refuse from i) from (node_refusing node) own.kind.own (λ other. other) steps
-      (took core new n from Requests (node_refusing node) (stepped core new n (event.Refuse from i) (side node (event.Refuse from i)) some own.kind.own refl steps))
+      (took core new n from Requests (node_refusing node)
+      (stepped core new n (event.Refuse from i) (side node (event.Refuse from i)) some own.kind.own refl steps))
   lost_by before after (event.Accept from i) own steps = spared_lost core new j n (step_spares core new n j (event.Accept from i) f some own.kind.own tt steps)
   lost_by before after (event.Reply i) own steps = spared_lost core new j n (step_spares core new n j (event.Reply i) f some own.kind.own tt steps)
   lost_by before after (event.Ask i line k) own steps =
@@ -294,7 +309,8 @@ lane_among core k n line taken rest letter reached f t lane about =
     (among_flat (λ (l : List Letter). l) core.lanes place [] letter (lane_below core Requests k n (reached_well core reached) f t) here))
 
 -- a load that is purged in the turn was on a line that followed when the turn began
-purged_high : (n : ℕ) (old core : Core) (line : ℕ) → IsReached old → n < old.size.nodes → HasTurned n old core → is_below (state_on (node_at core n) line) ≡ true
+purged_high : (n : ℕ) (old core : Core) (line : ℕ) → IsReached old → n < old.size.nodes → HasTurned n old core → is_below
+    (state_on (node_at core n) line) ≡ true
     → (purged : IsPurged core n line) → CannotPerform (node_at old n) → work_on (node_at old n) line ≡ Some false
     → IsLower (Some false) (state_on (node_at old n) line) Out
 purged_high n old core line reached some turned below purged cannot load =
@@ -339,7 +355,8 @@ lower_or true excepted is = inl refl
 lower_or false excepted is = inr is
 
 module _ (n : ℕ) (old : Core) (reached : IsReached old) (some : n < old.size.nodes) (cannot : CannotPerform (node_at old n)) where
-  lower_on : (core new : Core) (line : ℕ) (before after : PolicyOf) (e : Event) → HasTurned n old core → IsOwn n before core e after → stepping core e ≡ Some new
+  lower_on : (core new : Core) (line : ℕ) (before after : PolicyOf) (e : Event) → HasTurned n old core → IsOwn n before core e after
+      → stepping core e ≡ Some new
       → never_rises (work_on (node_at core n) line) (state_on (node_at core n) line) (state_on (node_at new n) line) ≡ true
       → IsLower (work_on (node_at old n) line) (state_on (node_at old n) line) (state_on (node_at new n) line)
   lower_on core new line before after e turned own steps keeps =
@@ -399,7 +416,8 @@ pub record TurnKept (old new : Core) : Type 0 where
   pub fit : ReadsFit new
   pub size : new.size ≡ old.size
   pub work : (m line : ℕ) → pending_on (node_at new m) line ≡ pending_on (node_at old m) line
-  pub lower : (m line : ℕ) → rank (work_on (node_at old m) line) (state_on (node_at new m) line) ≤ rank (work_on (node_at old m) line) (state_on (node_at old m) line)
+  pub lower : (m line : ℕ) → rank (work_on (node_at old m) line) (state_on (node_at new m) line) ≤ rank (work_on (node_at old m) line)
+      (state_on (node_at old m) line)
 
 pub turn_kept : (n : ℕ) (old new : Core) (before after : PolicyOf) (more : List Event) → IsReached old → ReadsFit old → n < old.size.nodes
     → CannotPerform (node_at old n) → AllByRecursion (λ e. node_of e ≡ n) more → Leads n before old more after new → TurnKept old new
@@ -423,12 +441,15 @@ turn_kept n old new before after more reached fit some cannot own leads =
       ];
       lower = λ m line. elim (cases_eq m n) [
         | inl same ↦
-            subst (λ (k : ℕ). rank (work_on (node_at old k) line) (state_on (node_at new k) line) ≤ rank (work_on (node_at old k) line) (state_on (node_at old k) line))
+            subst (λ (k : ℕ). rank (work_on (node_at old k) line) (state_on (node_at new k) line) ≤ rank (work_on (node_at old k) line)
+            (state_on (node_at old k) line))
             (sym same)
-            (leb-true (rank (work_on (node_at old n) line) (state_on (node_at new n) line)) (rank (work_on (node_at old n) line) (state_on (node_at old n) line))
+            (leb-true (rank (work_on (node_at old n) line) (state_on (node_at new n) line))
+            (rank (work_on (node_at old n) line) (state_on (node_at old n) line))
             (turned.lower line))
         | inr other ↦
-            subst (λ (part : NodeOf). rank (work_on (node_at old m) line) (state_on part line) ≤ rank (work_on (node_at old m) line) (state_on (node_at old m) line))
+            subst (λ (part : NodeOf). rank (work_on (node_at old m) line) (state_on part line) ≤ rank (work_on (node_at old m) line)
+            (state_on (node_at old m) line))
             (sym (turned.others m other)) (omega arith)
       ];
     }
