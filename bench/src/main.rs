@@ -4,6 +4,7 @@
 //!     plain circle TIMES
 
 mod audit;
+mod digits;
 mod machine;
 mod memory;
 mod node;
@@ -29,14 +30,14 @@ fn answer(words: &[&str], input: &[u8]) -> Option<Answer> {
     Some(match words {
         ["oracle"] => text::read_script(input).map(|script| {
             let text::Size { nodes, lines, .. } = script.size;
-            (log_text(&memory::oracle(nodes, lines, &script.operations)), 0)
+            (text::logs_text(&memory::oracle(nodes, lines, &script.operations)), 0)
         }),
         ["replay"] => text::read_schedule(input).map(|(size, events)| {
             let mut machine = machine::Machine::new(size);
             for event in &events {
                 machine.apply(event);
             }
-            (log_text(&machine.into_logs()), 0)
+            (text::logs_text(&machine.into_logs()), 0)
         }),
         ["threads"] => threads(input, MOST_TURNS),
         ["threads", "--turns", turns] => {
@@ -51,7 +52,7 @@ fn answer(words: &[&str], input: &[u8]) -> Option<Answer> {
             Some(fault) => (format!("{fault}\n").into_bytes(), 1),
             None => (b"lawful\n".to_vec(), 0),
         }),
-        ["upgrade"] => text::read_logs(input).map(|logs| (log_text(&logs), 0)),
+        ["upgrade"] => text::read_logs(input).map(|logs| (text::logs_text(&logs), 0)),
         ["circle", times] => {
             let times = times.parse().ok()?;
             text::read_script(input).map(|script| {
@@ -63,20 +64,16 @@ fn answer(words: &[&str], input: &[u8]) -> Option<Answer> {
     })
 }
 
-fn log_text(logs: &memory::Logs) -> Vec<u8> {
-    text::logs_text(logs).expect("a vector takes every write")
-}
-
 fn threads(input: &[u8], turns: u32) -> Answer {
     let script = text::read_script(input)?;
     let (logs, finished) = run::threads(&script, turns);
-    Ok((log_text(&logs), u8::from(!finished)))
+    Ok((text::logs_text(&logs), u8::from(!finished)))
 }
 
 fn decoded(input: Result<Vec<u8>, Kind>) -> (Vec<u8>, u8) {
     match input {
         Ok(input) => {
-            let (out, is_whole) = packet::decode_text(&input).expect("a vector takes every write");
+            let (out, is_whole) = packet::decode_text(&input);
             (out, if is_whole { 0 } else { 2 })
         }
         Err(kind) => (format!("refused at byte 0: {}\n", kind.name()).into_bytes(), 2),

@@ -1,8 +1,7 @@
 //! Packets, their spelling, and the lines that `decode` prints.
 
 use crate::memory::Contents;
-use crate::text::write_contents;
-use std::io::{self, Write};
+use crate::text::{push_contents, push_field};
 
 pub type NodeId = u16;
 
@@ -260,39 +259,48 @@ impl Packet {
         Ok((packet, 8 * words))
     }
 
-    fn write(&self, out: &mut Vec<u8>) -> io::Result<()> {
-        let Packet { target, source, control, line, body } = self;
-        let name = body.name();
-        write!(out, "{name} to {target} from {source} control {control} line {line}")?;
-        match body.identifier() {
+    fn push_text(&self, out: &mut Vec<u8>) {
+        out.extend_from_slice(self.body.name().as_bytes());
+        for (name, value) in [
+            (" to", u64::from(self.target)),
+            (" from", u64::from(self.source)),
+            (" control", u64::from(self.control)),
+            (" line", self.line),
+        ] {
+            out.extend_from_slice(name.as_bytes());
+            push_field(out, value);
+        }
+        match self.body.identifier() {
             Identifier::Unused => {}
-            Identifier::Node(node) | Identifier::Maybe(Some(node)) => write!(out, " id {node}")?,
+            Identifier::Node(node) | Identifier::Maybe(Some(node)) => {
+                out.extend_from_slice(b" id");
+                push_field(out, u64::from(node));
+            }
             Identifier::Maybe(None) => out.extend_from_slice(b" id none"),
         }
-        if let Some(contents) = body.contents() {
-            write_contents(out, contents)?;
+        if let Some(contents) = self.body.contents() {
+            push_contents(out, contents);
         }
         out.push(b'\n');
-        Ok(())
     }
 }
 
 /// A line for each packet, and whether the bytes are a run of packets.
-pub fn decode_text(input: &[u8]) -> io::Result<(Vec<u8>, bool)> {
+pub fn decode_text(input: &[u8]) -> (Vec<u8>, bool) {
     let mut out = Vec::new();
     let mut rest = input;
     while !rest.is_empty() {
         match Packet::decode(rest) {
             Ok((packet, length)) => {
-                packet.write(&mut out)?;
+                packet.push_text(&mut out);
                 rest = &rest[length..];
             }
             Err(fault) => {
                 let place = input.len() - rest.len();
-                writeln!(out, "refused at byte {place}: {}", fault.name())?;
-                return Ok((out, false));
+                out.extend(format!("refused at byte {place}: {}\n", fault.name()).bytes());
+                return (out, false);
             }
         }
     }
-    Ok((out, true))
+    (out, true)
 }

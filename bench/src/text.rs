@@ -1,8 +1,9 @@
 //! Scripts, schedules and logs as text.
 
+use crate::digits::{self, Digits};
 use crate::memory::{Action, Contents, Entry, Logs, Op};
 use crate::packet::AskKind;
-use std::io::{self, Read, Write};
+use std::io::{self, Read};
 use std::ops::RangeInclusive;
 
 const MOST_BYTES: u64 = 134_217_728;
@@ -99,18 +100,15 @@ impl<'a> Line<'a> {
         if self.word()? == wanted { Ok(()) } else { Err(Kind::Syntax) }
     }
 
-    fn digits(&mut self, word: &[u8], range: RangeInclusive<u64>) -> Result<u64, Kind> {
-        if word.is_empty() || (word.len() > 1 && word[0] == b'0') {
-            return Err(Kind::Syntax);
-        }
-        let mut value = Some(0u64);
-        for byte in word {
-            if !byte.is_ascii_digit() {
-                return Err(Kind::Syntax);
-            }
-            let digit = u64::from(byte - b'0');
-            value = value.and_then(|it| it.checked_mul(10)?.checked_add(digit));
-        }
+    /// A word of digits.
+    fn number_in(&mut self, range: RangeInclusive<u64>) -> Result<u64, Kind> {
+        let rest = self.rest.ok_or(Kind::Syntax)?;
+        let Digits { count, value } = digits::read(rest).ok_or(Kind::Syntax)?;
+        self.rest = match rest.get(count) {
+            None => None,
+            Some(b' ') => Some(&rest[count + 1..]),
+            Some(_) => return Err(Kind::Syntax),
+        };
         match value {
             Some(value) if range.contains(&value) => Ok(value),
             _ => {
@@ -118,11 +116,6 @@ impl<'a> Line<'a> {
                 Ok(u64::MAX)
             }
         }
-    }
-
-    fn number_in(&mut self, range: RangeInclusive<u64>) -> Result<u64, Kind> {
-        let word = self.word()?;
-        self.digits(word, range)
     }
 
     fn number(&mut self) -> Result<u64, Kind> {
@@ -135,8 +128,9 @@ impl<'a> Line<'a> {
 
     /// The number of a version, behind its @.
     fn version(&mut self) -> Result<u64, Kind> {
-        let digits = self.word()?.strip_prefix(b"@").ok_or(Kind::Syntax)?;
-        self.digits(digits, 0..=u64::MAX)
+        let rest = self.rest.ok_or(Kind::Syntax)?;
+        self.rest = Some(rest.strip_prefix(b"@").ok_or(Kind::Syntax)?);
+        self.number()
     }
 
     fn op(&mut self, lines: usize) -> Result<Op, Kind> {
@@ -351,49 +345,71 @@ pub fn read_logs(text: &[u8]) -> Result<Logs, Refused> {
     })
 }
 
-pub fn write_contents(out: &mut Vec<u8>, contents: &Contents) -> io::Result<()> {
-    write!(out, " @{}", contents.version)?;
-    for word in contents.words {
-        write!(out, " {word}")?;
-    }
-    Ok(())
+/// Appends a blank and a number.
+pub fn push_field(out: &mut Vec<u8>, value: u64) {
+    out.push(b' ');
+    digits::push(out, value);
 }
 
-fn write_op(out: &mut Vec<u8>, op: &Op) -> io::Result<()> {
-    let Op { action, line, word } = *op;
-    match action {
-        Action::Load => write!(out, "load {line} {word}"),
-        Action::Store(new) => write!(out, "store {line} {word} {new}"),
-        Action::MaskSwap { mask, data } => write!(out, "mask-swap {line} {word} {mask} {data}"),
-        Action::CompareSwap { expected, data } => {
-            write!(out, "compare-swap {line} {word} {expected} {data}")
-        }
-        Action::FetchAdd(addend) => write!(out, "fetch-add {line} {word} {addend}"),
-        Action::BoundedAdd { bound, addend } => {
-            write!(out, "bounded-add {line} {word} {bound} {addend}")
-        }
-        Action::WrapAdd { bound, addend } => write!(out, "wrap-add {line} {word} {bound} {addend}"),
+pub fn push_contents(out: &mut Vec<u8>, contents: &Contents) {
+    out.extend_from_slice(b" @");
+    digits::push(out, contents.version);
+    for word in contents.words {
+        push_field(out, word);
     }
+}
+
+fn push_op(out: &mut Vec<u8>, op: &Op) {
+    let (name, operands): (&[u8], &[u64]) = match op.action {
+        Action::Load => (b"load", &[]),
+        Action::Store(new) => (b"store", &[new]),
+        Action::MaskSwap { mask, data } => (b"mask-swap", &[mask, data]),
+        Action::CompareSwap { expected, data } => (b"compare-swap", &[expected, data]),
+        Action::FetchAdd(addend) => (b"fetch-add", &[addend]),
+        Action::BoundedAdd { bound, addend } => (b"bounded-add", &[bound, addend]),
+        Action::WrapAdd { bound, addend } => (b"wrap-add", &[bound, addend]),
+    };
+    out.extend_from_slice(name);
+    push_field(out, u64::from(op.line));
+    push_field(out, u64::from(op.word));
+    for operand in operands {
+        push_field(out, *operand);
+    }
+}
+
+fn push_entry(out: &mut Vec<u8>, node: usize, entry: &Entry) {
+    digits::push(out, node as u64);
+    push_field(out, u64::from(entry.serial));
+    out.push(b' ');
+    push_op(out, &entry.op);
+    match entry.reply {
+        Some(word) => {
+            out.extend_from_slice(b" = ");
+            digits::push(out, word);
+        }
+        None => out.extend_from_slice(b" = -"),
+    }
+    out.extend_from_slice(b" @");
+    digits::push(out, entry.version);
+    out.push(b'\n');
 }
 
 /// The text of logs, in format 2.
-pub fn logs_text(logs: &Logs) -> io::Result<Vec<u8>> {
-    let mut out = Vec::new();
-    writeln!(out, "log 2 {} {}", logs.nodes.len(), logs.last.len())?;
+pub fn logs_text(logs: &Logs) -> Vec<u8> {
+    let mut out = b"log 2".to_vec();
+    push_field(&mut out, logs.nodes.len() as u64);
+    push_field(&mut out, logs.last.len() as u64);
+    out.push(b'\n');
     for (line, contents) in logs.last.iter().enumerate() {
-        write!(out, "last {line}")?;
-        write_contents(&mut out, contents)?;
+        out.extend_from_slice(b"last");
+        push_field(&mut out, line as u64);
+        push_contents(&mut out, contents);
         out.push(b'\n');
     }
     for (node, log) in logs.nodes.iter().enumerate() {
         for entry in log {
-            write!(out, "{node} {} ", entry.serial)?;
-            write_op(&mut out, &entry.op)?;
-            match entry.reply {
-                Some(word) => writeln!(out, " = {word} @{}", entry.version)?,
-                None => writeln!(out, " = - @{}", entry.version)?,
-            }
+            push_entry(&mut out, node, entry);
         }
     }
-    Ok(out)
+    out
 }
