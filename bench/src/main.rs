@@ -2,9 +2,11 @@
 //!
 //!     plain oracle | replay | threads [--turns T] | audit | upgrade | decode
 //!     plain circle TIMES
+//!     plain hop TIMES
 
 mod audit;
 mod digits;
+mod hop;
 mod machine;
 mod memory;
 mod node;
@@ -83,6 +85,10 @@ fn decoded(input: Result<Vec<u8>, Kind>) -> (Vec<u8>, u8) {
 fn main() -> ExitCode {
     let words: Vec<String> = env::args().skip(1).collect();
     let words: Vec<&str> = words.iter().map(String::as_str).collect();
+    if let ["hop", times] = words[..] {
+        println!("{:.1} ns", hop::nanoseconds(times.parse().unwrap_or(1)));
+        return ExitCode::SUCCESS;
+    }
     let commands = ["oracle", "replay", "threads", "audit", "upgrade", "decode", "circle"];
     if !words.first().is_some_and(|it| commands.contains(it)) {
         eprintln!("{USAGE}");

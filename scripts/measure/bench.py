@@ -3,12 +3,15 @@
 
     scripts/measure/bench.py [RUNS [SUBJECT ..]]    9 runs of each, and all subjects, if it isn't said
 
-The subjects are oracle, replay, audit, upgrade, decode, threads and circle. Both programs have to write the same bytes, also
+The subjects are oracle, replay, audit, upgrade, decode, threads, circle and hop. Both programs have to write the same bytes, also
 on the stored cases. What threads write differs from run to run, so both programs have to find both logs lawful. Then both run
 in turn. For each subject a table is printed: the median and the best of the time by the clock and of the processor time, the
-peak of memory of one more run, and what scimem takes divided by what the plain program takes. `make bench` builds the programs
-before. It needs GNU time."""
+peak of memory of one more run, and what scimem takes divided by what the plain program takes. Beside them stands what `cat` takes
+to read the same input and to write the same output, and how many MB of both scimem moves in a second of processor time. At the
+end stands the geometric mean of the quotients of the best times. A hop is what it takes to move a cache line from one processor
+to another and back, halved. `make bench` builds the programs before. It needs GNU time."""
 
+import math
 import os
 import re
 import shutil
@@ -19,7 +22,7 @@ import tempfile
 import time
 from collections import namedtuple
 
-from programs import CIRCLE, INPUTS, PLAIN, SCIMEM, TOP, WORKLOADS
+from programs import CIRCLE, INPUTS, PLAIN, SCIMEM, TOP, WORKLOADS, output
 
 sys.path.append(f"{TOP}/scripts/gate")
 
@@ -63,13 +66,13 @@ def rows(room, subjects):
     if "decode" in subjects:
         yield Row("decode, 134,217,448 bytes", ["decode"], made(room, "packets", INPUTS, "packets"))
     if "threads" in subjects:
-        for name, path in workloads(room, (1, 2, 4)):
+        for name, path in workloads(room, (1, 2, 4, 16)):
             yield Row(f"threads, {name}", ["threads"], path)
 
 
-def ran(program, row, output):
+def ran(program, row, out):
     """Runs a program on the input of a row, and answers its status and what it took."""
-    with open(row.path, "rb") as given, open(output, "wb") as taken:
+    with open(row.path, "rb") as given, open(out, "wb") as taken:
         start = time.monotonic()
         files = [(os.POSIX_SPAWN_DUP2, given.fileno(), 0), (os.POSIX_SPAWN_DUP2, taken.fileno(), 1)]
         child = os.posix_spawn(program, [program, *row.words], os.environ, file_actions=files)
@@ -87,6 +90,12 @@ def peak(program, row):
     return int(done.stderr.split()[-1]) / 1024
 
 
+def copied(row, out, runs):
+    """The least processor time of cat to read the input of a row, and to write its output."""
+    words = ["sh", "-c", f'cat "{row.path}" > "{out}.copy"; cat "{out}" > "{out}.copy"']
+    return min(ran("/bin/sh", Row(row.name, words[1:], os.devnull), f"{out}.none")[1].processor for _ in range(runs))
+
+
 def is_lawful(path):
     """Whether both programs find a log lawful."""
     found = []
@@ -99,7 +108,7 @@ def is_lawful(path):
 def agree(room, row):
     """Whether both programs answer the same; of a run by threads, whether both logs are lawful."""
     outputs = [f"{room}/out-{number}" for number in range(2)]
-    statuses = [ran(program, row, output)[0] for program, output in zip((SCIMEM, PLAIN), outputs)]
+    statuses = [ran(program, row, out)[0] for program, out in zip((SCIMEM, PLAIN), outputs)]
     if row.words == ["threads"]:
         return statuses == [0, 0] and all(map(is_lawful, outputs))
     return statuses[0] == statuses[1] and subprocess.run(["cmp", "-s", *outputs]).returncode == 0
@@ -122,8 +131,8 @@ def spread(values, form):
     return f"{form.format(statistics.median(values))} / {form.format(min(values))}"
 
 
-def tell(row, ours, plain):
-    """Prints a row: what each program took, and the quotients."""
+def tell(row, ours, plain, out):
+    """Prints a row: what each program took, and the quotients. Answers that of the best processor times."""
     cells = [row.name]
     for part, form in (("clock", "{:.3f}"), ("processor", "{:.3f}")):
         pair = [[getattr(it, part) for it in found] for found in (ours, plain)]
@@ -131,14 +140,23 @@ def tell(row, ours, plain):
         cells.append(f"{statistics.median(pair[0]) / statistics.median(pair[1]):.2f} / {min(pair[0]) / min(pair[1]):.2f}")
     peaks = [peak(program, row) for program in (SCIMEM, PLAIN)]
     cells += [*(f"{it:.1f}" for it in peaks), f"{peaks[0] / peaks[1]:.2f}"]
+    best = [min(it.processor for it in found) for found in (ours, plain)]
+    moved = (os.path.getsize(row.path) + os.path.getsize(out)) / 1e6
+    cells += [f"{copied(row, out, len(ours)):.3f}", f"{moved / best[0]:.0f}"]
     print("| " + " | ".join(cells) + " |", flush=True)
+    return best[0] / best[1]
+
+
+def geometric_mean(quotients):
+    return math.exp(sum(map(math.log, quotients)) / len(quotients))
 
 
 def measure(room, runs, subjects):
     """Compares and measures all subjects but circle. Answers how many inputs the programs disagree on."""
-    print("| seconds, median / best | scimem, clock | plain | quotient | scimem, processor | plain | quotient | scimem, MB | plain, MB | quotient |")
-    print("|" + "---|" * 10, flush=True)
-    wrong = 0
+    print("| seconds, median / best | scimem, clock | plain | quotient | scimem, processor | plain | quotient | scimem, MB | plain, MB | quotient "
+          "| cat | MB/s |")
+    print("|" + "---|" * 12, flush=True)
+    wrong, quotients = 0, []
     for row in rows(room, subjects):
         if not agree(room, row):
             wrong += 1
@@ -148,7 +166,9 @@ def measure(room, runs, subjects):
         for _ in range(runs):
             ours.append(ran(SCIMEM, row, f"{room}/out")[1])
             plain.append(ran(PLAIN, row, f"{room}/out")[1])
-        tell(row, ours, plain)
+        quotients.append(tell(row, ours, plain, f"{room}/out"))
+    if quotients:
+        print(f"\ngeometric mean of {len(quotients)} rows: {geometric_mean(quotients):.2f}\n", flush=True)
     return wrong
 
 
@@ -163,7 +183,7 @@ def measure_circle(room, runs):
     """The processor time of an operation with all stations in one thread. Both programs have to take as many rounds."""
     print("| nanoseconds an operation, median / best | sci_circle | plain | quotient | rounds |")
     print("|" + "---|" * 5, flush=True)
-    wrong = 0
+    wrong, means = 0, []
     for name, path in workloads(room, (1, 4, 16)):
         ours, plain = [], []
         for _ in range(runs):
@@ -176,24 +196,35 @@ def measure_circle(room, runs):
         count, rounds, _ = ours[0]
         each = [[time / count for _, _, time in found] for found in (ours, plain)]
         quotients = [f"{of(each[0]) / of(each[1]):.2f}" for of in (statistics.median, min)]
+        means.append(min(each[0]) / min(each[1]))
         cells = [f"circle, {name}", *(spread(it, "{:.0f}") for it in each), " / ".join(quotients), f"{rounds:,}"]
         print("| " + " | ".join(cells) + " |", flush=True)
+    if means:
+        print(f"\ngeometric mean of {len(means)} rows: {geometric_mean(means):.2f}\n", flush=True)
     return wrong
+
+
+def measure_hop(runs):
+    """What a hop of a cache line takes."""
+    hops = [float(output([PLAIN, "hop", "1000000"]).split()[0]) for _ in range(runs)]
+    print(f"a hop of a cache line, nanoseconds, median / best: {spread(hops, '{:.0f}')}\n", flush=True)
 
 
 def main(words):
     runs = int(words[0]) if words else 9
-    subjects = words[1:] or [*COMMANDS, "threads", "circle"]
+    subjects = words[1:] or [*COMMANDS, "threads", "circle", "hop"]
     missing = [it for it in (SCIMEM, PLAIN, *([CIRCLE] if "circle" in subjects else [])) if not os.access(it, os.X_OK)]
     if missing:
         print(f"these programs aren't built: {', '.join(missing)}; run make bench")
         return 1
     room, failed = tempfile.mkdtemp(prefix="bench-"), 0
     try:
-        if subjects != ["circle"]:
+        if set(subjects) - {"circle", "hop"}:
             failed += measure(room, runs, subjects)
         if "circle" in subjects:
             failed += measure_circle(room, runs)
+        if "hop" in subjects:
+            measure_hop(runs)
     finally:
         shutil.rmtree(room)
     count, wrong = differing_cases()
