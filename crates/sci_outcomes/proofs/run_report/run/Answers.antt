@@ -1,7 +1,16 @@
-use Rattle.std.proofs.Common.{rules, ◌≡◌, refl}
-use Rattle.sci_text.specs.{Script.{script_text}, Tap.{has_failed}}
+use Rattle.std.proofs.Common.{rules, ◌≡◌, ◌≤◌, ℕ, Option, Some, None, arith, refl}
+use Rattle.std.specs.Prelude.{unwrap_or}
+use Rattle.sci_words.specs.declared.limits.TheConstants.{MAX_TURNS}
+use Rattle.sci_text.specs.{Script.{IsScript, ScriptValue, script_text}, Tap.{has_failed}}
+use Rattle.sci_runs.specs.Turns.{circle_turns}
 use Rattle.sci_outcomes.proofs.Ran.{run_answer}
 use Rattle.sci_outcomes.proofs.run_report.run.Goals as goal
+
+-- turns without a limit are enough for a circle
+enough : (asked : Option ℕ) (script : ScriptValue) (turns : ℕ) → IsScript script → asked ≡ None → turns ≡ unwrap_or asked MAX_TURNS
+    → circle_turns script.nodes ≤ turns
+enough None script turns good none is = let few = good.size.few_nodes in omega (arith, few, is)
+enough (Some asked) script turns good none is = cc
 
 pub returns : goal.returns
 returns g c = (
@@ -21,7 +30,9 @@ returns g c = (
             played = search rules;
             few = search rules;
             all = search rules;
-            circle = λ none unlimited. ?;
+            circle = λ none unlimited. c.in-Ok.ensures.circle none
+                (enough c.args.request.turns c.in_ok-script.script c.unwrap_or.result (search rules) unlimited
+                (search rules));
             written = search rules;
           },
         ),
