@@ -4,8 +4,9 @@ use sci_cache::Held;
 use sci_core::Machine;
 use sci_home::HomeState;
 use sci_packets::NodeId;
+use sci_statistics::{held_at, home_at};
 use sci_text::{push_field, push_text};
-use sci_traces::{held_at, home_at, push_node};
+use sci_traces::push_node;
 use std::alloc::AllocError;
 
 /// What a chart says of a cache's state: its name and its neighbours.

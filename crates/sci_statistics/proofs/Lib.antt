@@ -2,3 +2,8 @@ pub mod Rising
 pub mod Waiting
 pub mod Walked
 pub mod FigureTexts
+pub mod Counts
+pub mod Kept
+pub mod Covered
+pub mod Places
+pub mod TableCases

@@ -1,4 +1,5 @@
 pub mod About
+pub mod Standing
 pub mod Kinds
 pub mod Passages
 pub mod Measures
@@ -6,3 +7,7 @@ pub mod Figures
 pub mod Levels
 pub mod Waits
 pub mod StatsAnswer
+pub mod Transitions
+pub mod Meetings
+pub mod Coverage
+pub mod TransitionsAnswer

@@ -29,7 +29,11 @@ fn push_figure(out: &mut Vec<u8>, group: &[u8], figure: &(&str, u64)) -> Result<
 }
 
 /// Appends the figures of a group.
-fn push_figures(out: &mut Vec<u8>, group: &[u8], figures: &[(&str, u64)]) -> Result<(), AllocError>
+pub(crate) fn push_figures(
+    out: &mut Vec<u8>,
+    group: &[u8],
+    figures: &[(&str, u64)],
+) -> Result<(), AllocError>
     ensures { OnOk result
         (out.new.items ≡ out.old.items ++ figures_text group.now (map named figures.now)) }
 {

@@ -7,7 +7,7 @@ use Rattle.sci_history.specs.declared.entry.Entry.{Entry}
 use Rattle.sci_core.specs.{declared.obstacle.Obstacle.{Obstacle}, Core.{Core, node_of, stepping}}
 use Rattle.sci_core.specs.Obstacles.{obstacle_name, obstacle_to}
 use Rattle.sci_traces.specs.declared.json_event.When.TheVariants.{Before, After}
-use Rattle.sci_traces.specs.JsonMembers.{Adds, text_member, truth_member}
+use Rattle.sci_json.specs.Members.{Adds, text_member, truth_member}
 use Rattle.sci_traces.specs.JsonEvent.{line_member, logged_member, moved_members, obstacle_member, outcome_members, standing_members}
 use Rattle.sci_traces.specs.Logged.{entry_logged}
 use Rattle.sci_statistics.specs.About.{line_changed}

@@ -7,10 +7,11 @@ use Rattle.sci_cache.specs.Cache.{Letter}
 use Rattle.sci_core.specs.{declared.obstacle.Obstacle.{Obstacle}, Core.{Core, node_of, stepping}}
 use Rattle.sci_core.specs.Obstacles.{obstacle_name, obstacle_to}
 use Rattle.sci_text.specs.Schedule.{event_word}
-use Rattle.sci_traces.specs.JsonMembers.{number_member, object_member, optional_member, text_member, truth_member}
-use Rattle.sci_traces.specs.JsonParts.{entry_members, home_members, operation_members, packet_members, state_members}
+use Rattle.sci_json.specs.Members.{number_member, object_member, optional_member, text_member, truth_member}
+use Rattle.sci_json.specs.Parts.{entry_members, home_members, operation_members, packet_members, state_members}
 use Rattle.sci_traces.specs.{declared.json_event.When.{When, TheVariants.{Before, After}}, Logged.{entry_logged}}
-use Rattle.sci_traces.specs.Standing.{cache_at, home_at, said}
+use Rattle.sci_statistics.specs.Standing.{cache_at, home_at}
+use Rattle.sci_traces.specs.Standing.{said}
 use Rattle.sci_statistics.specs.About.{letter_sent, letter_taken, line_changed}
 use Rattle.sci_words.specs.declared.event.Event.TheVariants as event
 

@@ -5,6 +5,4 @@ pub mod ObstacleWords
 pub mod TraceAnswer
 pub mod ListsAnswer
 pub mod Logged
-pub mod JsonMembers
-pub mod JsonParts
 pub mod JsonEvent

@@ -11,7 +11,8 @@ use Rattle.sci_command.specs.Beginning.{before}
 use Rattle.sci_text.specs.{Number.{number, field}, Schedule.{ScheduleValue, IsSchedule, schedule_text}}
 use Rattle.sci_command.specs.{declared.outcome.Outcome.{Outcome}, Answer.{IsDoneBy}, PacketLine.{contents_text}}
 use Rattle.sci_command.specs.AskedLine.{HasLine, IsAskedFault, is_asked}
-use Rattle.sci_traces.specs.Standing.{cache_at, home_at, said}
+use Rattle.sci_statistics.specs.Standing.{cache_at, home_at}
+use Rattle.sci_traces.specs.Standing.{said}
 
 -- the line that an event may change, if the machine has it
 abbrev pub line_within : Core → Option ℕ → Option ℕ

@@ -12,7 +12,8 @@ use Rattle.sci_text.specs.Schedule.{ScheduleValue, IsSchedule, event_line, sched
 use Rattle.sci_command.specs.{declared.outcome.Outcome.{Outcome, TheVariants.{Done, Unlawful}}, Answer.{IsAnswerBy}}
 use Rattle.sci_command.specs.{PacketLine.{line_of_packet}, AskedLine.{HasLine, IsAskedFault, is_asked}}
 use Rattle.sci_traces.specs.{declared.tracing.TraceRequest.{TraceRequest}, JsonEvent.{json_line}, Logged.{entry_logged}}
-use Rattle.sci_traces.specs.{Standing.{cache_at, home_at, said}, StateWords.{state_text, home_text}}
+use Rattle.sci_statistics.specs.Standing.{cache_at, home_at}
+use Rattle.sci_traces.specs.{Standing.{said}, StateWords.{state_text, home_text}}
 use Rattle.sci_traces.specs.ObstacleWords.{line_named, obstacle_words}
 
 -- ---- packets

@@ -7,14 +7,13 @@ ghost use Rattle.sci_traces.specs.Logged.{entry_logged, last_entry as last_entry
 ghost use Rattle.sci_traces.specs.TraceAnswer.{arrow_text, cache_label, cache_on, cache_text, change_text, changes_text, entry_text, event_text};
 ghost use Rattle.sci_traces.specs.TraceAnswer.{home_label, home_on, home_words as home_words_of, moved_text, outcome_of, reason_line, reason_text};
 
-use crate::node_states::{held_at, home_at};
 use crate::obstacle_words::{line_named, push_obstacle};
 use crate::state_words::{push_home, push_state};
 use sci_command::{push_labelled, push_packet};
 use sci_core::{ApplyFault, Machine, Obstacle, node_of};
 use sci_history::Entry;
 use sci_packets::Packet;
-use sci_statistics::{line_changed, sent, taken};
+use sci_statistics::{held_at, home_at, line_changed, sent, taken};
 use sci_text::{push_entry, push_event_line, push_number, push_text};
 use sci_words::Event;
 use std::alloc::{AllocError, Global};

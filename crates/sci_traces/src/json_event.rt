@@ -3,20 +3,21 @@
 ghost use Rattle.std.specs.Prelude.{◌≡◌, ◌++◌, IfOk, OnOk, is_some, option_map};
 ghost use Rattle.sci_cache.specs.Cache.{letter_of};
 ghost use Rattle.sci_core.specs.Core.{step, stepping};
-ghost use Rattle.sci_traces.specs.{JsonMembers.{Adds}, declared.json_event.When.{When}};
+ghost use Rattle.{sci_json.specs.Members.{Adds}, sci_traces.specs.declared.json_event.When.{When}};
 ghost use Rattle.sci_traces.specs.JsonEvent.{cache_member, cache_name, home_member, home_name, json_line, line_member, logged_member, moved_members};
 ghost use Rattle.sci_traces.specs.JsonEvent.{outcome_members, packet_member, part_members, standing_members};
 ghost use Rattle.sci_traces.specs.JsonEvent.{naming_members, taking_members};
 
 use crate::event_words::entry_of;
-use crate::json_members::{write_number, write_text, write_truth};
-use crate::json_parts::{write_entry, write_home, write_operation, write_packet, write_state};
-use crate::node_states::{held_at, home_at};
 use json::Writer;
 use sci_core::{Machine, node_of};
 use sci_history::Entry;
+use sci_json::{
+    write_entry, write_home, write_number, write_operation, write_packet, write_state, write_text,
+    write_truth,
+};
 use sci_packets::Packet;
-use sci_statistics::{line_changed, sent, taken};
+use sci_statistics::{held_at, home_at, line_changed, sent, taken};
 use sci_words::{Event, EventKind};
 use std::alloc::{AllocError, Global};
 
@@ -60,7 +61,7 @@ fn write_parts(out: &mut Writer, event: &Event) -> Result<(), AllocError>
 }
 
 /// Writes a packet, if there is one.
-#[tactic(auto, unfolding(crate::specs::JsonEvent::packet_member, crate::specs::JsonMembers::object_member))]
+#[tactic(auto, unfolding(crate::specs::JsonEvent::packet_member, sci_json::specs::Members::object_member))]
 fn write_moved(out: &mut Writer, name: &str, packet: Option<Packet>) -> Result<(), AllocError>
     ensures { OnOk result
         (Adds out.old out.new (packet_member name.now (option_map letter_of packet))) }
@@ -111,7 +112,7 @@ struct At<'a> {
 }
 
 /// Writes the state of a line in a node's cache, if there are both.
-#[tactic(auto, unfolding(crate::specs::JsonEvent::cache_member, crate::specs::JsonMembers::object_member))]
+#[tactic(auto, unfolding(crate::specs::JsonEvent::cache_member, sci_json::specs::Members::object_member))]
 fn write_cache(out: &mut Writer, when: When, at: At<'_>, line: u8) -> Result<(), AllocError>
     ensures { OnOk result
         (Adds out.old out.new (cache_member (cache_name when) at.entry.machine.now at.entry.node line)) }
@@ -126,7 +127,7 @@ fn write_cache(out: &mut Writer, when: When, at: At<'_>, line: u8) -> Result<(),
 }
 
 /// Writes the state of a line's home, if it is at this node.
-#[tactic(auto, unfolding(crate::specs::JsonEvent::home_member, crate::specs::JsonMembers::object_member))]
+#[tactic(auto, unfolding(crate::specs::JsonEvent::home_member, sci_json::specs::Members::object_member))]
 fn write_home_at(out: &mut Writer, when: When, at: At<'_>, line: u8) -> Result<(), AllocError>
     ensures { OnOk result
         (Adds out.old out.new (home_member (home_name when) at.entry.machine.now at.entry.node line)) }
@@ -159,7 +160,7 @@ fn write_standing(
 }
 
 /// Writes the number of a line, if there is one and no word of the event names it.
-#[tactic(auto, unfolding(crate::specs::JsonEvent::line_member, crate::specs::JsonMembers::optional_member))]
+#[tactic(auto, unfolding(crate::specs::JsonEvent::line_member, sci_json::specs::Members::optional_member))]
 fn write_line(out: &mut Writer, event: &Event, line: Option<u8>) -> Result<(), AllocError>
     ensures { OnOk result (Adds out.old out.new (line_member event.now line)) }
 {
@@ -174,7 +175,7 @@ fn write_line(out: &mut Writer, event: &Event, line: Option<u8>) -> Result<(), A
 }
 
 /// Writes the entry of an operation that was performed, if there is one.
-#[tactic(auto, unfolding(crate::specs::JsonEvent::logged_member, crate::specs::JsonMembers::object_member))]
+#[tactic(auto, unfolding(crate::specs::JsonEvent::logged_member, sci_json::specs::Members::object_member))]
 fn write_logged(out: &mut Writer, entry: Option<Entry>) -> Result<(), AllocError>
     ensures { OnOk result (Adds out.old out.new (logged_member entry)) }
 {

@@ -3,10 +3,7 @@
 
 mod event_words;
 mod json_event;
-mod json_members;
-mod json_parts;
 mod listing;
-mod node_states;
 mod obstacle_words;
 mod sending;
 mod state_words;
@@ -15,7 +12,6 @@ mod tracing;
 pub use event_words::{LineWords, push_changes, standing};
 pub use json_event::push_json;
 pub use listing::{ListPlace, listed_line, lists, push_list_behind};
-pub use node_states::{held_at, home_at};
 pub use sending::packets;
 pub use state_words::push_node;
 pub use tracing::{TraceRequest, trace};

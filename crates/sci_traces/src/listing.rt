@@ -11,10 +11,9 @@ ghost use Rattle.sci_command.specs.{Answer.{HasAnswered}, declared.outcome.Outco
 ghost use Rattle.sci_traces.specs.ListsAnswer.{AreListed, IsListLine, IsListed, IsListsAnswer, authority_text, front_text, home_name_text, last_text};
 ghost use Rattle.sci_traces.specs.ListsAnswer.{line_within, listed_line as listed_line_of, member_text, name_text, place_text};
 
-use crate::node_states::{held_at, home_at};
 use sci_command::{Answer, Answered, Outcome, is_asked, put_contents, read_asked};
 use sci_core::{ApplyFault, Machine};
-use sci_statistics::line_changed;
+use sci_statistics::{held_at, home_at, line_changed};
 use sci_text::{LineEnd, Schedule, Tap, push_number, push_text};
 use sci_words::{Event, MAX_OPERATIONS, Stamped};
 use std::alloc::{AllocError, Global};

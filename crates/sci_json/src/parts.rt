@@ -2,14 +2,12 @@
 
 ghost use Rattle.std.specs.Prelude.{◌≡◌, ◌++◌, OnOk};
 ghost use Rattle.sci_cache.specs.{Cache.{letter_of}, Held.{state_of}};
-ghost use Rattle.sci_traces.specs.JsonMembers.{Adds, optional_member};
-ghost use Rattle.sci_traces.specs.JsonParts.{both_members, contents_members, entry_members, home_members, identifier_members, lock_members};
-ghost use Rattle.sci_traces.specs.JsonParts.{operand_members, operation_members, packet_members, reply_member, said_members, state_members};
-ghost use Rattle.sci_traces.specs.JsonParts.{version_member};
+ghost use Rattle.sci_json.specs.Members.{Adds, optional_member};
+ghost use Rattle.sci_json.specs.Parts.{both_members, contents_members, entry_members, home_members, identifier_members, lock_members};
+ghost use Rattle.sci_json.specs.Parts.{operand_members, operation_members, packet_members, reply_member, said_members, state_members};
+ghost use Rattle.sci_json.specs.Parts.{version_member};
 
-use crate::json_members::{
-    write_flag, write_null, write_number, write_text, write_word, write_words,
-};
+use crate::members::{write_flag, write_null, write_number, write_text, write_word, write_words};
 use json::Writer;
 use sci_cache::Held;
 use sci_history::Entry;
@@ -20,7 +18,7 @@ use sci_words::{Act, LockOp, Op, Reply, Stamped, Word};
 use std::alloc::AllocError;
 
 /// Writes a member that is a node, if there is one.
-#[tactic(auto, unfolding(crate::specs::JsonMembers::optional_member))]
+#[tactic(auto, unfolding(crate::specs::Members::optional_member))]
 fn write_node(out: &mut Writer, name: &str, node: Option<NodeId>) -> Result<(), AllocError>
     ensures { OnOk result (Adds out.old out.new (optional_member name.now node)) }
 {
@@ -31,7 +29,7 @@ fn write_node(out: &mut Writer, name: &str, node: Option<NodeId>) -> Result<(), 
 }
 
 /// Writes the identifier of a packet, or that there is none.
-#[tactic(auto, unfolding(crate::specs::JsonParts::identifier_members))]
+#[tactic(auto, unfolding(crate::specs::Parts::identifier_members))]
 fn write_identifier(out: &mut Writer, identifier: Option<NodeId>) -> Result<(), AllocError>
     ensures { OnOk result (Adds out.old out.new (identifier_members identifier)) }
 {
@@ -42,7 +40,7 @@ fn write_identifier(out: &mut Writer, identifier: Option<NodeId>) -> Result<(), 
 }
 
 /// Writes the contents of a line.
-#[tactic(auto, unfolding(crate::specs::JsonParts::contents_members))]
+#[tactic(auto, unfolding(crate::specs::Parts::contents_members))]
 fn write_contents(out: &mut Writer, contents: &Stamped) -> Result<(), AllocError>
     ensures { OnOk result (Adds out.old out.new (contents_members contents.now)) }
 {
@@ -51,7 +49,7 @@ fn write_contents(out: &mut Writer, contents: &Stamped) -> Result<(), AllocError
 }
 
 /// Writes what a command says beside its header.
-#[tactic(auto, unfolding(crate::specs::JsonParts::said_members))]
+#[tactic(auto, unfolding(crate::specs::Parts::said_members))]
 fn write_said(out: &mut Writer, body: &Body) -> Result<(), AllocError>
     ensures { OnOk result (Adds out.old out.new (said_members body.now)) }
 {
@@ -71,7 +69,7 @@ fn write_said(out: &mut Writer, body: &Body) -> Result<(), AllocError>
 }
 
 /// Writes the members of a packet. Refused if memory is.
-#[tactic(auto, unfolding(crate::specs::JsonParts::packet_members))]
+#[tactic(auto, unfolding(crate::specs::Parts::packet_members))]
 pub fn write_packet(out: &mut Writer, packet: &Packet) -> Result<(), AllocError>
     ensures { OnOk result (Adds out.old out.new (packet_members (letter_of packet.now))) }
 {
@@ -84,7 +82,7 @@ pub fn write_packet(out: &mut Writer, packet: &Packet) -> Result<(), AllocError>
 }
 
 /// Writes the version of contents, if there are any.
-#[tactic(auto, unfolding(crate::specs::JsonParts::version_member))]
+#[tactic(auto, unfolding(crate::specs::Parts::version_member))]
 fn write_version(out: &mut Writer, contents: Option<Stamped>) -> Result<(), AllocError>
     ensures { OnOk result (Adds out.old out.new (version_member contents)) }
 {
@@ -95,7 +93,7 @@ fn write_version(out: &mut Writer, contents: Option<Stamped>) -> Result<(), Allo
 }
 
 /// Writes the members of a cache's state. Refused if memory is.
-#[tactic(auto, unfolding(crate::specs::JsonParts::state_members))]
+#[tactic(auto, unfolding(crate::specs::Parts::state_members))]
 pub fn write_state(out: &mut Writer, held: &Held) -> Result<(), AllocError>
     ensures { OnOk result (Adds out.old out.new (state_members (state_of held.now))) }
 {
@@ -107,7 +105,7 @@ pub fn write_state(out: &mut Writer, held: &Held) -> Result<(), AllocError>
 }
 
 /// Writes the members of a home's state. Refused if memory is.
-#[tactic(auto, unfolding(crate::specs::JsonParts::home_members))]
+#[tactic(auto, unfolding(crate::specs::Parts::home_members))]
 pub fn write_home(out: &mut Writer, home: &Home) -> Result<(), AllocError>
     ensures { OnOk result (Adds out.old out.new (home_members home.now)) }
 {
@@ -117,7 +115,7 @@ pub fn write_home(out: &mut Writer, home: &Home) -> Result<(), AllocError>
 }
 
 /// Writes two operands.
-#[tactic(auto, unfolding(crate::specs::JsonParts::both_members))]
+#[tactic(auto, unfolding(crate::specs::Parts::both_members))]
 fn write_both(out: &mut Writer, arg: Word, datum: Word) -> Result<(), AllocError>
     ensures { OnOk result (Adds out.old out.new (both_members arg datum)) }
 {
@@ -126,7 +124,7 @@ fn write_both(out: &mut Writer, arg: Word, datum: Word) -> Result<(), AllocError
 }
 
 /// Writes the operands of a lock operation.
-#[tactic(auto, unfolding(crate::specs::JsonParts::lock_members))]
+#[tactic(auto, unfolding(crate::specs::Parts::lock_members))]
 fn write_lock(out: &mut Writer, lock: LockOp) -> Result<(), AllocError>
     ensures { OnOk result (Adds out.old out.new (lock_members lock)) }
 {
@@ -140,7 +138,7 @@ fn write_lock(out: &mut Writer, lock: LockOp) -> Result<(), AllocError>
 }
 
 /// Writes the operands of an operation.
-#[tactic(auto, unfolding(crate::specs::JsonParts::operand_members))]
+#[tactic(auto, unfolding(crate::specs::Parts::operand_members))]
 fn write_operands(out: &mut Writer, act: Act) -> Result<(), AllocError>
     ensures { OnOk result (Adds out.old out.new (operand_members act)) }
 {
@@ -152,7 +150,7 @@ fn write_operands(out: &mut Writer, act: Act) -> Result<(), AllocError>
 }
 
 /// Writes the members of an operation. Refused if memory is.
-#[tactic(auto, unfolding(crate::specs::JsonParts::operation_members))]
+#[tactic(auto, unfolding(crate::specs::Parts::operation_members))]
 pub fn write_operation(out: &mut Writer, op: Op) -> Result<(), AllocError>
     ensures { OnOk result (Adds out.old out.new (operation_members op)) }
 {
@@ -163,7 +161,7 @@ pub fn write_operation(out: &mut Writer, op: Op) -> Result<(), AllocError>
 }
 
 /// Writes what an operation answered.
-#[tactic(auto, unfolding(crate::specs::JsonParts::reply_member))]
+#[tactic(auto, unfolding(crate::specs::Parts::reply_member))]
 fn write_reply(out: &mut Writer, reply: Reply) -> Result<(), AllocError>
     ensures { OnOk result (Adds out.old out.new (reply_member reply)) }
 {
@@ -174,7 +172,7 @@ fn write_reply(out: &mut Writer, reply: Reply) -> Result<(), AllocError>
 }
 
 /// Writes the members of an entry. Refused if memory is.
-#[tactic(auto, unfolding(crate::specs::JsonParts::entry_members))]
+#[tactic(auto, unfolding(crate::specs::Parts::entry_members))]
 pub fn write_entry(out: &mut Writer, entry: &Entry) -> Result<(), AllocError>
     ensures { OnOk result (Adds out.old out.new (entry_members entry.now)) }
 {

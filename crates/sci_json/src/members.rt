@@ -1,15 +1,15 @@
 //! The members of JSON objects.
 
 ghost use Rattle.std.specs.Prelude.{◌≡◌, ◌++◌, OnOk};
-ghost use Rattle.sci_traces.specs.JsonMembers.{Adds, flag_member, null_member, number_member, optional_member, text_member, truth_member, word_member};
-ghost use Rattle.sci_traces.specs.JsonMembers.{words_member};
+ghost use Rattle.sci_json.specs.Members.{Adds, flag_member, null_member, number_member, optional_member, text_member, truth_member, word_member};
+ghost use Rattle.sci_json.specs.Members.{words_member};
 
 use json::Writer;
 use sci_words::{Line, Word};
 use std::alloc::AllocError;
 
 /// Writes a member that is a number.
-#[tactic(auto, unfolding(crate::specs::JsonMembers::number_member))]
+#[tactic(auto, unfolding(crate::specs::Members::number_member))]
 pub fn write_number(out: &mut Writer, name: &str, n: u64) -> Result<(), AllocError>
     ensures { OnOk result (Adds out.old out.new (number_member name.now n)) }
 {
@@ -19,7 +19,7 @@ pub fn write_number(out: &mut Writer, name: &str, n: u64) -> Result<(), AllocErr
 
 /// Writes a member that is a word of memory or an operand, as a string: readers that hold numbers as doubles would round
 /// it.
-#[tactic(auto, unfolding(crate::specs::JsonMembers::word_member))]
+#[tactic(auto, unfolding(crate::specs::Members::word_member))]
 pub fn write_word(out: &mut Writer, name: &str, word: Word) -> Result<(), AllocError>
     ensures { OnOk result (Adds out.old out.new (word_member name.now word)) }
 {
@@ -28,7 +28,7 @@ pub fn write_word(out: &mut Writer, name: &str, word: Word) -> Result<(), AllocE
 }
 
 /// Writes a member that is a text.
-#[tactic(auto, unfolding(crate::specs::JsonMembers::text_member))]
+#[tactic(auto, unfolding(crate::specs::Members::text_member))]
 pub fn write_text(out: &mut Writer, name: &str, text: &str) -> Result<(), AllocError>
     ensures { OnOk result (Adds out.old out.new (text_member name.now text.now)) }
 {
@@ -37,7 +37,7 @@ pub fn write_text(out: &mut Writer, name: &str, text: &str) -> Result<(), AllocE
 }
 
 /// Writes a member that is true or false.
-#[tactic(auto, unfolding(crate::specs::JsonMembers::truth_member))]
+#[tactic(auto, unfolding(crate::specs::Members::truth_member))]
 pub fn write_truth(out: &mut Writer, name: &str, truth: bool) -> Result<(), AllocError>
     ensures { OnOk result (Adds out.old out.new (truth_member name.now truth)) }
 {
@@ -46,7 +46,7 @@ pub fn write_truth(out: &mut Writer, name: &str, truth: bool) -> Result<(), Allo
 }
 
 /// Writes a member that is null.
-#[tactic(auto, unfolding(crate::specs::JsonMembers::null_member))]
+#[tactic(auto, unfolding(crate::specs::Members::null_member))]
 pub fn write_null(out: &mut Writer, name: &str) -> Result<(), AllocError>
     ensures { OnOk result (Adds out.old out.new (null_member name.now)) }
 {
@@ -55,7 +55,7 @@ pub fn write_null(out: &mut Writer, name: &str) -> Result<(), AllocError>
 }
 
 /// Writes a member that is true, or none.
-#[tactic(auto, unfolding(crate::specs::JsonMembers::flag_member))]
+#[tactic(auto, unfolding(crate::specs::Members::flag_member))]
 pub fn write_flag(out: &mut Writer, name: &str, flag: bool) -> Result<(), AllocError>
     ensures { OnOk result (Adds out.old out.new (flag_member name.now flag)) }
 {
@@ -67,7 +67,7 @@ pub fn write_flag(out: &mut Writer, name: &str, flag: bool) -> Result<(), AllocE
 }
 
 /// Writes a member that is the words of a line, each a string.
-#[tactic(auto, unfolding(crate::specs::JsonMembers::words_member))]
+#[tactic(auto, unfolding(crate::specs::Members::words_member))]
 pub fn write_words(out: &mut Writer, name: &str, line: &Line) -> Result<(), AllocError>
     ensures { OnOk result (Adds out.old out.new (words_member name.now line.now)) }
 {

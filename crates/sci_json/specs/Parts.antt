@@ -13,7 +13,7 @@ use Rattle.sci_cache.specs.Cache.{Letter}
 use Rattle.sci_cache.specs.State.{CacheState, backward_of, contents_of, forward_of, is_sent, state_name}
 use Rattle.sci_home.specs.{declared.state.HomeState.{HomeState}, Serving.{current_of, head_of, home_name}}
 use Rattle.sci_text.specs.Operation.{act_word}
-use Rattle.sci_traces.specs.JsonMembers.{flag_member, null_member, number_member, optional_member, text_member, word_member, words_member}
+use Rattle.sci_json.specs.Members.{flag_member, null_member, number_member, optional_member, text_member, word_member, words_member}
 
 -- ---- packets
 

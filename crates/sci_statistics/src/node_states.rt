@@ -2,7 +2,7 @@
 
 ghost use Rattle.std.specs.Prelude.{◌≡◌, option_map};
 ghost use Rattle.sci_cache.specs.Held.{state_of};
-ghost use Rattle.sci_traces.specs.Standing.{cache_at, home_at as home_at_of};
+ghost use Rattle.sci_statistics.specs.Standing.{cache_at, home_at as home_at_of};
 
 use sci_cache::Held;
 use sci_core::Machine;

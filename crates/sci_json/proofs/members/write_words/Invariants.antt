@@ -1,8 +1,8 @@
 use Rattle.std.proofs.Common.{◌∷◌, map, take}
 use Rattle.std.specs.Prelude.{decimal}
 use Rattle.json.specs.Token.{begin_array, key, string}
-use Rattle.sci_traces.specs.JsonMembers.{Adds}
-use Rattle.sci_traces.proofs.json_members.write_words.Given as goal
+use Rattle.sci_json.specs.Members.{Adds}
+use Rattle.sci_json.proofs.members.write_words.Given as goal
 
 -- the words so far
 abbrev pub invariant-loop-word : goal.invariant-loop-word
