@@ -1,5 +1,6 @@
 -- Counts, each at its place.
-use Rattle.std.proofs.Common.{◌≡◌, ◌<◌, ◌≤◌, ℕ, ◌+◌, ◌==◌, List, Bool, true, false, length, min, get_or, set, arith, sym, ap, refl, ◌∙◌, get_or-set_same, get_or-set_other}
+use Rattle.std.proofs.Common.{◌≡◌, ◌<◌, ◌≤◌, ℕ, ◌+◌, ◌==◌, List, Bool, true, false}
+use Rattle.std.proofs.Common.{length, min, get_or, set, arith, sym, ap, refl, ◌∙◌, get_or-set_same, get_or-set_other}
 use Rattle.std.proofs.Common.{◌≢◌, length-set, subst}
 use Rattle.std.proofs.lemmas.Bool.{eqb-true, eqb-false}
 use Rattle.std.specs.Prelude.{cond}

@@ -6,8 +6,11 @@ pub mod Measures
 pub mod Figures
 pub mod Levels
 pub mod Waits
-pub mod StatsAnswer
 pub mod Transitions
 pub mod Meetings
 pub mod Coverage
+pub mod StatsRows
+pub mod PairNames
+pub mod StatsJson
+pub mod StatsAnswer
 pub mod TransitionsAnswer

@@ -1,50 +1,14 @@
 -- What `stats --transitions` writes for its input.
-use Rattle.std.specs.Prelude.{◌≡◌, ℕ, ◌+◌, ◌==◌, Bool, not, List, [], ◌∷◌, ◌++◌, codes, count_by, filter, Option, if◌then◌else◌}
+use Rattle.std.specs.Prelude.{◌≡◌, ℕ, ◌+◌, Bool, List, [], ◌∷◌, ◌++◌, codes, count_by, filter, Option, if◌then◌else◌}
 use Rattle.std.specs.List.{flat_map}
-use Rattle.sci_words.specs.Event.{kind_word}
-use Rattle.sci_packets.specs.Table.{command_name}
 use Rattle.sci_text.specs.{FirstFault.{IsTold}}
 use Rattle.sci_text.specs.{Schedule.{ScheduleValue, IsSchedule, schedule_text}, ScheduleFault.{IsScheduleFault}}
 use Rattle.sci_command.specs.{declared.outcome.Outcome.{Outcome}, Answer.{IsDoneBy}, Beginning.{before}}
-use Rattle.sci_statistics.specs.declared.{coverage.Coverage.{Coverage}, kind.Access.{Access, TheVariants.{Load, Maker}}}
-use Rattle.sci_statistics.specs.declared.transition.{Met.{Met, TheVariants.{Ask, Serve, Accept, Perform}}, StateKind.{StateKind}, Transition.{Transition}}
+use Rattle.sci_statistics.specs.declared.{coverage.Coverage.{Coverage}, transition.Transition.{Transition}}
 use Rattle.sci_statistics.specs.{Coverage.{capped, times}, Meetings.{transitions}, StatsAnswer.{figure_text, figures_text}}
-use Rattle.sci_statistics.specs.Transitions.{is_home, is_transition, kind_name, table}
-
--- ---- names
-
-abbrev pub place_word : StateKind → List ℕ
-place_word state = if is_home state then codes "home" else codes "cache"
-
-abbrev pub met_word : Met → List ℕ
-met_word (Ask kind) = codes "ask"
-met_word (Serve request) = codes "serve"
-met_word (Accept answer) = codes "accept"
-met_word (Perform access) = codes "perform"
-
-abbrev pub access_word : Access → List ℕ
-access_word Load = codes "load"
-access_word Maker = codes "maker"
-
--- the kind of an ask, the command of a packet, or what an operation does
-abbrev pub what_word : Met → List ℕ
-what_word (Ask kind) = kind_word kind
-what_word (Serve request) = command_name request
-what_word (Accept answer) = command_name answer
-what_word (Perform access) = access_word access
-
--- the name of a pair, as `cache.Out.ask.mread`
-unfoldable pub pair_name : Transition → List ℕ
-pair_name t = place_word t.state ++ (46 ∷ kind_name t.state ++ (46 ∷ met_word t.met ++ (46 ∷ what_word t.met)))
+use Rattle.sci_statistics.specs.{PairNames.{has_come, has_never_come, pair_name}, StatsJson.{coverage_json}, Transitions.{is_transition, table}}
 
 -- ---- figures
-
--- whether a pair came
-abbrev pub has_come : Coverage → Transition → Bool
-has_come coverage t = not (times coverage t == 0)
-
-abbrev pub has_never_come : Coverage → Transition → Bool
-has_never_come coverage t = times coverage t == 0
 
 -- a pair that came, and how often; and one that never did
 unfoldable pub count_line : Coverage → Transition → List ℕ
@@ -68,6 +32,10 @@ pairs_text coverage pairs =
 abbrev pub coverage_text : Coverage → List ℕ
 coverage_text coverage = pairs_text coverage table
 
+-- in lines, or as one JSON object
+abbrev pub coverage_shown : Bool → Coverage → List ℕ
+coverage_shown json coverage = if json then coverage_json coverage else coverage_text coverage
+
 -- ---- the answer
 
 -- the counts of a schedule's transitions are added to earlier ones
@@ -83,9 +51,9 @@ pub record AreAdded (so_far coverage : Coverage) (bytes : List ℕ) : Type 0 whe
   pub added : Adds schedule so_far coverage
 
 -- the same, and the counts are written
-abbrev pub IsTransitionsOf : Coverage → List ℕ → List ℕ → Type 0
-IsTransitionsOf so_far input text = (coverage : Coverage) × AreAdded so_far coverage input × (text ≡ coverage_text coverage)
+abbrev pub IsTransitionsOf : Bool → Coverage → List ℕ → List ℕ → Type 0
+IsTransitionsOf json so_far input text = (coverage : Coverage) × AreAdded so_far coverage input × (text ≡ coverage_shown json coverage)
 
 -- what `stats --transitions` writes behind earlier schedules, and how it ends, for the bytes of a reader, which has failed or not
-abbrev pub IsTransitionsAnswer : Coverage → Option (List ℕ) → Bool → List ℕ → Outcome → Type 0
-IsTransitionsAnswer so_far = IsDoneBy (IsTransitionsOf so_far) (IsTold IsScheduleFault)
+abbrev pub IsTransitionsAnswer : Bool → Coverage → Option (List ℕ) → Bool → List ℕ → Outcome → Type 0
+IsTransitionsAnswer json so_far = IsDoneBy (IsTransitionsOf json so_far) (IsTold IsScheduleFault)

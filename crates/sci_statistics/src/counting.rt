@@ -4,13 +4,15 @@ ghost use Rattle.std.specs.{Prelude.{◌≡◌, ◌≤◌, ◌++◌, false, leng
 ghost use Rattle.sci_words.specs.declared.limits.TheConstants.{MAX_EVENTS};
 ghost use Rattle.sci_command.specs.{Answer.{HasAnswered, answer_in}, Beginning.{AreDeadIn}, Input.{IsReadAs}};
 ghost use Rattle.sci_text.specs.Tap.{has_failed, tapped};
-ghost use Rattle.sci_statistics.specs.StatsAnswer.{HasNode, IsStatsAnswer, IsStatsFault, line_part, node_part, shown, stats_text};
+ghost use Rattle.sci_statistics.specs.StatsAnswer.{HasNode, IsStatsAnswer, IsStatsFault, line_part, node_part, passages_text, stats_text};
+ghost use Rattle.sci_statistics.specs.StatsRows.{shown as shown_of};
 
 use crate::event_figures::EventFigures;
 use crate::figures::{push_events, push_line, push_node, push_packets, push_waits};
 use crate::line_figures::LineFigures;
 use crate::node_figures::NodeFigures;
 use crate::passage::Passage;
+use crate::stats_json::stats_json;
 use crate::waits::NodeWaits;
 use crate::walk::passages_of;
 use sci_command::{Answer, Asked, Outcome, Replayed, read_asked};
@@ -26,13 +28,23 @@ pub struct StatsRequest {
     pub line: Option<u8>,
     /// The node whose figures are shown, or None for all nodes.
     pub node: Option<u8>,
+    /// Whether they are shown as one JSON object.
+    pub json: bool,
 }
 
-/// Which of this many lines, or nodes, are shown: the one that is asked for, or all.
-#[derive(Clone, Copy)]
-struct Shown {
-    asked: Option<u8>,
-    count: u8,
+/// The one that is asked for, or all of this many. Refused if memory is.
+fn shown(alloc: Global, asked: Option<u8>, count: u8) -> Result<Vec<u8>, AllocError>
+    ensures { IfOk result (λ found. found.items ≡ shown_of asked count) }
+{
+    let mut found = Vec::new(alloc);
+    if let Some(n) = asked {
+        found.push(n)?;
+        return Ok(found);
+    }
+    for n in 0..count {
+        found.push(n)?;
+    }
+    Ok(found)
 }
 
 /// The node that is asked for, if the machine of a schedule doesn't have it.
@@ -80,48 +92,60 @@ fn push_node_part(
     push_waits(alloc, out, node, &waits)
 }
 
-/// Appends what happened to each line that is shown. Requires that there are at most 500,000 events.
+/// Appends what happened to each of these lines. Requires that there are at most 500,000 events.
 fn push_lines(
     alloc: Global,
     out: &mut Vec<u8>,
     passages: &[Passage],
-    lines: Shown,
+    lines: &[u8],
 ) -> Result<(), AllocError>
     requires { length passages.now ≤ MAX_EVENTS }
     ensures { OnOk result (out.new.items ≡ out.old.items
-        ++ flat_map (line_part passages.now) (shown lines.asked lines.count)) }
+        ++ flat_map (line_part passages.now) lines.now) }
 {
-    if let Some(line) = lines.asked {
-        return push_line_part(alloc, out, passages, line);
-    }
-    for line in 0..lines.count {
-        push_line_part(alloc, out, passages, line)?;
+    for line in lines {
+        push_line_part(alloc, out, passages, *line)?;
     }
     Ok(())
 }
 
-/// Appends what each node did that is shown. Requires that there are at most 500,000 events.
+/// Appends what each of these nodes did. Requires that there are at most 500,000 events.
 fn push_nodes(
     alloc: Global,
     out: &mut Vec<u8>,
     passages: &[Passage],
-    nodes: Shown,
+    nodes: &[u8],
 ) -> Result<(), AllocError>
     requires { length passages.now ≤ MAX_EVENTS }
     ensures { OnOk result (out.new.items ≡ out.old.items
-        ++ flat_map (node_part passages.now) (shown nodes.asked nodes.count)) }
+        ++ flat_map (node_part passages.now) nodes.now) }
 {
-    if let Some(node) = nodes.asked {
-        return push_node_part(alloc, out, passages, node);
-    }
-    for node in 0..nodes.count {
-        push_node_part(alloc, out, passages, node)?;
+    for node in nodes {
+        push_node_part(alloc, out, passages, *node)?;
     }
     Ok(())
 }
 
-/// The figures of a schedule.
+/// The figures of all passages, and of these lines and nodes, in lines. Requires that there are at most 500,000 events.
 #[tactic(auto, unfolding(crate::specs::StatsAnswer::passages_text))]
+fn stats_lines(
+    alloc: Global,
+    passages: &[Passage],
+    lines: &[u8],
+    nodes: &[u8],
+) -> Result<Vec<u8>, AllocError>
+    requires { length passages.now ≤ MAX_EVENTS }
+    ensures { IfOk result (λ text. text.items ≡ passages_text lines.now nodes.now passages.now) }
+{
+    let mut text = Vec::new(alloc);
+    push_events(&mut text, &EventFigures::of(passages))?;
+    push_packets(&mut text, passages)?;
+    push_lines(alloc, &mut text, passages, lines)?;
+    push_nodes(alloc, &mut text, passages, nodes)?;
+    Ok(text)
+}
+
+/// The figures of a schedule.
 fn stats_of(
     alloc: Global,
     request: StatsRequest,
@@ -131,25 +155,18 @@ fn stats_of(
 {
     let extent = schedule.extent();
     let passages = passages_of(alloc, extent, schedule.events())?;
-    let mut text = Vec::new(alloc);
-    push_events(&mut text, &EventFigures::of(&passages))?;
-    push_packets(&mut text, &passages)?;
-    let lines = Shown {
-        asked: request.line,
-        count: extent.lines,
-    };
-    push_lines(alloc, &mut text, &passages, lines)?;
-    let nodes = Shown {
-        asked: request.node,
-        count: extent.nodes,
-    };
-    push_nodes(alloc, &mut text, &passages, nodes)?;
-    Ok(text)
+    let lines = shown(alloc, request.line, extent.lines)?;
+    let nodes = shown(alloc, request.node, extent.nodes)?;
+    if request.json {
+        stats_json(alloc, &passages, &lines, &nodes)
+    } else {
+        stats_lines(alloc, &passages, &lines, &nodes)
+    }
 }
 
 /// Reads a schedule to its end, applies its events in text order to a new machine whose nodes may each issue 65,536
-/// operations (events that are not enabled change nothing), and gives figures, one on each line, as `NAME VALUE`: of all
-/// events and packets, of each line of memory and of each node. It is Done. If a line or a node is asked for, the figures of
+/// operations (events that are not enabled change nothing), and gives figures, one on each line, as `NAME VALUE`, or as one
+/// JSON object: of all events and packets, of each line of memory and of each node. It is Done. If a line or a node is asked for, the figures of
 /// the other lines or nodes are left out. Beside them are the events that weren't enabled. A schedule with a fault is refused, as are a reader that fails, too long an input
 /// and running out of memory, at line 0, and a line or a node that the machine doesn't have, as `range` at line 0. After a
 /// failed read nothing more is read.

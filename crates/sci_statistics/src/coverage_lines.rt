@@ -1,8 +1,8 @@
 //! What a coverage says, in lines.
 
 ghost use Rattle.std.specs.{Prelude.{◌≡◌, ◌++◌, ◌∷◌, [], IfOk, OnOk, count_by, filter}, List.{flat_map}};
-ghost use Rattle.sci_statistics.specs.TransitionsAnswer.{access_word, count_line, coverage_text as coverage_text_of, has_come as has_come_of, has_never_come};
-ghost use Rattle.sci_statistics.specs.TransitionsAnswer.{met_word, never_line, pair_name, pairs_text, place_word, summary_text, what_word};
+ghost use Rattle.sci_statistics.specs.PairNames.{access_word, has_come as has_come_of, has_never_come, met_word, pair_name, place_word, what_word};
+ghost use Rattle.sci_statistics.specs.TransitionsAnswer.{count_line, coverage_text as coverage_text_of, never_line, pairs_text, summary_text};
 
 use crate::coverage::Coverage;
 use crate::figures::push_figures;
@@ -75,7 +75,7 @@ impl Coverage {
 }
 
 /// Appends the name of a pair, as `cache.Out.ask.mread`.
-#[tactic(auto, unfolding(crate::specs::TransitionsAnswer::pair_name))]
+#[tactic(auto, unfolding(crate::specs::PairNames::pair_name))]
 fn push_name(out: &mut Vec<u8>, pair: Transition) -> Result<(), AllocError>
     ensures { OnOk result (out.new.items ≡ out.old.items ++ pair_name pair) }
 {
@@ -109,14 +109,14 @@ fn push_never(out: &mut Vec<u8>, pair: Transition) -> Result<(), AllocError>
 }
 
 /// How many of these pairs came.
-fn met_count(coverage: &Coverage, pairs: &[Transition]) -> u64
+pub(crate) fn met_count(coverage: &Coverage, pairs: &[Transition]) -> u64
     ensures { result ≡ count_by (has_come_of coverage.now) pairs.now }
 {
     pairs.iter().filter(|pair| coverage.has(**pair)).count() as u64
 }
 
 /// How many of these pairs never came.
-fn never_count(coverage: &Coverage, pairs: &[Transition]) -> u64
+pub(crate) fn never_count(coverage: &Coverage, pairs: &[Transition]) -> u64
     ensures { result ≡ count_by (has_never_come coverage.now) pairs.now }
 {
     pairs.iter().filter(|pair| coverage.lacks(**pair)).count() as u64

@@ -5,11 +5,12 @@ ghost use Rattle.sci_text.specs.{FirstFault.{IsTold}, ScheduleFault.{IsScheduleF
 ghost use Rattle.sci_command.specs.{Answer.{HasAnswered, answer_in}, Beginning.{AreDeadIn}, Input.{IsReadAs}};
 ghost use Rattle.sci_statistics.specs.declared.transition.Transition.{Transition};
 ghost use Rattle.sci_statistics.specs.{Coverage.{capped, times}, Meetings.{transitions_from}, Transitions.{is_transition}};
-ghost use Rattle.sci_statistics.specs.TransitionsAnswer.{AreAdded, IsTransitionsAnswer};
+ghost use Rattle.sci_statistics.specs.TransitionsAnswer.{AreAdded, IsTransitionsAnswer, coverage_shown as coverage_shown_of};
 
 use crate::coverage::Coverage;
 use crate::coverage_lines::coverage_text;
 use crate::meeting::transition_of;
+use crate::stats_json::coverage_json;
 use sci_command::{Answer, Outcome, Refusal, Replayed, read_schedule};
 use sci_core::{DeadEvents, Machine};
 use sci_text::Tap;
@@ -58,19 +59,36 @@ pub fn add_transitions<R: Read>(
     Ok(dead)
 }
 
+/// What a coverage says, in lines or as one JSON object. Refused if memory is.
+fn coverage_shown(alloc: Global, json: bool, coverage: &Coverage) -> Result<Vec<u8>, AllocError>
+    ensures { IfOk result (λ text. text.items ≡ coverage_shown_of json coverage.now) }
+{
+    if json {
+        coverage_json(alloc, coverage)
+    } else {
+        coverage_text(alloc, coverage)
+    }
+}
+
 /// Reads a schedule as `add_transitions` does, and gives the counts so far: how many pairs of the tables of homes and caches
 /// came, and how many never did; the ones, each with its count as `NAME COUNT`, and then the others, each as `never NAME`. It
-/// is Done. Beside it are the events that weren't enabled. Refused as by `add_transitions`.
-pub fn transitions<R: Read>(alloc: Global, coverage: &mut Coverage, reader: &mut Tap<R>) -> Replayed
+/// is Done. With `json` they are one JSON object, which has each pair with its count. Beside it are the events that weren't
+/// enabled. Refused as by `add_transitions`.
+pub fn transitions<R: Read>(
+    alloc: Global,
+    json: bool,
+    coverage: &mut Coverage,
+    reader: &mut Tap<R>,
+) -> Replayed
     requires { has_failed reader.old ≡ false }
-    ensures answer { HasAnswered R.remaining reader.old reader.new (IsTransitionsAnswer coverage.old)
+    ensures answer { HasAnswered R.remaining reader.old reader.new (IsTransitionsAnswer json coverage.old)
         (IsTold IsScheduleFault) (answer_in result) }
     ensures dead { IfOk result (λ answered. IsReadAs (R.remaining (tapped reader.old))
         (has_failed reader.new) (λ bytes. AreDeadIn bytes answered.1)) }
 {
     let dead = add_transitions(alloc, coverage, reader)?;
     let answer = Answer {
-        text: coverage_text(alloc, coverage)?,
+        text: coverage_shown(alloc, json, coverage)?,
         outcome: Outcome::Done,
     };
     Ok((answer, dead))

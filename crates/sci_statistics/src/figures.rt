@@ -2,15 +2,16 @@
 
 ghost use Rattle.std.specs.Prelude.{◌≡◌, ◌<◌, ◌≤◌, ◌/◌, ◌++◌, IfOk, OnOk, codes, length, map};
 ghost use Rattle.sci_words.specs.declared.limits.TheConstants.{MAX_EVENTS};
-ghost use Rattle.sci_statistics.specs.StatsAnswer.{command_row, event_rows, figure_text, figures_text, group_of as group_text, hundredths_of, line_text};
-ghost use Rattle.sci_statistics.specs.StatsAnswer.{mean_text, named, node_rows, packets_text, wait_group as wait_group_text, wait_text, waits_text};
+ghost use Rattle.sci_statistics.specs.StatsAnswer.{figure_text, figures_text, group_of as group_text, hundredths_of, line_text, mean_text, packets_text};
+ghost use Rattle.sci_statistics.specs.StatsAnswer.{wait_group as wait_group_text, wait_text, waits_text};
+ghost use Rattle.sci_statistics.specs.StatsRows.{command_row, event_rows, named, node_rows as node_rows_of};
 
 use crate::event_figures::EventFigures;
-use crate::levels::{Level, LevelFigures};
 use crate::line_figures::LineFigures;
 use crate::node_figures::NodeFigures;
-use crate::packet_figures::{bytes_sent, packets_sent, packets_with};
+use crate::packet_figures::packets_with;
 use crate::passage::Passage;
+use crate::rows::{line_rows, node_rows, packet_rows};
 use crate::waits::{NodeWaits, WaitFigures};
 use sci_packets::Command;
 use sci_text::{push_field, push_number, push_text};
@@ -89,7 +90,7 @@ fn group_of(alloc: Global, name: &str, n: u8) -> Result<Vec<u8>, AllocError>
 }
 
 /// Appends how many events there were.
-#[tactic(auto, unfolding(crate::specs::StatsAnswer::event_rows))]
+#[tactic(auto, unfolding(crate::specs::StatsRows::event_rows))]
 pub fn push_events(out: &mut Vec<u8>, figures: &EventFigures) -> Result<(), AllocError>
     ensures { OnOk result
         (out.new.items ≡ out.old.items ++ figures_text (codes "events.") (event_rows figures.now)) }
@@ -138,18 +139,12 @@ pub fn push_packets(out: &mut Vec<u8>, passages: &[Passage]) -> Result<(), Alloc
     requires { length passages.now ≤ MAX_EVENTS }
     ensures { OnOk result (out.new.items ≡ out.old.items ++ packets_text passages.now) }
 {
-    let under_way = LevelFigures::of(passages, Level::Packets);
-    let rows = [
-        ("sent", packets_sent(passages)),
-        ("bytes", bytes_sent(passages)),
-        ("most_under_way", under_way.greatest),
-    ];
-    push_figures(out, b"packets.", &rows)?;
+    push_figures(out, b"packets.", &packet_rows(passages))?;
     push_commands(out, passages, &Command::ALL)
 }
 
 /// Appends what happened to a line.
-#[tactic(auto, unfolding(crate::specs::StatsAnswer::line_rows, crate::specs::StatsAnswer::line_text))]
+#[tactic(auto, unfolding(crate::specs::StatsAnswer::line_text))]
 pub fn push_line(
     alloc: Global,
     out: &mut Vec<u8>,
@@ -159,19 +154,7 @@ pub fn push_line(
     ensures { OnOk result (out.new.items ≡ out.old.items ++ line_text line figures.now) }
 {
     let group = group_of(alloc, "line.", line)?;
-    let rows = [
-        ("loads", figures.loads),
-        ("makers", figures.makers),
-        ("joins", figures.joins),
-        ("purges", figures.purges),
-        ("rollouts", figures.rollouts),
-        ("write_backs", figures.write_backs),
-        ("clears", figures.clears),
-        ("claims", figures.claims),
-        ("hand_overs", figures.hand_overs),
-        ("longest_list", figures.members.greatest),
-    ];
-    push_figures(out, &group, &rows)?;
+    push_figures(out, &group, &line_rows(figures))?;
     let members = Mean {
         total: figures.members.total,
         count: figures.events,
@@ -180,7 +163,6 @@ pub fn push_line(
 }
 
 /// Appends what a node did.
-#[tactic(auto, unfolding(crate::specs::StatsAnswer::node_rows))]
 pub fn push_node(
     alloc: Global,
     out: &mut Vec<u8>,
@@ -188,17 +170,10 @@ pub fn push_node(
     figures: &NodeFigures,
 ) -> Result<(), AllocError>
     ensures { OnOk result (out.new.items
-        ≡ out.old.items ++ figures_text (group_text (codes "node.") node) (node_rows figures.now)) }
+        ≡ out.old.items ++ figures_text (group_text (codes "node.") node) (node_rows_of figures.now)) }
 {
     let group = group_of(alloc, "node.", node)?;
-    let rows = [
-        ("issued", figures.issued),
-        ("performed", figures.performed),
-        ("pending", figures.pending),
-        ("sent", figures.sent),
-        ("served", figures.served),
-    ];
-    push_figures(out, &group, &rows)
+    push_figures(out, &group, &node_rows(figures))
 }
 
 /// Appends the least, the mean and the greatest of some waits.

@@ -1,6 +1,6 @@
 use Rattle.std.proofs.Common.{◌≡◌, ◌++◌, filter, take}
 use Rattle.std.specs.List.{flat_map}
-use Rattle.sci_statistics.specs.TransitionsAnswer.{count_line, has_come}
+use Rattle.sci_statistics.specs.{PairNames.{has_come}, TransitionsAnswer.{count_line}}
 use Rattle.sci_statistics.proofs.coverage_lines.push_counts.Given as goal
 
 -- the pairs so far

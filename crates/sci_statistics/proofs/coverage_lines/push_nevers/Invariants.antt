@@ -1,6 +1,6 @@
 use Rattle.std.proofs.Common.{◌≡◌, ◌++◌, filter, take}
 use Rattle.std.specs.List.{flat_map}
-use Rattle.sci_statistics.specs.TransitionsAnswer.{has_never_come, never_line}
+use Rattle.sci_statistics.specs.{PairNames.{has_never_come}, TransitionsAnswer.{never_line}}
 use Rattle.sci_statistics.proofs.coverage_lines.push_nevers.Given as goal
 
 -- the pairs so far

@@ -1,5 +1,5 @@
 use Rattle.std.proofs.Common.{◌≡◌, ◌++◌, codes, map, take}
-use Rattle.sci_statistics.specs.StatsAnswer.{command_row, figures_text}
+use Rattle.sci_statistics.specs.{StatsAnswer.{figures_text}, StatsRows.{command_row}}
 use Rattle.sci_statistics.proofs.figures.push_commands.Given as goal
 
 -- the commands so far

@@ -1,5 +1,5 @@
 use Rattle.std.proofs.Common.{◌≡◌, ◌++◌, map, take}
-use Rattle.sci_statistics.specs.StatsAnswer.{figures_text, named}
+use Rattle.sci_statistics.specs.{StatsAnswer.{figures_text}, StatsRows.{named}}
 use Rattle.sci_statistics.proofs.figures.push_figures.Given as goal
 
 -- the figures so far

@@ -6,5 +6,5 @@ use Rattle.sci_statistics.proofs.figures.push_packets.Goals as goal
 pub returns : goal.returns
 unfolding packets_text
 returns c =
-    let rows = rw (c.packets_sent.ensures, c.bytes_sent.ensures, c.of-under_way.ensures) at c.in_ok-push_figures.ensures in
+    let rows = rw c.packet_rows.ensures at c.in_ok-push_figures.ensures in
     on_ok_weaker c.push_commands.result (λ rest. joined c.args.out.now.items _ _ _ _ rows rest) c.push_commands.ensures

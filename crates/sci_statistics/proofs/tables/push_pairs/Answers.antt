@@ -5,4 +5,5 @@ use Rattle.sci_statistics.proofs.Kept.{kept_more}
 use Rattle.sci_statistics.proofs.tables.push_pairs.Goals as goal
 
 pub loop-met-preserved : goal.loop-met-preserved
-loop-met-preserved c = kept_more in_states is_of_tables c.args.mets.now c.loop-met.met-index (Ask Mread) _ _ _ c.loop-met-test.true c.loop-met.invariant c.in_ok-push_in_states.ensures
+loop-met-preserved c = kept_more in_states is_of_tables c.args.mets.now c.loop-met.met-index (Ask Mread) _ _ _ c.loop-met-test.true
+    c.loop-met.invariant c.in_ok-push_in_states.ensures
