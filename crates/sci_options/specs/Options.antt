@@ -9,7 +9,7 @@ use Rattle.sci_options.specs.declared.argument.Value.{Value}
 use Rattle.sci_options.specs.declared.argument.Value.TheVariants as values
 use Rattle.sci_options.specs.declared.option_name.OptionName.{OptionName}
 use Rattle.sci_options.specs.declared.option_name.OptionName.TheVariants.{AllOutcomes, BySerial, Dead, Events, InOrder, Json, Limit, Line, Log, Node}
-use Rattle.sci_options.specs.declared.option_name.OptionName.TheVariants.{Order, Runs, Seed, Show, Strict, Threads, Times, Title, Turns}
+use Rattle.sci_options.specs.declared.option_name.OptionName.TheVariants.{Order, Runs, Seed, Show, Strict, Threads, Times, Title, Transitions, Turns}
 use Rattle.sci_options.specs.declared.setting.{OptionRow.{OptionRow}, Setting.{Setting}}
 
 -- the word of an option
@@ -32,6 +32,7 @@ option_word Strict = codes "--strict"
 option_word Threads = codes "--threads"
 option_word Times = codes "--times"
 option_word Title = codes "--title"
+option_word Transitions = codes "--transitions"
 option_word Turns = codes "--turns"
 
 -- where an option stands among all
@@ -55,6 +56,7 @@ option_place Log = 15
 option_place Order = 16
 option_place Limit = 17
 option_place Title = 18
+option_place Transitions = 19
 
 abbrev pub is_option : OptionName → OptionName → Bool
 is_option name other = option_place other == option_place name

@@ -43,6 +43,8 @@ pub enum OptionName {
     Times,
     /// With a title.
     Title,
+    /// How often each pair of a state and what it met came.
+    Transitions,
     /// At most how many turns.
     Turns,
 }
@@ -71,6 +73,7 @@ impl OptionName {
             "--threads" => Some(OptionName::Threads),
             "--times" => Some(OptionName::Times),
             "--title" => Some(OptionName::Title),
+            "--transitions" => Some(OptionName::Transitions),
             "--turns" => Some(OptionName::Turns),
             _ => None,
         }
@@ -99,6 +102,7 @@ impl OptionName {
             OptionName::Threads => "--threads",
             OptionName::Times => "--times",
             OptionName::Title => "--title",
+            OptionName::Transitions => "--transitions",
             OptionName::Turns => "--turns",
         }
     }
