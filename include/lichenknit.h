@@ -48,7 +48,7 @@ enum sci_status_number {
     SCI_NOT_ENABLED = 2,     /**< The event is not enabled, or what was asked for is not there. */
     SCI_RANGE = 3,           /**< A number is outside its limits. */
     SCI_MISUSE = 4,          /**< The object is empty where one is wanted, open where none is, or of another kind. */
-    SCI_FULL = 5,            /**< A log has 65,536 entries, or the caller's room is too small. */
+    SCI_FULL = 5,            /**< A log or a node has as many operations as it may, or the caller's room is too small. */
     SCI_SHORT = 6,           /**< There are fewer bytes or words than the packet has. */
     SCI_UNKNOWN_COMMAND = 7, /**< No packet has this command. */
     SCI_BAD_OFFSET = 8,      /**< The offset of the packet is no multiple of 64. */
@@ -565,10 +565,19 @@ sci_status sci_node_open(sci_node *node, uint8_t me, uint8_t nodes, uint8_t line
 **   - SCI_MISUSE      The object keeps something else. */
 sci_status sci_node_close(sci_node *node);
 
+/** Puts a copy of the node into an empty object, with what its policy remembers (Node::try_clone and Policy::copy). A packet is still
+** to be given once: to the node, or to its copy, or to each of them if the other nodes and all that is under way are copied too.
+**
+**   - SCI_OK          copy keeps it, until sci_node_close. The two share nothing.
+**   - SCI_MISUSE      node keeps no node, or copy isn't empty.
+**   - SCI_NO_MEMORY */
+sci_status sci_node_clone(const sci_node *node, sci_node *copy);
+
 /** Issues an operation, and gives its serial: the count of operations issued before (Node::issue).
 **
 **   - SCI_OK          The operation is pending on its line.
-**   - SCI_NOT_ENABLED There is no such line or word, an operation is pending on the line, or limit operations were issued.
+**   - SCI_NOT_ENABLED There is no such line or word, or an operation is pending on the line.
+**   - SCI_FULL        It could be issued, but limit operations were.
 **   - SCI_RANGE       There is no such act.
 **   - SCI_MISUSE      The object keeps no node. */
 sci_status sci_node_issue(sci_node *node, const sci_op *op, uint32_t *serial);

@@ -94,6 +94,7 @@ static void no_logs(void *object) {
 /* Every call for a node on an object that keeps none. */
 static void no_node(void *object) {
     uint8_t packet[SCI_PACKET_BYTES] = { 7 };
+    sci_node copy = SCI_INIT;
     sci_stamped stamped = { 7, { 7, 7, 7, 7, 7, 7, 7, 7 } };
     sci_op op = store;
     sci_entry found = entry;
@@ -107,6 +108,8 @@ static void no_node(void *object) {
     memset(&held, 7, sizeof held);
     memset(&home, 7, sizeof home);
     memset(&read, 7, sizeof read);
+    EXPECT(sci_node_clone(as_node(object), &copy), SCI_MISUSE);
+    CHECK(copy.live == 0);
     EXPECT(sci_node_begin_turn(as_node(object)), SCI_MISUSE);
     EXPECT(sci_node_next(as_node(object), &want), SCI_MISUSE);
     EXPECT(sci_node_decide(as_node(object), packet, sizeof packet, &number), SCI_MISUSE);
@@ -484,6 +487,51 @@ static void nodes(void) {
     EXPECT(sci_node_close(&home), SCI_OK);
 }
 
+/* A copy of a node goes its own way, and a node that has issued all that it may says so. */
+static void copies(void) {
+    sci_node node = SCI_INIT, copy = SCI_INIT;
+    sci_op op = store;
+    sci_want want = { 7, 7, 7, 7 };
+    uint8_t packet[SCI_PACKET_BYTES];
+    uint32_t serial = 7;
+    size_t used = 7;
+    EXPECT(sci_node_open(&node, 1, 2, 4, 2, 2), SCI_OK);
+    EXPECT(sci_node_issue(&node, &op, &serial), SCI_OK);
+    EXPECT(sci_node_clone(&node, &copy), SCI_OK);
+    EXPECT(sci_node_clone(&node, &copy), SCI_MISUSE);
+    op.line = 1;
+    EXPECT(sci_node_issue(&node, &op, &serial), SCI_OK);
+    CHECK(serial == 1);
+    serial = 7;
+    op.line = 2;
+    EXPECT(sci_node_issue(&node, &op, &serial), SCI_FULL);
+    op.line = 1;
+    EXPECT(sci_node_issue(&node, &op, &serial), SCI_NOT_ENABLED);
+    op.line = 4;
+    EXPECT(sci_node_issue(&node, &op, &serial), SCI_NOT_ENABLED);
+    op = store;
+    op.line = 2;
+    op.word = 8;
+    EXPECT(sci_node_issue(&node, &op, &serial), SCI_NOT_ENABLED);
+    op.act = 7;
+    EXPECT(sci_node_issue(&node, &op, &serial), SCI_RANGE);
+    CHECK(serial == 7);
+    EXPECT(sci_node_pending(&copy, 0, &op, &serial), SCI_OK);
+    CHECK(serial == 0 && op.datum == 42);
+    EXPECT(sci_node_pending(&copy, 1, &op, &serial), SCI_NOT_ENABLED);
+    EXPECT(sci_node_next(&copy, &want), SCI_OK);
+    CHECK(want.kind == SCI_WANT_ASK && want.line == 0 && want.ask == SCI_MREAD);
+    EXPECT(sci_node_ask(&copy, 0, SCI_MREAD, packet, &used), SCI_OK);
+    EXPECT(sci_node_ask(&node, 0, SCI_MREAD, packet, &used), SCI_OK);
+    op = store;
+    op.line = 3;
+    EXPECT(sci_node_issue(&copy, &op, &serial), SCI_OK);
+    CHECK(serial == 1);
+    EXPECT(sci_node_close(&node), SCI_OK);
+    EXPECT(sci_node_close(&copy), SCI_OK);
+    EXPECT(sci_node_clone(&node, &copy), SCI_MISUSE);
+}
+
 /* Names, and those of numbers that have none. */
 static void names(void) {
     CHECK(strcmp(sci_status_name(SCI_TEXT), "SCI_TEXT") == 0 && strcmp(sci_status_name(11), "?") == 0);
@@ -501,5 +549,6 @@ int main(void) {
     machines();
     logs();
     nodes();
+    copies();
     return failed;
 }

@@ -23,8 +23,20 @@ class Node(Owner):
         super().__init__()
         self._call("open", me, nodes, lines, slots, limit)
 
+    def clone(self) -> Node:
+        """A copy of the node, with what its policy remembers. The two share nothing."""
+        copy = Node.__new__(Node)
+        Owner.__init__(copy)
+        self._call("clone", copy._object)
+        return copy
+
+    __copy__ = clone
+
+    def __deepcopy__(self, memo: object) -> Node:
+        return self.clone()
+
     def issue(self, op: Op) -> int:
-        """Issues an operation, and gives its serial."""
+        """Issues an operation, and gives its serial. It raises Full if the node has issued all that it may."""
         serial = c_uint32()
         self._call("issue", op._as_c(), byref(serial))
         return serial.value

@@ -1,8 +1,7 @@
--- What the call that copies a machine answers.
+-- What the calls that copy a machine or a node answer.
 use Rattle.std.specs.Prelude.{◌≡◌, Option, Some}
-use Rattle.sci_core.specs.Core.{Core}
-use Rattle.sci_c.specs.{declared.thing.Thing.{Thing}, Kinds.{machine_in}}
+use Rattle.sci_c.specs.declared.thing.Thing.{Thing}
 
--- an object keeps this machine
-abbrev pub IsCopy : Option Thing → Core → Type 0
-IsCopy copy machine = machine_in copy ≡ Some machine
+-- an object keeps the same thing of a kind
+abbrev pub IsCopy : {A : Type 0} → (Option Thing → Option A) → Option Thing → A → Type 0
+IsCopy kind copy thing = kind copy ≡ Some thing

@@ -1,5 +1,6 @@
 -- What the calls for nodes answer.
-use Rattle.std.specs.Prelude.{◌≡◌, ℕ, List, Option, Some, None, ◌<◌, ◌%◌, slice_get}
+use Rattle.std.specs.Prelude.{◌≡◌, ℕ, List, Option, Some, None, IsSome, ◌<◌, ◌≤◌, ◌%◌, ◌⊎◌, slice_get}
+use Rattle.sci_words.specs.declared.limits.TheConstants.{WORDS_PER_LINE}
 use Rattle.sci_words.specs.declared.{event.{AskKind.{AskKind}, TheConstants.AskKind.{ALL}}, operation.Op.{Op}}
 use Rattle.sci_words.specs.declared.stamped.Stamped.{Stamped}
 use Rattle.sci_packets.specs.{declared.packet.Packet.{Packet}, Spelling.{spelling}}
@@ -29,11 +30,23 @@ pub record IsIssue (c : SciOp) (serial : ℕ) (before after : NodeOf) : Type 0 w
   pub issued : node_issuing before op ≡ Some after
   pub serial_is : serial ≡ before.issued
 
--- the operation may not be issued
-pub record IsNoIssue (c : SciOp) (node : NodeOf) : Type 0 where
+-- its line or its word is none of the machine's, or an operation is pending on the line
+abbrev pub MayNotIssue : Op → NodeOf → Type 0
+MayNotIssue op node = (lines_of node ≤ op.line) ⊎ ((WORDS_PER_LINE ≤ op.word) ⊎ IsSome (pending_on node op.line))
+
+-- it would be issued, but the node has issued as many operations as it may
+pub record HasIssuedAll (op : Op) (node : NodeOf) : Type 0 where
+  pub line : op.line < lines_of node
+  pub word : op.word < WORDS_PER_LINE
+  pub free : pending_on node op.line ≡ None
+  pub all : node.limit ≤ node.issued
+
+-- the operation that the struct says is not issued, for this reason
+pub record IsNoIssue (reason : Op → NodeOf → Type 0) (c : SciOp) (node : NodeOf) : Type 0 where
   pub op : Op
   pub says : SaysOp c op
   pub none : node_issuing node op ≡ None
+  pub why : reason op node
 
 -- the operation that was pending on the line is performed, and its entry ends the log
 pub record IsPerformed (line : ℕ) (c : SciEntry) (before after : NodeOf) : Type 0 where

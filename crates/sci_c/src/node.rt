@@ -1,28 +1,29 @@
 //! Nodes: the controller that a simulator has at each processor.
 
 ghost use denote.RawPtr.{null_ptr};
-ghost use Rattle.std.specs.Prelude.{◌≡◌, ◌≢◌, ◌≤◌, ◌<◌, ◌↔◌, ◌∷◌, [], Some, None, ◌%◌, IfSome, slice_get};
+ghost use Rattle.std.specs.Prelude.{◌≡◌, ◌≢◌, ◌≤◌, ◌<◌, ◌↔◌, ◌⊎◌, ◌∷◌, [], Some, None, ◌%◌, IfSome, slice_get};
 ghost use Rattle.sci_home.specs.Serving.{current_of};
-ghost use Rattle.sci_core.specs.Node.{IsAtRest, home_of, lines_of, node_performing, node_replying, pending_on};
+ghost use Rattle.sci_core.specs.Node.{IsAtRest, home_of, lines_of, node_issuing, node_performing, node_replying, pending_on};
 ghost use Rattle.sci_core.specs.Size.{IsMachineSize};
-ghost use Rattle.sci_c_values.specs.declared.status.TheConstants.{SCI_NOT_ENABLED, SCI_OK, SCI_RANGE};
+ghost use Rattle.sci_c_values.specs.declared.status.TheConstants.{SCI_FULL, SCI_NOT_ENABLED, SCI_OK, SCI_RANGE};
 ghost use Rattle.sci_c_values.specs.{Operation.{SaysOp}, Saying.{SaysNone}};
 ghost use Rattle.sci_words.specs.declared.event.TheConstants.AskKind.{ALL};
 ghost use Rattle.sci_c.specs.{Calls.{IsChange, IsLook}, Closing.{IsClosed, IsOpened}, Kinds.{Goes, On, OnNode, node_in}, Machine.{size}};
-ghost use Rattle.sci_c.specs.Node.{HasNoContents, IsAsk, IsHomeContents, IsIssue, IsNoAsk, IsNoIssue, IsOpeningNode, IsPendingOf, IsPerformed, IsReply};
+ghost use Rattle.sci_c.specs.Node.{HasIssuedAll, HasNoContents, IsAsk, IsHomeContents, IsIssue, IsNoAsk, IsNoIssue, IsOpeningNode, IsPendingOf};
+ghost use Rattle.sci_c.specs.Node.{IsPerformed, IsReply, MayNotIssue};
 
 use crate::closing::{closed, opened};
 use crate::controller::Controller;
 use crate::handle::SciObject;
 use crate::thing::Thing;
 use sci_c_values::{
-    SCI_MISUSE, SCI_NO_MEMORY, SCI_NOT_ENABLED, SCI_OK, SCI_RANGE, SciEntry, SciOp, SciStamped,
-    entry_out, op_in, op_out, stamped_out,
+    SCI_FULL, SCI_MISUSE, SCI_NO_MEMORY, SCI_NOT_ENABLED, SCI_OK, SCI_RANGE, SciEntry, SciOp,
+    SciStamped, entry_out, op_in, op_out, stamped_out,
 };
 use sci_core::Node;
 use sci_packets::encode;
 use sci_policy::Policy;
-use sci_words::{AskKind, Extent, MAX_OPERATIONS, Stamped};
+use sci_words::{AskKind, Extent, MAX_OPERATIONS, Op, Stamped, WORDS_PER_LINE};
 use std::alloc::Global;
 
 /// Puts a node's controller into an empty object.
@@ -66,14 +67,32 @@ pub extern "C" fn sci_node_close(alloc: Global, object: &mut SciObject) -> u32
     closed(alloc, object, is_of_kind)
 }
 
+/// The status of an operation that the node may not issue: SCI_FULL if only the count of its operations is in the way.
+fn status_of_no_issue(node: &Node, op: &Op) -> u32
+    requires { node_issuing node.now op.now ≡ None }
+    ensures full { result ≡ SCI_FULL → HasIssuedAll op.now node.now }
+    ensures refused { result ≡ SCI_NOT_ENABLED → MayNotIssue op.now node.now }
+    ensures status { (result ≡ SCI_FULL) ⊎ (result ≡ SCI_NOT_ENABLED) }
+{
+    // Asked, so that the prover knows that the operands are words.
+    let _may = node.may_issue(op);
+    let is_free = op.line < node.extent().lines
+        && usize::from(op.word) < WORDS_PER_LINE
+        && node.pending(op.line).is_none();
+    if is_free { SCI_FULL } else { SCI_NOT_ENABLED }
+}
+
 /// Issues an operation, and gives its serial.
 #[unsafe(no_mangle)]
 pub extern "C" fn sci_node_issue(object: &mut SciObject, op: &SciOp, serial: &mut u32) -> u32
     ensures done { result ≡ SCI_OK → Goes node_in object.old.value object.new.value
         (OnNode (IsIssue op.now serial.new)) }
-    ensures refused { result ≡ SCI_NOT_ENABLED → On node_in object.old.value (λ c. IsNoIssue op.now c.node) }
+    ensures refused { result ≡ SCI_NOT_ENABLED → On node_in object.old.value
+        (λ c. IsNoIssue MayNotIssue op.now c.node) }
+    ensures full { result ≡ SCI_FULL → On node_in object.old.value (λ c. IsNoIssue HasIssuedAll op.now c.node) }
     ensures range { result ≡ SCI_RANGE → SaysNone (SaysOp op.now) }
-    ensures change { IsChange node_in (SCI_NOT_ENABLED ∷ SCI_RANGE ∷ []) object.old.value result object.new.value }
+    ensures change { IsChange node_in (SCI_NOT_ENABLED ∷ SCI_RANGE ∷ SCI_FULL ∷ [])
+        object.old.value result object.new.value }
     ensures same_serial { result ≢ SCI_OK → serial.new ≡ serial.old }
 {
     let Some(controller) = object.node() else {
@@ -87,7 +106,7 @@ pub extern "C" fn sci_node_issue(object: &mut SciObject, op: &SciOp, serial: &mu
             *serial = number;
             SCI_OK
         }
-        None => SCI_NOT_ENABLED,
+        None => status_of_no_issue(&controller.node, &said),
     }
 }
 

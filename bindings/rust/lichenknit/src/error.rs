@@ -26,7 +26,7 @@ pub enum Error {
     OutOfRange,
     /// The object keeps nothing. The types of this crate rule that out.
     Misuse,
-    /// A log has 65,536 entries.
+    /// A log has 65,536 entries, or a node has issued all operations that it may.
     Full,
     /// There are fewer bytes or words than the packet has.
     Short,

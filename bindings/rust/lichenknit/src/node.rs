@@ -20,14 +20,25 @@ unsafe impl Send for Node {}
 impl Node {
     /// The controller of node `me` in a machine of this size. Its processor may issue `limit` operations, 1 to 65,536.
     pub fn new(me: u8, size: Size, limit: u32) -> Result<Self> {
-        let mut made = Node { raw: sys::sci_node { at: std::ptr::null_mut(), live: 0 } };
+        let mut made = Node::empty();
         checked(unsafe {
             sys::sci_node_open(&mut made.raw, me, size.nodes, size.lines, size.slots, limit)
         })?;
         Ok(made)
     }
 
-    /// Issues an operation, and gives its serial.
+    fn empty() -> Self {
+        Node { raw: sys::sci_node { at: std::ptr::null_mut(), live: 0 } }
+    }
+
+    /// A copy of the node, with what its policy remembers. The two share nothing.
+    pub fn try_clone(&self) -> Result<Self> {
+        let mut copy = Node::empty();
+        checked(unsafe { sys::sci_node_clone(&self.raw, &mut copy.raw) })?;
+        Ok(copy)
+    }
+
+    /// Issues an operation, and gives its serial. [`Error::Full`] if the node has issued all that it may.
     pub fn issue(&mut self, op: Op) -> Result<u32> {
         let raw = op.raw();
         written(|serial| unsafe { sys::sci_node_issue(&mut self.raw, &raw, serial) })

@@ -102,6 +102,21 @@ fn requests_go_out_and_answers_come_back() {
 }
 
 #[test]
+fn a_copy_goes_its_own_way() {
+    let mut node = Node::new(1, SIZE, 2).unwrap();
+    let load = |line| Op { line, word: 0, act: Act::Load };
+    node.issue(load(0)).unwrap();
+    let mut copy = node.try_clone().unwrap();
+    assert_eq!(node.issue(load(1)), Ok(1));
+    assert_eq!(
+        (node.issue(load(2)), node.issue(load(1))),
+        (Err(Error::Full), Err(Error::NotEnabled))
+    );
+    assert_eq!((copy.pending(0), copy.pending(1)), (Some((load(0), 0)), None));
+    assert_eq!(copy.next_want(), Some(Want::Ask { line: 0, kind: AskKind::Fread }));
+}
+
+#[test]
 fn packets_are_read_and_written() {
     let node = &mut Node::new(1, SIZE, 4).unwrap();
     node.issue(Op { line: 0, word: 0, act: Act::Load }).unwrap();
