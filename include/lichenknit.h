@@ -20,8 +20,9 @@
 ** STATUSES. Unless a function says otherwise, a call that answers another status than SCI_OK leaves the object and all that
 ** its other arguments lead to as they were. What is const stays the same in any case. Where more than one status would fit,
 ** they come in this order: SCI_MISUSE, the faults of a packet's bytes, SCI_RANGE, SCI_NOT_ENABLED, SCI_FULL, SCI_NO_MEMORY. The
-** functions that read a struct of a packet have an order of their own. sci_logs_write, sci_logs_order and sci_machine_sharing need
-** memory to know how much room they want, so SCI_FULL comes last there. sci_logs_read answers what it meets first.
+** functions that read a struct of a packet have an order of their own. sci_logs_order, sci_machine_sharing and those that end in
+** _write need memory to know how much room they want, so SCI_FULL comes last there. sci_logs_read and sci_machine_replay answer what
+** they meet first.
 */
 #ifndef LICHENKNIT_H
 #define LICHENKNIT_H
@@ -53,7 +54,7 @@ enum sci_status_number {
     SCI_UNKNOWN_COMMAND = 7, /**< No packet has this command. */
     SCI_BAD_OFFSET = 8,      /**< The offset of the packet is no multiple of 64. */
     SCI_BAD_IDENTIFIER = 9,  /**< The target, the source or the identifier is one that the packet can't have. */
-    SCI_TEXT = 10            /**< The text is no log. The fault says where and why. */
+    SCI_TEXT = 10            /**< The text is no log, or no schedule. The fault says where and why. */
 };
 
 /** Limits. */
@@ -251,6 +252,13 @@ typedef struct sci_seen {
     sci_entry entry;
 } sci_seen;
 
+/** The events of a schedule that weren't enabled when they came, and so changed nothing. All is 0 if there are none. */
+typedef struct sci_dead {
+    uint32_t count;
+    uint32_t place;    /**< how many events of the schedule stand before the first of them */
+    uint32_t obstacle; /**< what stood in the way of the first: a number of enum sci_obstacle */
+} sci_dead;
+
 /** What a node does next, in sci_want.kind. */
 enum sci_want_kind {
     SCI_WANT_NOTHING = 0,
@@ -348,8 +356,8 @@ uint32_t sci_version(void);
 ** the library has them. */
 void sci_layout(uint64_t sizes[8]);
 
-/** The same of sci_held, sci_home, sci_seen and sci_want. */
-void sci_layout_more(uint64_t sizes[4]);
+/** The same of sci_held, sci_home, sci_seen, sci_want and sci_dead. */
+void sci_layout_more(uint64_t sizes[5]);
 
 /** A short text in English, also for a number that is no status. It is static. */
 const char *sci_status_text(sci_status status);
@@ -406,6 +414,47 @@ sci_status sci_packet_to_words(const sci_packet *packet, uint64_t words[SCI_PACK
 
 /** @} */
 
+/** @name Lines of texts
+** As the programs write and read them (docs/TEXTS.md). A line ends in a line feed, and no zero ends it. The bytes after it stay.
+** @{ */
+
+/** Writes the line of a packet, as scimem decode prints it, over the first bytes, and how many: "mread to 0 from 1 control 0 line 2"
+** (sci_command::push_packet).
+**
+**   - SCI_OK          text and used are written.
+**   - SCI_FULL        The line is longer than room. used says how long; text is as it was.
+**   - SCI_NO_MEMORY
+**   - others          The struct says no packet: those of sci_packet_encode. */
+sci_status sci_packet_write(const sci_packet *packet, uint8_t *text, size_t room, size_t *used);
+
+/** Writes the line of an event in a schedule over the first bytes, and how many: "ask 1 0 mread". What the kind doesn't have isn't
+** written (sci_text::push_event_line).
+**
+**   - SCI_OK          text and used are written.
+**   - SCI_RANGE       There is no such event: kind, act or ask is outside its table.
+**   - SCI_FULL        The line is longer than room. used says how long; text is as it was.
+**   - SCI_NO_MEMORY */
+sci_status sci_event_write(const sci_event *event, uint8_t *text, size_t room, size_t *used);
+
+/** Writes the line of a machine's size, with which a schedule begins: "machine 2 4 2" (sci_text::push_machine_line). So this line
+** and those of the events that a machine made are a schedule, which sci_machine_replay and scimem replay follow.
+**
+**   - SCI_OK          text and used are written.
+**   - SCI_RANGE       Not 1 to 16 nodes, 1 to 64 lines, or 1 to 8 slots.
+**   - SCI_FULL        The line is longer than room. used says how long; text is as it was.
+**   - SCI_NO_MEMORY */
+sci_status sci_size_write(uint8_t nodes, uint8_t lines, uint8_t slots, uint8_t *text, size_t room, size_t *used);
+
+/** Writes the line of an entry in a log: "0 7 store 0 3 42 = - @1" (sci_text::push_entry).
+**
+**   - SCI_OK          text and used are written.
+**   - SCI_RANGE       act is outside its table, or has_word is not 0 for a store and 1 for any other operation.
+**   - SCI_FULL        The line is longer than room. used says how long; text is as it was.
+**   - SCI_NO_MEMORY */
+sci_status sci_entry_write(const sci_entry *entry, uint8_t *text, size_t room, size_t *used);
+
+/** @} */
+
 /** @name Machines
 ** All nodes, and the packets between them. A machine is coherent after every call.
 ** @{ */
@@ -444,6 +493,18 @@ sci_status sci_machine_step_seen(sci_machine *machine, const sci_event *event, s
 **   - SCI_RANGE       There is no such event: kind, act or ask is outside its table.
 **   - SCI_MISUSE      The object keeps no machine. */
 sci_status sci_machine_obstacle(const sci_machine *machine, const sci_event *event, uint32_t *obstacle);
+
+/** Puts the machine where a schedule leads into an empty object: its events are applied in the order of the text to a machine of the
+** size in its first line, in which no line was touched, and each node of which may issue limit operations. An event that isn't
+** enabled when it comes changes nothing, and dead says which they are (sci_text::schedule_of, Machine::step and DeadEvents).
+**
+**   - SCI_OK          The object keeps the machine, until sci_machine_close, and dead is written. fault is as it was.
+**   - SCI_TEXT        The text is no schedule: fault is written, and the object stays empty.
+**   - SCI_RANGE       limit is not 1 to 65,536.
+**   - SCI_MISUSE      The object isn't empty.
+**   - SCI_NO_MEMORY */
+sci_status sci_machine_replay(
+    sci_machine *machine, const uint8_t *text, size_t length, uint32_t limit, sci_dead *dead, sci_text_fault *fault);
 
 /** Puts a copy of the machine into an empty object (Machine::try_clone).
 **

@@ -42,12 +42,12 @@ const char *sci_status_text(sci_status status) {
         "not enabled, or not there",
         "a number is outside its limits",
         "the object is empty, open already or of another kind",
-        "the log or the room is full",
+        "the log, the node or the room is full",
         "fewer bytes or words than the packet has",
         "no packet has this command",
         "the offset is no multiple of 64",
         "a node or an identifier that the packet can't have",
-        "the text is no log",
+        "the text has a fault",
     };
     return status < sizeof texts / sizeof texts[0] ? texts[status] : "no such status";
 }

@@ -71,6 +71,10 @@ SIZE(sci_want, 4);
 AT(sci_want, kind, 0);
 AT(sci_want, line, 1);
 AT(sci_want, ask, 2);
+SIZE(sci_dead, 12);
+AT(sci_dead, count, 0);
+AT(sci_dead, place, 4);
+AT(sci_dead, obstacle, 8);
 SIZE(sci_machine, 16);
 AT(sci_machine, at, 0);
 AT(sci_machine, live, 8);
@@ -78,14 +82,15 @@ SIZE(sci_node, 16);
 SIZE(sci_logs, 16);
 
 int main(void) {
-    const uint64_t here[12] = {
+    const uint64_t here[13] = {
         sizeof(sci_op),         sizeof(sci_event),   sizeof(sci_packet), sizeof(sci_stamped), sizeof(sci_entry), sizeof(sci_verdict),
         sizeof(sci_text_fault), sizeof(sci_machine), sizeof(sci_held),   sizeof(sci_home),    sizeof(sci_seen),  sizeof(sci_want),
+        sizeof(sci_dead),
     };
-    uint64_t there[12] = { 0, 0, 0, 0, 0, 0, 0, 0, 0, 0, 0, 0 };
+    uint64_t there[13] = { 0, 0, 0, 0, 0, 0, 0, 0, 0, 0, 0, 0, 0 };
     sci_layout(there);
     sci_layout_more(there + 8);
-    for (int i = 0; i < 12; i++) {
+    for (int i = 0; i < 13; i++) {
         if (here[i] != there[i]) {
             printf("struct %d has %llu bytes here and %llu there\n", i, (unsigned long long)here[i], (unsigned long long)there[i]);
             return 1;

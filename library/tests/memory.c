@@ -44,14 +44,18 @@ static const sci_op store = { SCI_STORE, 0, 3, 0, 0, 42 };
 /* One run, in which the allocation of that number is refused. Says whether there was one. */
 static int run(long refused) {
     const uint8_t kinds[] = { SCI_ISSUE, SCI_ASK, SCI_SERVE, SCI_REPLY, SCI_ACCEPT, SCI_PERFORM };
-    sci_machine machine = SCI_INIT, copy = SCI_INIT;
+    const sci_entry made = { 1, 0, 0, 0, store, 0, 1 };
+    const sci_packet packet = { 0, SCI_CMD_MREAD, 1, 0, 0, SCI_NO_NODE, 0, 0, 0, { 0, 0, 0, 0, 0, 0, 0, 0 } };
+    sci_machine machine = SCI_INIT, copy = SCI_INIT, again = SCI_INIT;
+    sci_node node = SCI_INIT, other = SCI_INIT;
     sci_logs logs = SCI_INIT, read = SCI_INIT;
     sci_verdict verdict = { 9, 9, 9, 9, 9 };
     sci_text_fault fault = { 0, 0, 0 };
+    sci_dead dead = { 9, 9, 9 };
     sci_entry entries[4];
     uint8_t text[4096], list[SCI_MAX_NODES];
     uint32_t kind = 9;
-    size_t used = 0;
+    size_t used = 0, length = 0;
     uint32_t events = 0;
     int was_refused = 0;
     left = refused;
@@ -75,13 +79,21 @@ static int run(long refused) {
         }                                                            \
     } while (0)
 
+    MAKE(sci_size_write(2, 4, 2, text, sizeof text, &length), machine);
     MAKE(sci_machine_open(&machine, 2, 4, 2, 16), machine);
     for (size_t i = 0; i < sizeof kinds; i++) {
         const uint8_t node = kinds[i] == SCI_SERVE || kinds[i] == SCI_REPLY ? 0 : 1;
         const sci_event event = { kinds[i], node, (uint8_t)(1 - node), 0, SCI_MREAD, store };
         MAKE(sci_machine_step(&machine, &event), machine);
+        MAKE(sci_event_write(&event, text + length, sizeof text - length, &used), machine);
+        length += used;
     }
+    MAKE(sci_machine_replay(&again, text, length, 16, &dead, &fault), again);
     MAKE(sci_machine_clone(&machine, &copy), copy);
+    MAKE(sci_node_open(&node, 0, 2, 4, 2, 16), node);
+    MAKE(sci_node_clone(&node, &other), other);
+    MAKE(sci_entry_write(&made, text, sizeof text, &used), machine);
+    MAKE(sci_packet_write(&packet, text, sizeof text, &used), machine);
     MAKE(sci_machine_sharing(&machine, 0, list, sizeof list, &used), machine);
     MAKE(sci_machine_settle(&machine, &events), machine);
     MAKE(sci_machine_logs(&machine, &logs), logs);
@@ -95,8 +107,11 @@ static int run(long refused) {
         MAKE(sci_logs_push(&read, &entry), read);
     }
     left = -1;
-    if (verdict.kind != SCI_LAWFUL || kind != SCI_ORDER || events == 0) {
+    if (verdict.kind != SCI_LAWFUL || kind != SCI_ORDER || events == 0 || dead.count != 0) {
         exit(5);
+    }
+    if (sci_machine_close(&again) || sci_node_close(&node) || sci_node_close(&other)) {
+        exit(7);
     }
     if (sci_machine_close(&machine) || sci_machine_close(&copy) || sci_logs_close(&logs) || sci_logs_close(&read) || live != 0) {
         printf("%ld blocks are left\n", live);

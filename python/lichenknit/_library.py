@@ -10,8 +10,8 @@ from operator import index
 from typing import Any, NoReturn
 
 from . import _native
-from .errors import OutOfRange, error_of
-from .numbers import Status
+from .errors import BadText, OutOfRange, error_of
+from .numbers import Status, TextKind
 
 NAME = "liblichenknit.so"
 
@@ -99,6 +99,28 @@ def call(name: str, *arguments: Any) -> None:
     """Calls a function, and raises what isn't SCI_OK."""
     if status := status_of(name, *arguments):
         raise failed(name, status)
+
+
+def raise_text_fault(name: str, status: int, fault: _native.sci_text_fault) -> None:
+    """Raises what isn't SCI_OK of a function that reads a text, with the fault that it wrote for SCI_TEXT."""
+    if status == Status.TEXT:
+        kind = TextKind(fault.kind)
+        raise BadText(f"{failed(name, status)}: line {fault.line}: {kind}", fault.line, kind)
+    if status:
+        raise failed(name, status)
+
+
+def text_of(name: str, *arguments: Any) -> str:
+    """The text that a function writes."""
+    used, room = ctypes.c_size_t(), 0
+    while True:
+        data = (ctypes.c_uint8 * room)()
+        status = status_of(name, *arguments, data, room, ctypes.byref(used))
+        if status == Status.OK:
+            return bytes(data[: used.value]).decode()
+        if status != Status.FULL:
+            raise failed(name, status)
+        room = used.value
 
 
 def is_enabled(name: str, *arguments: Any) -> bool:

@@ -43,6 +43,10 @@ class sci_want(Structure):
     _fields_ = [("kind", c_uint8), ("line", c_uint8), ("ask", c_uint8), ("reserved", c_uint8)]
 
 
+class sci_dead(Structure):
+    _fields_ = [("count", c_uint32), ("place", c_uint32), ("obstacle", c_uint32)]
+
+
 class sci_verdict(Structure):
     _fields_ = [("kind", c_uint32), ("line", c_uint32), ("has_entry", c_uint32), ("node", c_uint32), ("serial", c_uint32)]
 
@@ -72,7 +76,7 @@ PACKET_BYTES, PACKET_WORDS = c_uint8 * 88, c_uint64 * 11
 FUNCTIONS = {
     "sci_version": (),
     "sci_layout": (c_uint64 * 8,),
-    "sci_layout_more": (c_uint64 * 4,),
+    "sci_layout_more": (c_uint64 * 5,),
     "sci_status_text": (c_uint32,),
     "sci_status_name": (c_uint32,),
     "sci_command_name": (c_uint32,),
@@ -84,11 +88,16 @@ FUNCTIONS = {
     "sci_packet_encode": (POINTER(sci_packet), PACKET_BYTES, SIZE),
     "sci_packet_from_words": (U64, c_size_t, POINTER(sci_packet), SIZE),
     "sci_packet_to_words": (POINTER(sci_packet), PACKET_WORDS, SIZE),
+    "sci_packet_write": (POINTER(sci_packet), U8, c_size_t, SIZE),
+    "sci_event_write": (POINTER(sci_event), U8, c_size_t, SIZE),
+    "sci_size_write": (c_uint8, c_uint8, c_uint8, U8, c_size_t, SIZE),
+    "sci_entry_write": (POINTER(sci_entry), U8, c_size_t, SIZE),
     "sci_machine_open": (MACHINE, c_uint8, c_uint8, c_uint8, c_uint32),
     "sci_machine_close": (MACHINE,),
     "sci_machine_step": (MACHINE, POINTER(sci_event)),
     "sci_machine_step_seen": (MACHINE, POINTER(sci_event), POINTER(sci_seen)),
     "sci_machine_obstacle": (MACHINE, POINTER(sci_event), U32),
+    "sci_machine_replay": (MACHINE, c_char_p, c_size_t, c_uint32, POINTER(sci_dead), POINTER(sci_text_fault)),
     "sci_machine_clone": (MACHINE, MACHINE),
     "sci_machine_held": (MACHINE, c_uint8, c_uint8, POINTER(sci_held)),
     "sci_machine_home": (MACHINE, c_uint8, c_uint8, POINTER(sci_home)),
@@ -135,7 +144,8 @@ FUNCTIONS = {
     "sci_logs_write": (LOGS, U8, c_size_t, SIZE),
 }
 ANSWERS = {"sci_layout": None, "sci_layout_more": None, "sci_status_text": c_char_p, **{it: c_char_p for it in FUNCTIONS if it.endswith("_name")}}
-LAYOUT = (sci_op, sci_event, sci_packet, sci_stamped, sci_entry, sci_verdict, sci_text_fault, sci_machine, sci_held, sci_home, sci_seen, sci_want)
+LAYOUT = (sci_op, sci_event, sci_packet, sci_stamped, sci_entry, sci_verdict, sci_text_fault, sci_machine, sci_held, sci_home, sci_seen, sci_want,
+          sci_dead)
 
 
 def opened(path):
@@ -144,7 +154,7 @@ def opened(path):
     for name, takes in FUNCTIONS.items():
         function = getattr(library, name)
         function.argtypes, function.restype = takes, ANSWERS.get(name, c_uint32)
-    sizes, more = (c_uint64 * 8)(), (c_uint64 * 4)()
+    sizes, more = (c_uint64 * 8)(), (c_uint64 * 5)()
     library.sci_layout(sizes)
     library.sci_layout_more(more)
     here = [ctypes.sizeof(it) for it in LAYOUT]

@@ -30,7 +30,7 @@ class Misuse(Error, ValueError):
 
 
 class Full(Error):
-    """A log has 65,536 entries."""
+    """A log has 65,536 entries, or a node has issued all operations that it may."""
 
 
 class BadPacket(Error, ValueError):
@@ -38,7 +38,7 @@ class BadPacket(Error, ValueError):
 
 
 class BadText(Error, ValueError):
-    """A text is no log: its first fault."""
+    """A text is no log, or no schedule: its first fault."""
 
     def __init__(self, message: str, line: int = 0, kind: TextKind = TextKind.SYNTAX) -> None:
         super().__init__(message, Status.TEXT)

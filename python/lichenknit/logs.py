@@ -7,10 +7,9 @@ from ctypes import byref, c_size_t, c_uint8, c_uint32
 from typing import overload
 
 from . import _native
-from ._library import buffer, failed
+from ._library import buffer, failed, raise_text_fault
 from ._owner import Owner
-from .errors import BadText
-from .numbers import MAX_NODES, OrderKind, Status, TextKind
+from .numbers import MAX_NODES, OrderKind, Status
 from .values import Contents, Entry, Order, Verdict
 
 
@@ -69,11 +68,7 @@ class Logs(Owner):
         """The logs of a text, in the format of `scimem replay`. If it is no log, BadText has its first fault."""
         logs, fault = cls._empty(), _native.sci_text_fault()
         status = logs._status("read", *buffer(text.encode() if isinstance(text, str) else text), fault)
-        if status == Status.TEXT:
-            kind = TextKind(fault.kind)
-            raise BadText(f"{failed('sci_logs_read', status)}: line {fault.line}: {kind}", fault.line, kind)
-        if status:
-            raise failed("sci_logs_read", status)
+        raise_text_fault("sci_logs_read", status, fault)
         return logs
 
     def text(self) -> str:

@@ -6,10 +6,11 @@ from collections.abc import Iterator
 from ctypes import byref, c_size_t, c_uint8, c_uint32
 
 from . import _native
+from ._library import buffer, raise_text_fault
 from ._owner import Owner
 from .logs import Logs
 from .numbers import MAX_NODES, Lane, Obstacle
-from .values import Contents, Event, Held, Home, Op, Packet, Seen
+from .values import Contents, Dead, Event, Held, Home, Op, Packet, Seen
 
 
 class Machine(Owner):
@@ -22,6 +23,21 @@ class Machine(Owner):
     def __init__(self, nodes: int, lines: int, slots: int, limit: int) -> None:
         super().__init__()
         self._call("open", nodes, lines, slots, limit)
+
+    @classmethod
+    def _empty(cls) -> Machine:
+        machine = cls.__new__(cls)
+        Owner.__init__(machine)
+        return machine
+
+    @classmethod
+    def replay(cls, text: str | bytes, limit: int) -> tuple[Machine, Dead | None]:
+        """The machine where the schedule of this text leads, each node of which may issue `limit` operations, and the events that weren't
+        enabled, if there are any: they change nothing. If it is no schedule, BadText has its first fault."""
+        machine, dead, fault = cls._empty(), _native.sci_dead(), _native.sci_text_fault()
+        status = machine._status("replay", *buffer(text.encode() if isinstance(text, str) else text), limit, dead, fault)
+        raise_text_fault("sci_machine_replay", status, fault)
+        return machine, Dead._of(dead)
 
     def step(self, event: Event) -> Seen:
         """Applies an event, and gives the packet that it sent or took and the entry that it logged. It raises NotEnabled if the event isn't
@@ -42,8 +58,7 @@ class Machine(Owner):
 
     def clone(self) -> Machine:
         """A copy of the machine. The two share nothing."""
-        copy = Machine.__new__(Machine)
-        Owner.__init__(copy)
+        copy = Machine._empty()
         self._call("clone", copy._object)
         return copy
 

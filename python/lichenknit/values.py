@@ -7,10 +7,11 @@ from ctypes import byref, c_size_t
 from typing import NamedTuple
 
 from . import _native
-from ._library import buffer, call, filled, words_of
-from .numbers import LINE_WORDS, NO_NODE, PACKET_BYTES, Act, AskKind, Command, EventKind, HomeState, OrderKind, State, VerdictKind, WantKind
+from ._library import buffer, call, filled, text_of, words_of
+from .numbers import (LINE_WORDS, NO_NODE, PACKET_BYTES, Act, AskKind, Command, EventKind, HomeState, Obstacle, OrderKind, State, VerdictKind,
+                      WantKind)
 
-__all__ = ["Contents", "Entry", "Event", "Held", "Home", "Op", "Order", "Packet", "Seen", "Verdict", "Want", "packets"]
+__all__ = ["Contents", "Dead", "Entry", "Event", "Held", "Home", "Op", "Order", "Packet", "Seen", "Verdict", "Want", "packets", "size_text"]
 
 
 def node_of(number: int) -> int | None:
@@ -112,8 +113,17 @@ class Event(NamedTuple):
         """A node accepts the oldest answer that came from the source."""
         return cls(EventKind.ACCEPT, node, source)
 
+    def text(self) -> str:
+        """The line of the event in a schedule."""
+        return text_of("sci_event_write", self._as_c())
+
     def _as_c(self) -> _native.sci_event:
         return filled(_native.sci_event, self.kind, self.node, self.source, self.line, self.asks, self.op._as_c())
+
+
+def size_text(nodes: int, lines: int, slots: int) -> str:
+    """The line of a machine's size, with which a schedule begins."""
+    return text_of("sci_size_write", nodes, lines, slots)
 
 
 class Contents(NamedTuple):
@@ -172,6 +182,10 @@ class Packet(NamedTuple):
         call("sci_packet_to_words", self._as_c(), words, byref(used))
         return tuple(words[: used.value])
 
+    def text(self) -> str:
+        """The line of the packet, as `scimem decode` prints it."""
+        return text_of("sci_packet_write", self._as_c())
+
     def _as_c(self) -> _native.sci_packet:
         version, words = self.contents or (0, (0,) * LINE_WORDS)
         return filled(_native.sci_packet, self.target, self.command, self.source, self.control, self.line, self.identifier,
@@ -200,6 +214,10 @@ class Entry(NamedTuple):
     op: Op
     word: int | None
     version: int
+
+    def text(self) -> str:
+        """The line of the entry in a log."""
+        return text_of("sci_entry_write", self._as_c())
 
     def _as_c(self) -> _native.sci_entry:
         return filled(_native.sci_entry, self.node, int(self.word is not None), 0, self.serial, self.op._as_c(), self.word or 0, self.version)
@@ -245,6 +263,19 @@ class Seen(NamedTuple):
     @classmethod
     def _of(cls, it: _native.sci_seen) -> Seen:
         return cls(Packet._of(it.packet) if it.has_packet else None, Entry._of(it.entry) if it.has_entry else None)
+
+
+class Dead(NamedTuple):
+    """The events of a schedule that weren't enabled when they came: how many they are, how many events stand before the first of them, and
+    what stood in its way."""
+
+    count: int
+    place: int
+    obstacle: Obstacle
+
+    @classmethod
+    def _of(cls, it: _native.sci_dead) -> Dead | None:
+        return cls(it.count, it.place, Obstacle(it.obstacle)) if it.count else None
 
 
 class Want(NamedTuple):

@@ -10,8 +10,9 @@ import unittest
 from copy import deepcopy
 
 import lichenknit
-from lichenknit import (Act, AskKind, BadPacket, BadText, BadTrace, Command, Contents, Decision, Entry, Event, HomeState, Lane, Logs, Machine, Misuse,
-                        NoMemory, Node, NotEnabled, Obstacle, Op, OrderKind, OutOfRange, Packet, State, Status, TextKind, VerdictKind, WantKind, judge, packets)
+from lichenknit import (Act, AskKind, BadPacket, BadText, BadTrace, Command, Contents, Dead, Decision, Entry, Event, Full, HomeState, Lane, Logs,
+                        Machine, Misuse, NoMemory, Node, NotEnabled, Obstacle, Op, OrderKind, OutOfRange, Packet, State, Status, TextKind, VerdictKind,
+                        WantKind, judge, packets, size_text)
 
 LOG = "log 2 2 1\nlast 0 @1 7 0 0 0 0 0 0 0\n0 0 store 0 0 7 = - @1\n1 0 load 0 0 = 7 @1\n"
 EXAMPLES = os.path.join(os.path.dirname(os.path.abspath(__file__)), "..", "..", "examples")
@@ -146,6 +147,24 @@ class Machines(unittest.TestCase):
             machine.settle()
         self.assertEqual([(it.op, it.word) for it in machine.logs()], list(zip(ops, (None, 12, 6, 20, 25, 25, 26, 3))))
 
+    def test_a_run_is_written_and_made_again(self):
+        machine, text = Machine(2, 4, 2, 16), size_text(2, 4, 2)
+        events = (Event.issue(1, STORE), Event.ask(1, 0, AskKind.MREAD), Event.reply(1), Event.serve(1, 0), Event.reply(0), Event.accept(0, 1),
+                  Event.perform(1, 0))
+        for event in events:
+            text += event.text()
+            machine.try_step(event)
+        self.assertEqual(text, "machine 2 4 2\nissue 1 store 0 3 42\nask 1 0 mread\nreply 1\nserve 1 0\nreply 0\naccept 0 1\nperform 1 0\n")
+        again, dead = Machine.replay(text, 16)
+        self.assertEqual(dead, Dead(1, 2, Obstacle.NO_ANSWER_WAITS))
+        self.assertEqual((again.last(0), again.held(1, 0)), (machine.last(0), machine.held(1, 0)))
+        self.assertEqual(Machine.replay(size_text(1, 1, 1), 1)[1], None)
+        with self.assertRaises(BadText) as caught:
+            Machine.replay(text + "reply 2\n", 16)
+        self.assertEqual((caught.exception.line, caught.exception.kind), (9, TextKind.RANGE))
+        with self.assertRaises(OutOfRange):
+            Machine.replay(text, 0)
+
     def test_requests_may_be_refused(self):
         machine = Machine(2, 1, 1, 16)
         for event in (Event.issue(1, Op.load(0, 0)), Event.ask(1, 0, AskKind.FREAD), Event.refuse(1, 0)):
@@ -160,6 +179,18 @@ class Machines(unittest.TestCase):
 
 
 class Nodes(unittest.TestCase):
+    def test_a_copy_goes_its_own_way(self):
+        node = Node(1, 2, 4, 2, 2)
+        node.issue(STORE)
+        copy = deepcopy(node)
+        node.issue(Op.load(line=1, word=0))
+        with self.assertRaises(Full):
+            node.issue(Op.load(line=2, word=0))
+        with self.assertRaises(NotEnabled):
+            node.issue(Op.load(line=1, word=0))
+        self.assertEqual((copy.pending(0), copy.pending(1)), ((STORE, 0), None))
+        self.assertEqual((copy.issue(Op.load(line=3, word=0)), copy.next()), (1, (WantKind.ASK, 0, AskKind.MREAD)))
+
     def test_requests_go_out_and_answers_come_back(self):
         home, node = Node(0, 2, 4, 2, 16), Node(1, 2, 4, 2, 16)
         self.assertEqual(node.issue(STORE), 0)
@@ -199,6 +230,12 @@ class Nodes(unittest.TestCase):
 
 
 class Log(unittest.TestCase):
+    def test_lines_are_those_of_the_programs(self):
+        self.assertEqual(Packet(0, Command.MREAD, 1, 5, 2, 0xFFFF).text(), "mread to 0 from 1 control 5 line 2\n")
+        self.assertEqual("".join(it.text() for it in Logs.read(LOG)), LOG.partition("0 0 0 0 0 0 0\n")[2])
+        with self.assertRaises(OutOfRange):
+            Entry(0, 0, STORE, 7, 1).text()
+
     def test_texts_are_read_and_written(self):
         logs = Logs.read(LOG)
         self.assertEqual((logs.text(), logs.size, len(logs), logs.last(0).words[0]), (LOG, (2, 1), 2, 7))
@@ -211,7 +248,7 @@ class Log(unittest.TestCase):
         with self.assertRaises(BadText) as caught:
             Logs.read(LOG.replace("load", "zero"))
         self.assertEqual((caught.exception.line, caught.exception.kind), (4, TextKind.SYNTAX))
-        self.assertEqual(str(caught.exception), "sci_logs_read: SCI_TEXT: the text is no log: line 4: syntax")
+        self.assertEqual(str(caught.exception), "sci_logs_read: SCI_TEXT: the text has a fault: line 4: syntax")
 
     def test_entries_are_pushed_and_judged(self):
         logs, copy = Logs.read(LOG), Logs(2, 1)

@@ -197,7 +197,8 @@ def check_verilog(tally):
         answer = {"const char *": "string"}.get(result, WORDS.get(result, result))
         wanted[name] = answer, [verilog_type(words, it) for it in range(len(words))]
     # A text of any length is a string.
-    wanted["sci_logs_read"][1][1] = ("input", "string", False, "text")
+    for name in ("sci_logs_read", "sci_machine_replay"):
+        wanted[name][1][1] = ("input", "string", False, "text")
     compare(tally, "SystemVerilog", wanted, found)
     types = {name: (kind, int(length)) for kind, name, length in re.findall(r"typedef (\w+ unsigned) (sci_\w+)_t\s*\[(\d+)\];", text)}
     compare(tally, "SystemVerilog", {it: verilog_typedef(it) for it in structs()}, types)

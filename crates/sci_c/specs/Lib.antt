@@ -14,6 +14,8 @@ pub mod Node
 pub mod Object
 pub mod Order
 pub mod Packet
+pub mod Replaying
 pub mod Seeing
 pub mod Taking
+pub mod Texts
 pub mod Written

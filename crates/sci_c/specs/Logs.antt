@@ -3,12 +3,11 @@ use Rattle.std.specs.Prelude.{◌≡◌, ℕ, ◌<◌, ◌≤◌, List, length, 
 use Rattle.sci_words.specs.declared.limits.TheConstants.{MAX_OPERATIONS}
 use Rattle.sci_history.specs.{declared.{entry.Entry.{Entry}, verdict.Verdict.{Verdict}}, Audit.{IsVerdict}}
 use Rattle.sci_history.specs.{Memory.{stamped_at}, Placed.{log_of}}
-use Rattle.sci_text.specs.declared.fault.{TextFault.{TextFault}, TextFaultKind.TheVariants.{Memory}}
-use Rattle.sci_text.specs.{FirstFault.{IsRefusal}, Log.{log_text}, LogFault.{IsLogFault}, LogValue.{AreLogs, IsLogs}}
+use Rattle.sci_text.specs.{Log.{log_text}, LogValue.{AreLogs, IsLogs}}
 use Rattle.sci_c_values.specs.declared.{entry.SciEntry.{SciEntry}, stamped.SciStamped.{SciStamped}}
-use Rattle.sci_c_values.specs.declared.verdict.{SciTextFault.{SciTextFault}, SciVerdict.{SciVerdict}}
+use Rattle.sci_c_values.specs.declared.verdict.SciVerdict.{SciVerdict}
 use Rattle.sci_c_values.specs.{Entry.{SaysEntry, entry_struct}, Stamped.{stamped_of, stamped_struct}}
-use Rattle.sci_c_values.specs.Verdict.{text_fault_struct, verdict_struct}
+use Rattle.sci_c_values.specs.Verdict.{verdict_struct}
 use Rattle.sci_c.specs.{Journal.{JournalOf, FitsJournal, with_entry, with_last}, Written.{StandOver}}
 
 -- the entry that the struct says ends its node's log
@@ -48,13 +47,6 @@ pub record IsFound (c : SciVerdict) (journal : JournalOf) : Type 0 where
 pub record AreRead (text : List ℕ) (journal : JournalOf) : Type 0 where
   pub text_is : IsLogs text journal.nodes journal.logs journal.last
   pub good : AreLogs journal.nodes journal.logs journal.last
-
--- the first fault of a text
-pub record IsTextFault (text : List ℕ) (c : SciTextFault) : Type 0 where
-  pub fault : TextFault
-  pub refused : IsRefusal IsLogFault text fault
-  pub not_memory : fault.kind ≡ Memory → ⊥
-  pub struct_is : c ≡ text_fault_struct fault
 
 abbrev pub text_of : JournalOf → List ℕ
 text_of journal = log_text journal.nodes journal.logs journal.last

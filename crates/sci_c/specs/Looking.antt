@@ -1,7 +1,6 @@
 -- What the calls answer that look at the lines and packets of a node or of a machine.
 use Rattle.std.specs.Prelude.{◌≡◌, ◌≢◌, ℕ, ◌<◌, ◌≤◌, ◌%◌, ◌⊎◌, List, length, slice_get, Some, None, is_some, is_none}
 use Rattle.sci_words.specs.declared.event.Event.{Event}
-use Rattle.sci_packets.specs.declared.packet.Packet.{Packet}
 use Rattle.sci_cache.specs.Cache.{Letter, line_of}
 use Rattle.sci_core.specs.declared.lane.LaneKind.{LaneKind}
 use Rattle.sci_core.specs.{Core.{Core, kind_number, lane_of, node_at, stepping}, Node.{NodeOf, home_of, lines_of}}

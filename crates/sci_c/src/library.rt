@@ -4,8 +4,8 @@ ghost use Rattle.std.specs.Prelude.{◌≡◌, ◌∷◌, []};
 
 use crate::handle::SciObject;
 use sci_c_values::{
-    SciEntry, SciEvent, SciHeld, SciHome, SciOp, SciPacket, SciSeen, SciStamped, SciTextFault,
-    SciVerdict, SciWant,
+    SciDead, SciEntry, SciEvent, SciHeld, SciHome, SciOp, SciPacket, SciSeen, SciStamped,
+    SciTextFault, SciVerdict, SciWant,
 };
 use std::mem::size_of;
 
@@ -36,6 +36,8 @@ const SEEN: usize = size_of::<SciSeen>();
 
 const WANT: usize = size_of::<SciWant>();
 
+const DEAD: usize = size_of::<SciDead>();
+
 /// The version of the library.
 #[unsafe(no_mangle)]
 pub extern "C" fn sci_version() -> u32
@@ -61,10 +63,16 @@ pub extern "C" fn sci_layout(sizes: &mut [u64; 8])
     ];
 }
 
-/// Writes the sizes of the structs for looks and for what a policy decides.
+/// Writes the sizes of the structs for looks, for what a policy decides, and for what a schedule didn't do.
 #[unsafe(no_mangle)]
-pub extern "C" fn sci_layout_more(sizes: &mut [u64; 4])
-    ensures { sizes.new ≡ 80 ∷ 80 ∷ 152 ∷ 4 ∷ [] }
+pub extern "C" fn sci_layout_more(sizes: &mut [u64; 5])
+    ensures { sizes.new ≡ 80 ∷ 80 ∷ 152 ∷ 4 ∷ 12 ∷ [] }
 {
-    *sizes = [HELD as u64, HOME as u64, SEEN as u64, WANT as u64];
+    *sizes = [
+        HELD as u64,
+        HOME as u64,
+        SEEN as u64,
+        WANT as u64,
+        DEAD as u64,
+    ];
 }

@@ -9,9 +9,10 @@ ghost use Rattle.sci_c.specs.Looking.{HasNoLine, HasNoPacket, HasNoSuchLane, IsA
 ghost use Rattle.sci_c.specs.Looking.{IsLongerSharing, IsSharingOf};
 
 use crate::handle::SciObject;
+use crate::room::put_over;
 use sci_c_values::{
-    SCI_FULL, SCI_MISUSE, SCI_NO_MEMORY, SCI_NOT_ENABLED, SCI_OK, SCI_RANGE, SciEvent, SciHeld,
-    SciHome, SciOp, SciPacket, event_in, held_out, home_out, obstacle_out, op_out, packet_out,
+    SCI_MISUSE, SCI_NO_MEMORY, SCI_NOT_ENABLED, SCI_OK, SCI_RANGE, SciEvent, SciHeld, SciHome,
+    SciOp, SciPacket, event_in, held_out, home_out, obstacle_out, op_out, packet_out,
 };
 use sci_core::{LaneKind, Machine, Node};
 use std::alloc::Global;
@@ -304,14 +305,7 @@ pub extern "C" fn sci_machine_sharing(
         return SCI_RANGE;
     }
     match machine.sharing_list(alloc, line) {
-        Ok(members) => {
-            *used = members.len();
-            if members.len() > nodes.len() {
-                return SCI_FULL;
-            }
-            nodes[..members.len()].copy_from_slice(&members);
-            SCI_OK
-        }
+        Ok(members) => put_over(&members, nodes, used),
         Err(_) => SCI_NO_MEMORY,
     }
 }

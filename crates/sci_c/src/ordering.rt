@@ -7,7 +7,8 @@ ghost use Rattle.sci_c.specs.{Order.{IsOrderKind, IsOrdering, ref_struct, step_s
 
 use crate::handle::SciObject;
 use crate::journal::Journal;
-use sci_c_values::{SCI_FULL, SCI_MISUSE, SCI_NO_MEMORY, SCI_OK, SciEntry, entry_out};
+use crate::room::put_over;
+use sci_c_values::{SCI_MISUSE, SCI_NO_MEMORY, SCI_OK, SciEntry, entry_out};
 use sci_history::{Entry, OrderVerdict, Step, sequential_order};
 use std::alloc::{AllocError, Global};
 
@@ -53,13 +54,11 @@ fn put(
     ensures same { result ≢ SCI_OK → entries.new ≡ entries.old }
     ensures same_kind { result ≢ SCI_OK → kind.new ≡ kind.old }
 {
-    *used = made.len();
-    if made.len() > entries.len() {
-        return SCI_FULL;
+    let status = put_over(made, entries, used);
+    if status == SCI_OK {
+        *kind = found;
     }
-    entries[..made.len()].copy_from_slice(made);
-    *kind = found;
-    SCI_OK
+    status
 }
 
 /// Looks for one order of all entries.

@@ -11,7 +11,8 @@ use sci_c_values::{
 };
 use sci_packets::{decode, encode, from_words, to_words};
 
-fn status_of_refusal(refusal: PacketRefusal) -> u32
+/// The status of a struct that says no packet.
+pub(crate) fn status_of_refusal(refusal: PacketRefusal) -> u32
     ensures { result ≡ refusal_number refusal }
 {
     match refusal {

@@ -3,19 +3,39 @@
 ghost use Rattle.std.specs.Prelude.{◌≡◌, ◌≢◌, ◌⊎◌, ◌↔◌, ◌∷◌, [], IsSome};
 ghost use Rattle.sci_history.specs.Lawful.{Lawful};
 ghost use Rattle.sci_c_values.specs.declared.status.TheConstants.{SCI_FULL, SCI_MISUSE, SCI_NO_MEMORY, SCI_OK, SCI_TEXT};
-ghost use Rattle.sci_c.specs.{Calls.{IsLook}, Kinds.{On, logs_in}, Logs.{AreRead, AreTooLong, AreWritten, IsFound, IsTextFault}};
+ghost use Rattle.sci_c.specs.{Calls.{IsLook}, Kinds.{On, logs_in}, Logs.{AreRead, AreTooLong, AreWritten, IsFound}, Texts.{IsTextFault}};
+ghost use Rattle.sci_text.specs.{LogFault.{IsLogFault}, declared.fault.TextFaultKind.TheVariants.{Memory}};
+ghost use Rattle.sci_c_values.specs.Verdict.{text_fault_struct};
 
 use crate::closing::opened;
 use crate::handle::SciObject;
 use crate::journal::Journal;
+use crate::room::put_over;
 use crate::thing::Thing;
 use sci_c_values::{
-    SCI_FULL, SCI_MISUSE, SCI_NO_MEMORY, SCI_OK, SCI_TEXT, SciTextFault, SciVerdict,
-    text_fault_out, verdict_out,
+    SCI_MISUSE, SCI_NO_MEMORY, SCI_OK, SCI_TEXT, SciTextFault, SciVerdict, text_fault_out,
+    verdict_out,
 };
 use sci_history::audit;
-use sci_text::{TextFaultKind, logs_of, logs_text};
+use sci_text::{TextFault, TextFaultKind, logs_of, logs_text};
 use std::alloc::Global;
+
+/// The status of a text that was refused. Its fault is written, unless memory was refused.
+pub(crate) fn status_of_text(refused: TextFault, fault: &mut SciTextFault) -> u32
+    ensures told { result ≡ SCI_TEXT → fault.new ≡ text_fault_struct refused }
+    ensures fault { result ≡ SCI_TEXT → refused.kind ≢ Memory }
+    ensures memory { result ≡ SCI_NO_MEMORY → refused.kind ≡ Memory }
+    ensures status { (result ≡ SCI_TEXT) ⊎ (result ≡ SCI_NO_MEMORY) }
+    ensures same { result ≢ SCI_TEXT → fault.new ≡ fault.old }
+{
+    match refused.kind {
+        TextFaultKind::Memory => SCI_NO_MEMORY,
+        _ => {
+            *fault = text_fault_out(refused);
+            SCI_TEXT
+        }
+    }
+}
 
 /// Audits logs against their last contents.
 #[unsafe(no_mangle)]
@@ -51,7 +71,7 @@ pub extern "C" fn sci_logs_read(
     fault: &mut SciTextFault,
 ) -> u32
     ensures read { result ≡ SCI_OK → On logs_in object.new.value (AreRead text.now) }
-    ensures fault { result ≡ SCI_TEXT → IsTextFault text.now fault.new }
+    ensures fault { result ≡ SCI_TEXT → IsTextFault IsLogFault text.now fault.new }
     ensures misuse { (result ≡ SCI_MISUSE) ↔ IsSome object.old.value }
     ensures status { (result ≡ SCI_OK) ⊎ ((result ≡ SCI_TEXT) ⊎ ((result ≡ SCI_NO_MEMORY) ⊎ (result ≡ SCI_MISUSE))) }
     ensures same { result ≢ SCI_OK → object.new.value ≡ object.old.value }
@@ -64,13 +84,7 @@ pub extern "C" fn sci_logs_read(
         Ok((nodes, logs, last)) => {
             opened(alloc, object, Thing::Logs(Journal::of(nodes, logs, last)))
         }
-        Err(refused) => match refused.kind {
-            TextFaultKind::Memory => SCI_NO_MEMORY,
-            _ => {
-                *fault = text_fault_out(refused);
-                SCI_TEXT
-            }
-        },
+        Err(refused) => status_of_text(refused, fault),
     }
 }
 
@@ -92,14 +106,7 @@ pub extern "C" fn sci_logs_write(
         return SCI_MISUSE;
     };
     match logs_text(alloc, journal.nodes(), journal.logs(), journal.last()) {
-        Ok(made) => {
-            *used = made.len();
-            if made.len() > text.len() {
-                return SCI_FULL;
-            }
-            text[..made.len()].copy_from_slice(&made);
-            SCI_OK
-        }
+        Ok(made) => put_over(&made, text, used),
         Err(_) => SCI_NO_MEMORY,
     }
 }

@@ -1,4 +1,5 @@
 -- What the structs of the C interface say.
+pub mod Dead
 pub mod Entry
 pub mod LineStates
 pub mod Obstacle

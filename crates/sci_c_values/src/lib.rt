@@ -1,6 +1,7 @@
 //! The structs of the C interface, and the values that they stand for.
 #![tactic(auto)]
 
+mod dead;
 mod entry;
 mod line_states;
 mod obstacle;
@@ -12,6 +13,7 @@ mod status;
 mod verdict;
 mod want;
 
+pub use dead::{SciDead, dead_out};
 pub use entry::{SciEntry, entry_in, entry_out};
 pub use line_states::{SciHeld, SciHome, held_out, home_out};
 pub use obstacle::obstacle_out;

@@ -120,6 +120,15 @@ pub struct sci_want {
     pub reserved: u8,
 }
 
+/// The events of a schedule that weren't enabled when they came, and so changed nothing. All is 0 if there are none.
+#[repr(C)]
+#[derive(Clone, Copy, Debug, Default, PartialEq, Eq)]
+pub struct sci_dead {
+    pub count: u32,
+    pub place: u32,
+    pub obstacle: u32,
+}
+
 /// What an audit finds: on which line, and the entry where the rule fails, if has_entry is 1.
 #[repr(C)]
 #[derive(Clone, Copy, Debug, Default, PartialEq, Eq)]
@@ -167,7 +176,7 @@ pub struct sci_logs {
 unsafe extern "C" {
     pub fn sci_version() -> u32;
     pub fn sci_layout(sizes: *mut [u64; 8]);
-    pub fn sci_layout_more(sizes: *mut [u64; 4]);
+    pub fn sci_layout_more(sizes: *mut [u64; 5]);
     pub fn sci_status_text(status: sci_status) -> *const c_char;
     pub fn sci_status_name(status: sci_status) -> *const c_char;
     pub fn sci_command_name(command: u32) -> *const c_char;
@@ -197,6 +206,32 @@ unsafe extern "C" {
         words: *mut [u64; 11],
         used: *mut usize,
     ) -> sci_status;
+    pub fn sci_packet_write(
+        packet: *const sci_packet,
+        text: *mut u8,
+        room: usize,
+        used: *mut usize,
+    ) -> sci_status;
+    pub fn sci_event_write(
+        event: *const sci_event,
+        text: *mut u8,
+        room: usize,
+        used: *mut usize,
+    ) -> sci_status;
+    pub fn sci_size_write(
+        nodes: u8,
+        lines: u8,
+        slots: u8,
+        text: *mut u8,
+        room: usize,
+        used: *mut usize,
+    ) -> sci_status;
+    pub fn sci_entry_write(
+        entry: *const sci_entry,
+        text: *mut u8,
+        room: usize,
+        used: *mut usize,
+    ) -> sci_status;
     pub fn sci_machine_open(
         machine: *mut sci_machine,
         nodes: u8,
@@ -215,6 +250,14 @@ unsafe extern "C" {
         machine: *const sci_machine,
         event: *const sci_event,
         obstacle: *mut u32,
+    ) -> sci_status;
+    pub fn sci_machine_replay(
+        machine: *mut sci_machine,
+        text: *const u8,
+        length: usize,
+        limit: u32,
+        dead: *mut sci_dead,
+        fault: *mut sci_text_fault,
     ) -> sci_status;
     pub fn sci_machine_clone(machine: *const sci_machine, copy: *mut sci_machine) -> sci_status;
     pub fn sci_machine_held(

@@ -6,7 +6,7 @@ use lichenknit_sys::*;
 
 #[test]
 fn sizes_are_those_of_the_library() {
-    let (mut sizes, mut more) = ([0; 8], [0; 4]);
+    let (mut sizes, mut more) = ([0; 8], [0; 5]);
     // SAFETY: the arrays are as long as the functions write.
     unsafe {
         sci_layout(&mut sizes);
@@ -29,7 +29,8 @@ fn sizes_are_those_of_the_library() {
             size_of::<sci_held>(),
             size_of::<sci_home>(),
             size_of::<sci_seen>(),
-            size_of::<sci_want>()
+            size_of::<sci_want>(),
+            size_of::<sci_dead>()
         ]
     );
 }

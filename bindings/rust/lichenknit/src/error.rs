@@ -36,7 +36,7 @@ pub enum Error {
     BadOffset,
     /// The target, the source or the identifier is one that the packet can't have.
     BadIdentifier,
-    /// The text is no log.
+    /// The text is no log, or no schedule.
     Text(TextFault),
 }
 

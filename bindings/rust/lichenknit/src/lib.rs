@@ -31,7 +31,9 @@ pub use logs::{Entries, Logs};
 pub use machine::{LanePackets, Machine};
 pub use node::Node;
 pub use packet::{Packet, PacketBytes, Packets};
-pub use values::{Act, Contents, Entry, Event, Held, Home, Op, Order, Seen, Size, Verdict, Want};
+pub use values::{
+    Act, Contents, Dead, Entry, Event, Held, Home, Op, Order, Seen, Size, Verdict, Want,
+};
 
 /// The version of the library: its first two numbers.
 pub fn library_version() -> (u32, u32) {

@@ -2,9 +2,8 @@ use std::str::FromStr;
 
 use lichenknit_sys as sys;
 
-use crate::calls::{checked, read, written};
-use crate::error::{Error, Result, TextFault};
-use crate::kinds::TextKind;
+use crate::calls::{checked, read, read_text, text_of, written};
+use crate::error::{Error, Result};
 use crate::values::{Contents, Entry, Order, Verdict};
 
 /// The logs of all nodes, with the last contents of each line.
@@ -34,29 +33,14 @@ impl Logs {
     pub fn read(text: &[u8]) -> Result<Self> {
         let mut fault = sys::sci_text_fault::default();
         let mut made = Logs { raw: sys::sci_logs { at: std::ptr::null_mut(), live: 0 } };
-        match unsafe { sys::sci_logs_read(&mut made.raw, text.as_ptr(), text.len(), &mut fault) } {
-            sys::SCI_TEXT => Err(Error::Text(TextFault {
-                line: fault.line,
-                kind: TextKind::of(fault.kind).unwrap_or(TextKind::Syntax),
-            })),
-            status => checked(status).map(|()| made),
-        }
+        let status =
+            unsafe { sys::sci_logs_read(&mut made.raw, text.as_ptr(), text.len(), &mut fault) };
+        read_text(status, fault).map(|()| made)
     }
 
     /// The text of the logs.
     pub fn text(&self) -> Result<String> {
-        let (mut text, mut used) = (Vec::new(), 0);
-        loop {
-            match checked(unsafe {
-                sys::sci_logs_write(&self.raw, text.as_mut_ptr(), text.len(), &mut used)
-            }) {
-                Err(Error::Full) => text.resize(used, 0),
-                Err(error) => return Err(error),
-                Ok(()) => break,
-            }
-        }
-        text.truncate(used);
-        Ok(String::from_utf8_lossy(&text).into_owned())
+        text_of(|text, room, used| unsafe { sys::sci_logs_write(&self.raw, text, room, used) })
     }
 
     /// Ends the log of the entry's node with the entry.

@@ -1,11 +1,11 @@
 use lichenknit_sys as sys;
 
-use crate::calls::{checked, found, read, written};
+use crate::calls::{checked, found, read, read_text, written};
 use crate::error::{Error, Result};
 use crate::kinds::{Lane, Obstacle};
 use crate::logs::Logs;
 use crate::packet::Packet;
-use crate::values::{Contents, Event, Held, Home, Op, Seen, Size};
+use crate::values::{Contents, Dead, Event, Held, Home, Op, Seen, Size};
 
 /// All nodes, and the packets between them. A machine is coherent after every call.
 #[derive(Debug)]
@@ -29,6 +29,24 @@ impl Machine {
 
     fn empty() -> Self {
         Machine { raw: sys::sci_machine { at: std::ptr::null_mut(), live: 0 } }
+    }
+
+    /// The machine where the schedule of this text leads, each node of which may issue `limit` operations, 1 to 65,536, and the events that
+    /// weren't enabled, if there are any: they change nothing.
+    pub fn replay(text: &[u8], limit: u32) -> Result<(Self, Option<Dead>)> {
+        let (mut dead, mut fault) = (sys::sci_dead::default(), sys::sci_text_fault::default());
+        let mut made = Machine::empty();
+        let status = unsafe {
+            sys::sci_machine_replay(
+                &mut made.raw,
+                text.as_ptr(),
+                text.len(),
+                limit,
+                &mut dead,
+                &mut fault,
+            )
+        };
+        read_text(status, fault).map(|()| (made, Dead::of(&dead)))
     }
 
     /// Applies an event, and gives the packet that it sent or took and the entry that it logged.

@@ -2,7 +2,7 @@ use std::ops::Deref;
 
 use lichenknit_sys as sys;
 
-use crate::calls::checked;
+use crate::calls::{checked, text_of};
 use crate::error::{Error, Result};
 use crate::kinds::Command;
 use crate::values::Contents;
@@ -90,6 +90,13 @@ impl Packet {
         // SAFETY: the pointers lead to a packet, to 11 words and to a number.
         checked(unsafe { sys::sci_packet_to_words(&raw, &mut words, &mut used) })?;
         Ok(words[..used].to_vec())
+    }
+
+    /// The line of the packet, as `scimem decode` prints it.
+    pub fn text(&self) -> Result<String> {
+        let raw = self.raw();
+        // SAFETY: the pointers lead to a packet, to the room and to a number.
+        text_of(|text, room, used| unsafe { sys::sci_packet_write(&raw, text, room, used) })
     }
 
     fn raw(&self) -> sys::sci_packet {

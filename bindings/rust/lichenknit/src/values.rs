@@ -4,7 +4,9 @@ use std::fmt;
 
 use lichenknit_sys as sys;
 
-use crate::kinds::{AskKind, HomeState, State, VerdictKind};
+use crate::calls::text_of;
+use crate::error::Result;
+use crate::kinds::{AskKind, HomeState, Obstacle, State, VerdictKind};
 use crate::packet::Packet;
 
 /// The node that an identifier names, if it names one.
@@ -18,6 +20,17 @@ pub struct Size {
     pub nodes: u8,
     pub lines: u8,
     pub slots: u8,
+}
+
+impl Size {
+    /// The line of the size, with which a schedule begins.
+    pub fn text(self) -> Result<String> {
+        let Size { nodes, lines, slots } = self;
+        // SAFETY: the pointers lead to the room and to a number.
+        text_of(|text, room, used| unsafe {
+            sys::sci_size_write(nodes, lines, slots, text, room, used)
+        })
+    }
 }
 
 /// What an operation does to its word.
@@ -105,6 +118,13 @@ pub enum Event {
 }
 
 impl Event {
+    /// The line of the event in a schedule.
+    pub fn text(self) -> Result<String> {
+        let raw = self.raw();
+        // SAFETY: the pointers lead to an event, to the room and to a number.
+        text_of(|text, room, used| unsafe { sys::sci_event_write(&raw, text, room, used) })
+    }
+
     pub(crate) fn raw(self) -> sys::sci_event {
         let raw = |kind: u32, node| sys::sci_event { kind: kind as u8, node, ..Default::default() };
         match self {
@@ -152,6 +172,13 @@ pub struct Entry {
 }
 
 impl Entry {
+    /// The line of the entry in a log.
+    pub fn text(&self) -> Result<String> {
+        let raw = self.raw();
+        // SAFETY: the pointers lead to an entry, to the room and to a number.
+        text_of(|text, room, used| unsafe { sys::sci_entry_write(&raw, text, room, used) })
+    }
+
     pub(crate) fn raw(&self) -> sys::sci_entry {
         sys::sci_entry {
             node: self.node,
@@ -232,6 +259,23 @@ impl Seen {
             packet: if raw.has_packet != 0 { Packet::of(&raw.packet) } else { None },
             entry: (raw.has_entry != 0).then(|| Entry::of(&raw.entry)),
         }
+    }
+}
+
+/// The events of a schedule that weren't enabled when they came.
+#[derive(Clone, Copy, Debug, PartialEq, Eq)]
+pub struct Dead {
+    pub count: u32,
+    /// How many events of the schedule stand before the first of them.
+    pub place: u32,
+    /// What stood in the way of the first.
+    pub obstacle: Obstacle,
+}
+
+impl Dead {
+    pub(crate) fn of(raw: &sys::sci_dead) -> Option<Self> {
+        let obstacle = Obstacle::of(raw.obstacle)?;
+        Some(Dead { count: raw.count, place: raw.place, obstacle })
     }
 }
 

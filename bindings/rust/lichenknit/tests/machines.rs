@@ -1,7 +1,8 @@
 //! Machines: events, what they do, and what stands in their way.
 
 use lichenknit::{
-    Act, AskKind, Command, Error, Event, HomeState, Lane, Machine, Obstacle, Op, Size, State,
+    Act, AskKind, Command, Dead, Error, Event, HomeState, Lane, Machine, Obstacle, Op, Size, State,
+    TextFault, TextKind,
 };
 
 const SIZE: Size = Size { nodes: 2, lines: 4, slots: 2 };
@@ -136,6 +137,33 @@ fn requests_may_be_refused() {
     }
     let answer = machine.answer(0).unwrap().unwrap();
     assert_eq!((answer.command, answer.target), (Command::Busy, 1));
+}
+
+#[test]
+fn a_run_is_written_and_made_again() {
+    let mut text = SIZE.text().unwrap();
+    for event in [
+        Event::Issue { node: 1, op: STORE },
+        Event::Ask { node: 1, line: 0, kind: AskKind::Mread },
+        Event::Reply { node: 1 },
+        Event::Serve { from: 1, node: 0 },
+        Event::Reply { node: 0 },
+        Event::Accept { from: 0, node: 1 },
+        Event::Perform { node: 1, line: 0 },
+    ] {
+        text += &event.text().unwrap();
+    }
+    let (machine, dead) = Machine::replay(text.as_bytes(), 16).unwrap();
+    assert_eq!(dead, Some(Dead { count: 1, place: 2, obstacle: Obstacle::NoAnswerWaits }));
+    assert_eq!(machine.last(0).unwrap(), stored().last(0).unwrap());
+    let logs = machine.logs().unwrap();
+    let lines: String = logs.iter().map(|it| it.text().unwrap()).collect();
+    assert_eq!(lines, "1 0 store 0 3 42 = - @1\n");
+    text += "reply 2\n";
+    let refused = Machine::replay(text.as_bytes(), 16).unwrap_err();
+    assert_eq!(refused, Error::Text(TextFault { line: 9, kind: TextKind::Range }));
+    assert_eq!(Machine::replay(b"machine 2 4 2\n", 0).unwrap_err(), Error::OutOfRange);
+    assert_eq!(Machine::replay(b"machine 2 4 2\n", 1).unwrap().1, None);
 }
 
 #[test]

@@ -124,6 +124,7 @@ fn packets_are_read_and_written() {
     let (packet, used) = Packet::decode(&bytes).unwrap();
     assert_eq!((packet.command, used), (Command::Fread, 16));
     assert_eq!(packet.encode().unwrap(), bytes);
+    assert_eq!(packet.text().unwrap(), "fread to 0 from 1 control 0 line 0\n");
     assert_eq!(Packet::from_words(&packet.to_words().unwrap()), Ok((packet, 2)));
     let twice = [&bytes[..], &bytes[..]].concat();
     assert_eq!(Packets::new(&twice).collect::<Result<Vec<_>, _>>(), Ok(vec![packet, packet]));

@@ -1,4 +1,4 @@
-use Rattle.std.proofs.Common.{rules, arith, ◌≡◌, ◌∙◌, ℕ, List, [], Option, drop, length, map, sym, ap, subst}
+use Rattle.std.proofs.Common.{rules, arith, ◌≡◌, ◌∙◌, ℕ, List, [], drop, map, sym, ap, subst}
 use Rattle.std.proofs.lemmas.{Grind.{common_steps}, Simd.{map-map}}
 use denote.Ref.{Bor}
 use Rattle.std.specs.Global.{Vec}
