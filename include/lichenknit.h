@@ -11,11 +11,15 @@
 **   - An object (sci_machine, sci_node, sci_logs) is all zero before its first use: SCI_INIT, or static memory. Only this
 **     library changes it. It may be moved, byte by byte, if the old place is not used again: two copies would both own what it
 **     keeps. When it goes out of use it is closed.
-**   - One thread at a time uses an object, also in a call that takes it as const. Two objects share nothing.
+**   - One thread at a time uses an object, also in a call that takes it as const: const says that the object stays as it was, and
+**     not that two threads may look at it at once, since the proofs take an object as the call's own. Two objects share nothing.
 **   - No function is called from a signal handler, or in the child of a fork of a process with threads.
 **   - malloc, realloc and free come from one allocator, which aligns a block to 16 bytes.
 **
 ** All else is looked at. Any number may be passed in any field, and what can't be done is answered by a status.
+**
+** MEMORY AND STACK. A call takes memory only if SCI_NO_MEMORY is among its statuses. sci_logs_read and sci_machine_logs take at most
+** 32 KB of stack; those that open, clone or replay 24 KB; sci_logs_order and sci_logs_order_kind 12 KB; all others 6 KB.
 **
 ** STATUSES. Unless a function says otherwise, a call that answers another status than SCI_OK leaves the object and all that
 ** its other arguments lead to as they were. What is const stays the same in any case. Where more than one status would fit,

@@ -1,0 +1,188 @@
+/* No call takes more stack than lichenknit.h says. Each is made on a stack of its own, which is filled before it; what isn't as it was
+** then has been used. With an argument it prints what each call took. */
+#define _XOPEN_SOURCE 700
+#include <stdio.h>
+#include <string.h>
+#include <ucontext.h>
+
+#include "lichenknit.h"
+
+#define ROOM 0x40000
+#define FILL 0xA5
+
+static _Alignas(64) unsigned char stack[ROOM];
+static ucontext_t here, there;
+
+/* What the calls are made with. */
+static sci_machine machine = SCI_INIT, copy = SCI_INIT, again = SCI_INIT;
+static sci_node node = SCI_INIT, home = SCI_INIT, other = SCI_INIT;
+static sci_logs logs = SCI_INIT, empty = SCI_INIT, read_again = SCI_INIT;
+static const sci_op store = { SCI_STORE, 0, 3, 0, 0, 42 };
+static const sci_event events[] = {
+    { SCI_ISSUE, 15, 0, 0, 0, { SCI_STORE, 0, 3, 0, 0, 42 } },
+    { SCI_ASK, 15, 0, 0, SCI_MREAD, { 0, 0, 0, 0, 0, 0 } },
+    { SCI_SERVE, 0, 15, 0, 0, { 0, 0, 0, 0, 0, 0 } },
+    { SCI_REPLY, 0, 0, 0, 0, { 0, 0, 0, 0, 0, 0 } },
+    { SCI_ACCEPT, 15, 0, 0, 0, { 0, 0, 0, 0, 0, 0 } },
+    { SCI_PERFORM, 15, 0, 0, 0, { 0, 0, 0, 0, 0, 0 } },
+};
+static sci_entry entry = { 0, 0, 0, 1, { SCI_STORE, 0, 3, 0, 0, 42 }, 0, 2 }, entries[64];
+static sci_packet packet;
+static sci_held held;
+static sci_home home_state;
+static sci_seen seen;
+static sci_want want;
+static sci_dead dead;
+static sci_verdict verdict;
+static sci_stamped stamped;
+static sci_text_fault fault;
+static sci_op op;
+static uint8_t bytes[SCI_PACKET_BYTES], answer[SCI_PACKET_BYTES], text[1 << 16], line[512], list[SCI_MAX_NODES], small, lines;
+static uint64_t words[SCI_PACKET_WORDS];
+static uint32_t number;
+static size_t used, length, answer_length, written;
+static sci_status status;
+
+#define CALLS(CALL)                                                                                            \
+    CALL(sci_machine_open, &machine, 16, 64, 8, 16)                                                            \
+    CALL(sci_machine_obstacle, &machine, &events[0], &number)                                                  \
+    CALL(sci_machine_step, &machine, &events[0])                                                               \
+    CALL(sci_machine_pending, &machine, 15, 0, &op, &number)                                                   \
+    CALL(sci_machine_step_seen, &machine, &events[1], &seen)                                                   \
+    CALL(sci_machine_packet, &machine, SCI_REQUESTS, 15, 0, 0, &packet)                                        \
+    CALL(sci_machine_step, &machine, &events[2])                                                               \
+    CALL(sci_machine_answer, &machine, 0, &packet)                                                             \
+    CALL(sci_machine_step, &machine, &events[3])                                                               \
+    CALL(sci_machine_step, &machine, &events[4])                                                               \
+    CALL(sci_machine_step_seen, &machine, &events[5], &seen)                                                   \
+    CALL(sci_machine_held, &machine, 15, 0, &held)                                                             \
+    CALL(sci_machine_home, &machine, 0, 0, &home_state)                                                        \
+    CALL(sci_machine_sharing, &machine, 0, list, sizeof list, &used)                                           \
+    CALL(sci_machine_authority, &machine, 0, &small)                                                           \
+    CALL(sci_machine_last, &machine, 0, &stamped)                                                              \
+    CALL(sci_machine_clone, &machine, &copy)                                                                   \
+    CALL(sci_machine_settle, &machine, &number)                                                                \
+    CALL(sci_machine_logs, &machine, &logs)                                                                    \
+    CALL(sci_logs_audit, &logs, &verdict)                                                                      \
+    CALL(sci_logs_order, &logs, &number, entries, 64, &used)                                                   \
+    CALL(sci_logs_order_kind, &logs, &number)                                                                  \
+    CALL(sci_logs_write, &logs, text, sizeof text, &length)                                                    \
+    CALL(sci_logs_read, &read_again, text, length, &fault)                                                     \
+    CALL(sci_logs_open, &empty, 16, 64)                                                                        \
+    CALL(sci_logs_push, &empty, &entry)                                                                        \
+    CALL(sci_logs_set_last, &empty, 0, &stamped)                                                               \
+    CALL(sci_logs_last, &empty, 0, &stamped)                                                                   \
+    CALL(sci_logs_size, &empty, &small, &lines)                                                                \
+    CALL(sci_logs_count, &empty, 0, &used)                                                                     \
+    CALL(sci_logs_entry, &empty, 0, 0, &entry)                                                                 \
+    CALL(sci_packet_encode, &packet, bytes, &length)                                                             \
+    CALL(sci_packet_decode, bytes, length, &packet, &used)                                                     \
+    CALL(sci_packet_to_words, &packet, words, &used)                                                           \
+    CALL(sci_packet_from_words, words, used, &packet, &written)                                                \
+    CALL(sci_packet_write, &packet, line, sizeof line, &used)                                                  \
+    CALL(sci_entry_write, &entry, line, sizeof line, &used)                                                    \
+    CALL(sci_size_write, 16, 64, 8, text, sizeof text, &length)                                                \
+    CALL(sci_event_write, &events[0], text + length, sizeof text - length, &used)                              \
+    CALL(sci_machine_replay, &again, text, length + used, 16, &dead, &fault)                                   \
+    CALL(sci_node_open, &node, 15, 16, 64, 8, 16)                                                              \
+    CALL(sci_node_open, &home, 0, 16, 64, 8, 16)                                                               \
+    CALL(sci_node_clone, &node, &other)                                                                        \
+    CALL(sci_node_issue, &node, &store, &number)                                                               \
+    CALL(sci_node_pending, &node, 0, &op, &number)                                                             \
+    CALL(sci_node_begin_turn, &node)                                                                           \
+    CALL(sci_node_next, &node, &want)                                                                          \
+    CALL(sci_node_ask, &node, 0, SCI_MREAD, bytes, &length)                                                    \
+    CALL(sci_node_decide, &home, bytes, length, &number)                                                       \
+    CALL(sci_node_serve, &home, bytes, length)                                                                 \
+    CALL(sci_node_answer, &home, &packet)                                                                      \
+    CALL(sci_node_take_answer, &home, answer, &answer_length)                                                  \
+    CALL(sci_node_refuse, &home, bytes, length)                                                                \
+    CALL(sci_node_first_sender, &home, &small)                                                                 \
+    CALL(sci_node_accept, &node, answer, answer_length)                                                        \
+    CALL(sci_node_held, &node, 0, &held)                                                                       \
+    CALL(sci_node_home_state, &home, 0, &home_state)                                                           \
+    CALL(sci_node_home, &home, 16, &stamped)                                                                   \
+    CALL(sci_node_perform, &node, 0, &entry)                                                                   \
+    CALL(sci_node_is_at_rest, &node, &number)                                                                  \
+    CALL(sci_machine_close, &machine)                                                                          \
+    CALL(sci_machine_close, &copy)                                                                             \
+    CALL(sci_machine_close, &again)                                                                            \
+    CALL(sci_node_close, &node)                                                                                \
+    CALL(sci_node_close, &home)                                                                                \
+    CALL(sci_node_close, &other)                                                                               \
+    CALL(sci_logs_close, &logs)                                                                                \
+    CALL(sci_logs_close, &empty)                                                                               \
+    CALL(sci_logs_close, &read_again)
+
+/* One of the calls, by its place. */
+static int place;
+
+static void make(void) {
+    int at = 0;
+#define CALL(name, ...)              \
+    if (at++ == place) {             \
+        status = name(__VA_ARGS__);  \
+        return;                      \
+    }
+    CALLS(CALL)
+#undef CALL
+}
+
+/* How many bytes of its own stack a call takes, with the frame of make. */
+static size_t taken(void) {
+    size_t free_bytes = 0;
+    memset(stack, FILL, sizeof stack);
+    getcontext(&there);
+    there.uc_stack.ss_sp = stack;
+    there.uc_stack.ss_size = sizeof stack;
+    there.uc_link = &here;
+    makecontext(&there, make, 0);
+    swapcontext(&here, &there);
+    while (free_bytes < sizeof stack && stack[free_bytes] == FILL) {
+        free_bytes++;
+    }
+    return sizeof stack - free_bytes;
+}
+
+/* The stack that the header states for a call, in bytes. */
+static size_t stated(const char *name) {
+    static const struct {
+        const char *name;
+        size_t kilobytes;
+    } deep[] = {
+        { "sci_logs_read", 32 },      { "sci_machine_logs", 32 },   { "sci_machine_open", 24 }, { "sci_machine_clone", 24 },
+        { "sci_machine_replay", 24 }, { "sci_node_open", 24 },      { "sci_node_clone", 24 },   { "sci_logs_open", 24 },
+        { "sci_logs_order", 12 },     { "sci_logs_order_kind", 12 },
+    };
+    for (size_t i = 0; i < sizeof deep / sizeof *deep; i++) {
+        if (strcmp(name, deep[i].name) == 0) {
+            return deep[i].kilobytes * 1024;
+        }
+    }
+    return 6 * 1024;
+}
+
+int main(int count, char **arguments) {
+    static const char *const names[] = {
+#define CALL(name, ...) #name,
+        CALLS(CALL)
+#undef CALL
+    };
+    int failed = 0;
+    (void)arguments;
+    for (place = 0; place < (int)(sizeof names / sizeof *names); place++) {
+        const size_t bytes_taken = taken();
+        if (count > 1) {
+            printf("%-24s %6zu\n", names[place], bytes_taken);
+        }
+        if (status != SCI_OK) {
+            printf("%s: %s\n", names[place], sci_status_text(status));
+            failed = 1;
+        }
+        if (bytes_taken > stated(names[place])) {
+            printf("%s takes %zu bytes of stack\n", names[place], bytes_taken);
+            failed = 1;
+        }
+    }
+    return failed;
+}
