@@ -70,6 +70,7 @@ enum sci_limit {
     SCI_LINE_WORDS = 8,
     SCI_PACKET_BYTES = 88, /**< the longest packet */
     SCI_PACKET_WORDS = 11,
+    SCI_TURN_ROOM = 5,   /**< the packets that a turn may send beside an answer to each that has come */
     SCI_NO_NODE = 0xFFFF /**< the identifier that is no node */
 };
 
@@ -609,7 +610,8 @@ sci_status sci_machine_logs(const sci_machine *machine, sci_logs *logs);
 ** packet. At most min(lines, slots) answers are under way to a node, and nodes * min(lines, slots) packets in all. After
 ** sci_node_open no call takes memory.
 **
-** What a node does next, and which requests it keeps for later, is its policy's to say: sci_node_next and sci_node_decide. A policy
+** What a node does next, and which requests it keeps for later, is its policy's to say: sci_node_turn does it in one call, and
+** sci_node_next and sci_node_decide say it. A policy
 ** of one's own may do other events, and the logs are lawful with any. But one that serves each request at once can go on for ever
 ** without an operation, in lock step with fixed delays for one: a node claims a line, another's cread comes while it waits, the
 ** claim is answered wbno, and the node claims again.
@@ -697,6 +699,27 @@ sci_status sci_node_refuse(sci_node *node, const uint8_t *packet, size_t length)
 **   - SCI_NOT_ENABLED The node doesn't await it, or asked another node. A line that is Rolling or Fading doesn't know whom it asked.
 **   - SCI_MISUSE      The object keeps no node. */
 sci_status sci_node_accept(sci_node *node, const uint8_t *packet, size_t length);
+
+/** Takes a turn of the node by its policy, with the packets that have come to it: the turn is counted; the answer that waits is sent;
+** the answers among the packets are accepted, in the order in which they stand; the requests are served or refused as the policy
+** decides, in that order, and the answer to each is sent; and the node asks up to four times for what its policy wants. What it sends
+** stands over the first structs of sent, in the order of sending, and is to be carried to its targets (Policy::begin_turn, decide,
+** served and next, Node::take_answer, accept, serve, refuse and ask).
+**
+** taken gets a mark for each packet: 1 if the node took it, and 0 if it did not. A request that isn't taken is kept by the policy, and
+** is to be given again in the next turn. What is no packet for this node, and an answer that it doesn't await or of a node that it
+** didn't ask, isn't taken either: those that sci_node_serve and sci_node_accept refuse.
+**
+** want is what the node wants then: to perform an operation (sci_node_perform), or nothing. It is nothing too if the node asked four
+** times, and may want to ask more in its next turn.
+**
+**   - SCI_OK          taken, sent, used and want are written.
+**   - SCI_FULL        sent has room for fewer than count + SCI_TURN_ROOM packets. All is as it was.
+**   - SCI_RANGE       taken has room for fewer than count marks. All is as it was.
+**   - SCI_MISUSE      The object keeps no node. */
+sci_status sci_node_turn(
+    sci_node *node, const sci_packet *came, size_t count, uint8_t *taken, size_t marks, sci_packet *sent, size_t room, size_t *used,
+    sci_want *want);
 
 /** Counts a turn of the node. A turn is what a node does at one time, in this order: it sends the answer that waits, accepts the answers
 ** that have come, looks at the requests that have come, and does what it wants. In another order nodes can go on for ever without an

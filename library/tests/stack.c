@@ -27,7 +27,7 @@ static const sci_event events[] = {
     { SCI_PERFORM, 15, 0, 0, 0, { 0, 0, 0, 0, 0, 0 } },
 };
 static sci_entry entry = { 0, 0, 0, 1, { SCI_STORE, 0, 3, 0, 0, 42 }, 0, 2 }, entries[64];
-static sci_packet packet;
+static sci_packet packet, came[8], sent[8 + SCI_TURN_ROOM];
 static sci_held held;
 static sci_home home_state;
 static sci_seen seen;
@@ -37,7 +37,7 @@ static sci_verdict verdict;
 static sci_stamped stamped;
 static sci_text_fault fault;
 static sci_op op;
-static uint8_t bytes[SCI_PACKET_BYTES], answer[SCI_PACKET_BYTES], text[1 << 16], line[512], list[SCI_MAX_NODES], small, lines;
+static uint8_t marks[8], bytes[SCI_PACKET_BYTES], answer[SCI_PACKET_BYTES], text[1 << 16], line[512], list[SCI_MAX_NODES], small, lines;
 static uint64_t words[SCI_PACKET_WORDS];
 static uint32_t number;
 static size_t used, length, answer_length, written;
@@ -89,6 +89,7 @@ static sci_status status;
     CALL(sci_node_clone, &node, &other)                                                                        \
     CALL(sci_node_issue, &node, &store, &number)                                                               \
     CALL(sci_node_pending, &node, 0, &op, &number)                                                             \
+    CALL(sci_node_turn, &other, came, 8, marks, 8, sent, 8 + SCI_TURN_ROOM, &used, &want)                        \
     CALL(sci_node_begin_turn, &node)                                                                           \
     CALL(sci_node_next, &node, &want)                                                                          \
     CALL(sci_node_ask, &node, 0, SCI_MREAD, bytes, &length)                                                    \

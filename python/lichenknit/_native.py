@@ -119,6 +119,7 @@ FUNCTIONS = {
     "sci_node_serve": (NODE, c_char_p, c_size_t),
     "sci_node_refuse": (NODE, c_char_p, c_size_t),
     "sci_node_accept": (NODE, c_char_p, c_size_t),
+    "sci_node_turn": (NODE, POINTER(sci_packet), c_size_t, U8, c_size_t, POINTER(sci_packet), c_size_t, SIZE, POINTER(sci_want)),
     "sci_node_begin_turn": (NODE,),
     "sci_node_next": (NODE, POINTER(sci_want)),
     "sci_node_decide": (NODE, c_char_p, c_size_t, U32),

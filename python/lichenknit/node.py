@@ -2,14 +2,14 @@
 
 from __future__ import annotations
 
-from collections.abc import Iterator
+from collections.abc import Iterator, Sequence
 from ctypes import byref, c_size_t, c_uint8, c_uint32
 
 from . import _native
 from ._library import buffer
 from ._owner import Owner
-from .numbers import AskKind, Decision, WantKind
-from .values import Contents, Entry, Held, Home, Op, Packet, Want
+from .numbers import TURN_ROOM, AskKind, Decision, WantKind
+from .values import Contents, Entry, Held, Home, Op, Packet, Turn, Want
 
 
 class Node(Owner):
@@ -69,6 +69,17 @@ class Node(Owner):
     def accept(self, packet: bytes) -> None:
         """Accepts an answer."""
         self._call("accept", *buffer(packet))
+
+    def turn(self, came: Sequence[Packet]) -> Turn:
+        """Takes a turn by the node's policy, with the packets that have come to it: it sends the answer that waits, accepts answers, serves or
+        refuses requests, and asks up to four times for what it wants."""
+        room = len(came) + TURN_ROOM
+        packets = (_native.sci_packet * len(came))(*(it._as_c() for it in came))
+        taken, sent, used, want = (c_uint8 * len(came))(), (_native.sci_packet * room)(), c_size_t(), _native.sci_want()
+        self._call("turn", packets, len(came), taken, len(came), sent, room, byref(used), want)
+        left = tuple(it for it, mark in zip(came, taken, strict=True) if not mark)
+        wanted = None if want.kind == WantKind.NOTHING else Want._of(want)
+        return Turn(left, tuple(Packet._of(it) for it in sent[: used.value]), wanted)
 
     def begin_turn(self) -> None:
         """Counts a turn of the node."""

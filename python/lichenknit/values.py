@@ -11,7 +11,7 @@ from ._library import buffer, call, filled, text_of, words_of
 from .numbers import (LINE_WORDS, NO_NODE, PACKET_BYTES, Act, AskKind, Command, EventKind, HomeState, Obstacle, OrderKind, State, VerdictKind,
                       WantKind)
 
-__all__ = ["Contents", "Dead", "Entry", "Event", "Held", "Home", "Op", "Order", "Packet", "Seen", "Verdict", "Want", "packets", "size_text"]
+__all__ = ["Contents", "Dead", "Entry", "Event", "Held", "Home", "Op", "Order", "Packet", "Seen", "Turn", "Verdict", "Want", "packets", "size_text"]
 
 
 def node_of(number: int) -> int | None:
@@ -288,6 +288,15 @@ class Want(NamedTuple):
     @classmethod
     def _of(cls, it: _native.sci_want) -> Want:
         return cls(WantKind(it.kind), it.line, AskKind(it.ask) if it.kind == WantKind.ASK else None)
+
+
+class Turn(NamedTuple):
+    """What a turn of a node did with the packets that had come: those that it left, which the next turn is to be given again, those that it
+    sends, in their order, and what the node wants then."""
+
+    left: tuple[Packet, ...]
+    sent: tuple[Packet, ...]
+    want: Want | None
 
 
 class Verdict(NamedTuple):

@@ -179,6 +179,29 @@ class Machines(unittest.TestCase):
 
 
 class Nodes(unittest.TestCase):
+    def test_nodes_work_by_turns(self):
+        nodes, ways, entries, issued = [Node(it, 3, 2, 2, 50) for it in range(3)], [[], [], []], [], [0, 0, 0]
+        for _ in range(10_000):
+            for me, node in enumerate(nodes):
+                if issued[me] < 50 and node.pending(issued[me] % 2) is None:
+                    node.issue(Op.fetch_add(issued[me] % 2, 0, 1))
+                    issued[me] += 1
+                turn = node.turn(ways[me])
+                ways[me] = list(turn.left)
+                for packet in turn.sent:
+                    ways[packet.target].append(packet)
+                if turn.want:
+                    self.assertEqual(turn.want.kind, WantKind.PERFORM)
+                    entries.append(node.perform(turn.want.line))
+        self.assertEqual((len(entries), ways), (150, [[], [], []]))
+        logs = Logs(3, 2)
+        logs.extend(entries)
+        for line in range(2):
+            logs.set_last(line, max(it for node in nodes for it in (node.home(line), node.held(line).contents) if it))
+        self.assertTrue(logs.audit() and logs.order())
+        stray = Packet(0, Command.MREAD, 1, 0, 0, 0xFFFF)
+        self.assertEqual(Node(1, 3, 2, 2, 50).turn([stray]), ((stray,), (), None))
+
     def test_a_copy_goes_its_own_way(self):
         node = Node(1, 2, 4, 2, 2)
         node.issue(STORE)

@@ -152,6 +152,8 @@ def check_names(tally):
         wanted = [names[it] for it in sorted(of_crate, key=of_crate.get)]
         tally.count(f"names of {what}", table(f"sci_{what}_name") != wanted and f"{wanted} in the crate")
     tally.count("kinds of requests", enum("sci_ask_kind") != numbers("sci_c_values", "AskKind") and "others in the crate")
+    asks = int(re.search(r"const ASKS: usize = (\d+);", rattle("sci_c"))[1])
+    tally.count("room of a turn", enum("sci_limit")["TURN_ROOM"] != 1 + asks and f"{1 + asks} in the crate")
     statuses = sorted(enum("sci_status_number").items(), key=lambda it: it[1])
     tally.count("names of status", table("sci_status_name") != [f"SCI_{name}" for name, _ in statuses] and "others in the header")
     verdicts = ["lawful", *re.findall(r'"fault \d ([a-z-]+)"', rattle("sci_command"))]
@@ -179,8 +181,8 @@ def check_programs(tally, cc, room):
     memory = "-Wl,--wrap=malloc,--wrap=realloc,--wrap=free"
     cxx = next((it for it in (os.environ.get("CXX"), "c++", "g++", "clang++") if it and shutil.which(it)), None)
     tally.run("the header as C11", [cc, *C, *flags, "-fsyntax-only", "-x", "c", HEADER])
-    made = [(cc, C, f"library/tests/{name}.c", [memory] if name == "memory" else []) for name in ("layout", "misuse", "memory")]
-    made += [(cc, C, f"examples/c/{name}.c", []) for name in ("first", "two_nodes", "any_order", "lock_step", "record")]
+    made = [(cc, C, f"library/tests/{name}.c", [memory] if name == "memory" else []) for name in ("layout", "misuse", "texts", "turns", "memory")]
+    made += [(cc, C, f"examples/c/{name}.c", []) for name in ("first", "two_nodes", "any_order", "lock_step", "turns", "record")]
     if cxx:
         tally.run("the header as C++17", [cxx, *CXX, *flags, "-fsyntax-only", "-x", "c++", HEADER])
         made += [(cxx, CXX, f"examples/c/{name}.cpp", []) for name in ("two_nodes", "machine")]

@@ -18,4 +18,5 @@ pub mod Replaying
 pub mod Seeing
 pub mod Taking
 pub mod Texts
+pub mod Turning
 pub mod Written

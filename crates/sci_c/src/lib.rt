@@ -22,4 +22,5 @@ mod seeing;
 mod taking;
 mod texts;
 mod thing;
+mod turning;
 mod writing;

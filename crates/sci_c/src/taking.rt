@@ -65,7 +65,7 @@ fn is_servable(node: &Node, packet: &Packet) -> bool
 }
 
 /// Whether a packet is a request that this node may be given, and one of this machine.
-fn is_request_for(node: &Node, packet: &Packet) -> bool
+pub(crate) fn is_request_for(node: &Node, packet: &Packet) -> bool
     ensures is { IsTrue result ↔ IsRequestFor node.now (letter_of packet.now) }
     ensures sender { IsTrue result → packet.now.source < MAX_NODES }
 {
@@ -92,7 +92,7 @@ fn is_from_asked(node: &Node, answer: &Packet) -> bool
 
 /// What a node does with a packet: it serves or refuses a request, or accepts an answer.
 #[derive(Clone, Copy)]
-enum Taking {
+pub(crate) enum Taking {
     Serve,
     Refuse,
     Accept,
@@ -100,7 +100,7 @@ enum Taking {
 
 impl Taking {
     /// Notes in the policy that a request was served or refused. Requires that its sender is a node of the machine.
-    fn note(self, policy: &mut Policy, packet: &Packet)
+    pub(crate) fn note(self, policy: &mut Policy, packet: &Packet)
         requires { packet.now.source < MAX_NODES }
         ensures { policy.new ≡ policy_noting self (letter_of packet.now) policy.old }
     {
@@ -111,7 +111,7 @@ impl Taking {
     }
 
     /// Whether the packet may be given to the node for it.
-    fn may(self, node: &Node, packet: &Packet) -> bool
+    pub(crate) fn may(self, node: &Node, packet: &Packet) -> bool
         ensures may { IsTrue result ↔ IsTakable self node.now (letter_of packet.now) }
         ensures sender { IsTrue result → packet.now.source < MAX_NODES }
     {
@@ -122,7 +122,7 @@ impl Taking {
     }
 
     /// Gives the packet to the node. False, unchanged, if the node doesn't take it.
-    fn give(self, node: &mut Node, packet: &Packet) -> bool
+    pub(crate) fn give(self, node: &mut Node, packet: &Packet) -> bool
         requires { IsTakable self node.old (letter_of packet.now) }
         ensures taken { IsTrue result
             → node_taking self node.old (letter_of packet.now) ≡ Some node.new }

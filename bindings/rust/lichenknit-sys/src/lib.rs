@@ -338,6 +338,17 @@ unsafe extern "C" {
     pub fn sci_node_serve(node: *mut sci_node, packet: *const u8, length: usize) -> sci_status;
     pub fn sci_node_refuse(node: *mut sci_node, packet: *const u8, length: usize) -> sci_status;
     pub fn sci_node_accept(node: *mut sci_node, packet: *const u8, length: usize) -> sci_status;
+    pub fn sci_node_turn(
+        node: *mut sci_node,
+        came: *const sci_packet,
+        count: usize,
+        taken: *mut u8,
+        marks: usize,
+        sent: *mut sci_packet,
+        room: usize,
+        used: *mut usize,
+        want: *mut sci_want,
+    ) -> sci_status;
     pub fn sci_node_begin_turn(node: *mut sci_node) -> sci_status;
     pub fn sci_node_next(node: *mut sci_node, want: *mut sci_want) -> sci_status;
     pub fn sci_node_decide(

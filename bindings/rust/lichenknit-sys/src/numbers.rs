@@ -25,6 +25,7 @@ pub const SCI_MAX_OPERATIONS: u32 = 65536;
 pub const SCI_LINE_WORDS: u32 = 8;
 pub const SCI_PACKET_BYTES: u32 = 88;
 pub const SCI_PACKET_WORDS: u32 = 11;
+pub const SCI_TURN_ROOM: u32 = 5;
 pub const SCI_NO_NODE: u32 = 0xFFFF;
 
 // sci_act: What an operation does, in sci_op.act.

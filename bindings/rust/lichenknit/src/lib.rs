@@ -32,7 +32,7 @@ pub use machine::{LanePackets, Machine};
 pub use node::Node;
 pub use packet::{Packet, PacketBytes, Packets};
 pub use values::{
-    Act, Contents, Dead, Entry, Event, Held, Home, Op, Order, Seen, Size, Verdict, Want,
+    Act, Contents, Dead, Entry, Event, Held, Home, Op, Order, Seen, Size, Turn, Verdict, Want,
 };
 
 /// The version of the library: its first two numbers.

@@ -4,7 +4,7 @@ use crate::calls::{checked, found, read, written};
 use crate::error::{Error, Result};
 use crate::kinds::{AskKind, Decision};
 use crate::packet::{Packet, PacketBytes};
-use crate::values::{Contents, Entry, Held, Home, Op, Size, Want};
+use crate::values::{Contents, Entry, Held, Home, Op, Size, Turn, Want};
 
 /// The controller of one node. The caller carries the packets, and gives each to its target at most once: a request by `serve` or `refuse`, an
 /// answer by `accept`.
@@ -80,6 +80,31 @@ impl Node {
     /// Accepts an answer.
     pub fn accept(&mut self, packet: &[u8]) -> Result<()> {
         checked(unsafe { sys::sci_node_accept(&mut self.raw, packet.as_ptr(), packet.len()) })
+    }
+
+    /// Takes a turn by the node's policy, with the packets that have come to it: it sends the answer that waits, accepts answers, serves or
+    /// refuses requests, and asks up to four times for what it wants.
+    pub fn turn(&mut self, came: &[Packet]) -> Result<Turn> {
+        let packets: Vec<_> = came.iter().map(Packet::raw).collect();
+        let mut taken = vec![0; came.len()];
+        let mut sent = vec![sys::sci_packet::default(); came.len() + sys::SCI_TURN_ROOM as usize];
+        let (mut used, mut want) = (0, sys::sci_want::default());
+        checked(unsafe {
+            sys::sci_node_turn(
+                &mut self.raw,
+                packets.as_ptr(),
+                packets.len(),
+                taken.as_mut_ptr(),
+                taken.len(),
+                sent.as_mut_ptr(),
+                sent.len(),
+                &mut used,
+                &mut want,
+            )
+        })?;
+        let left = came.iter().zip(&taken).filter(|(_, mark)| **mark == 0).map(|(it, _)| *it);
+        let sent = sent[..used].iter().filter_map(Packet::of);
+        Ok(Turn { left: left.collect(), sent: sent.collect(), want: Want::of(&want) })
     }
 
     /// Counts a turn of the node.

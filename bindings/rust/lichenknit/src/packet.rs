@@ -99,7 +99,7 @@ impl Packet {
         text_of(|text, room, used| unsafe { sys::sci_packet_write(&raw, text, room, used) })
     }
 
-    fn raw(&self) -> sys::sci_packet {
+    pub(crate) fn raw(&self) -> sys::sci_packet {
         let Contents { version, words } = self.contents.unwrap_or_default();
         sys::sci_packet {
             target: self.target,

@@ -262,6 +262,17 @@ impl Seen {
     }
 }
 
+/// What a turn of a node did with the packets that had come.
+#[derive(Clone, Debug, PartialEq, Eq)]
+pub struct Turn {
+    /// Those that it left. The next turn is to be given them again.
+    pub left: Vec<Packet>,
+    /// Those that it sends, in their order.
+    pub sent: Vec<Packet>,
+    /// What the node wants then.
+    pub want: Option<Want>,
+}
+
 /// The events of a schedule that weren't enabled when they came.
 #[derive(Clone, Copy, Debug, PartialEq, Eq)]
 pub struct Dead {

@@ -102,6 +102,33 @@ fn requests_go_out_and_answers_come_back() {
 }
 
 #[test]
+fn nodes_work_by_turns() {
+    let mut nodes: Vec<_> = (0..SIZE.nodes).map(|me| Node::new(me, SIZE, 8).unwrap()).collect();
+    let (mut ways, mut performed) = (vec![Vec::new(); nodes.len()], 0);
+    for serial in 0..8 {
+        for node in &mut nodes {
+            let op = Op { line: serial % SIZE.lines, word: 0, act: Act::FetchAdd(1) };
+            assert_eq!(node.issue(op), Ok(serial.into()));
+        }
+        for _ in 0..200 {
+            for (me, node) in nodes.iter_mut().enumerate() {
+                let turn = node.turn(&ways[me]).unwrap();
+                ways[me] = turn.left;
+                for packet in turn.sent {
+                    ways[usize::from(packet.target)].push(packet);
+                }
+                if let Some(Want::Perform { line }) = turn.want {
+                    node.perform(line).unwrap();
+                    performed += 1;
+                }
+            }
+        }
+    }
+    assert_eq!(performed, 24);
+    assert!(ways.iter().all(Vec::is_empty));
+}
+
+#[test]
 fn a_copy_goes_its_own_way() {
     let mut node = Node::new(1, SIZE, 2).unwrap();
     let load = |line| Op { line, word: 0, act: Act::Load };
