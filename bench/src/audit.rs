@@ -26,17 +26,21 @@ impl fmt::Display for Fault {
     }
 }
 
-type Placed<'a> = (usize, &'a Entry);
+/// An entry with its node. The entries of a line are pages apart in the logs, and many passes go over them, so they are copied.
+type Placed = (usize, Entry);
 
 pub fn audit(logs: &Logs) -> Option<Fault> {
-    let mut lines: Vec<Vec<Placed>> = vec![Vec::new(); logs.last.len()];
+    let mut lines: Vec<Vec<(usize, &Entry)>> = vec![Vec::new(); logs.last.len()];
     for (node, log) in logs.nodes.iter().enumerate() {
         for entry in log {
             lines[usize::from(entry.op.line)].push((node, entry));
         }
     }
-    for (line, (entries, last)) in lines.iter().zip(&logs.last).enumerate() {
-        if let Err((kind, entry)) = judge(entries, last) {
+    let mut entries = Vec::new();
+    for (line, (of_line, last)) in lines.iter().zip(&logs.last).enumerate() {
+        entries.clear();
+        entries.extend(of_line.iter().map(|(node, entry)| (*node, **entry)));
+        if let Err((kind, entry)) = judge(&entries, last) {
             let entry = entry.map(|(node, entry)| (node, entry.serial));
             return Some(Fault { kind, line, entry });
         }
@@ -45,7 +49,7 @@ pub fn audit(logs: &Logs) -> Option<Fault> {
 }
 
 /// Judges the entries of a line, which stand in reading order.
-fn judge<'a>(entries: &[Placed<'a>], last: &Contents) -> Result<(), (u8, Option<Placed<'a>>)> {
+fn judge(entries: &[Placed], last: &Contents) -> Result<(), (u8, Option<Placed>)> {
     let makers = entries.iter().filter(|(_, it)| it.op.is_maker());
     let count = makers.clone().count() as u64;
 
@@ -66,20 +70,19 @@ fn judge<'a>(entries: &[Placed<'a>], last: &Contents) -> Result<(), (u8, Option<
         return Err((2, Some(*entry)));
     }
 
-    // Entries of a node stand in the order of its log, so the place in reading order breaks ties.
-    let key = |place: usize| {
-        let (node, it) = entries[place];
-        (it.version, !it.op.is_maker(), node, it.serial, place)
-    };
-    let mut placed: Vec<_> = (0..entries.len()).map(|place| (key(place), entries[place])).collect();
-    placed.sort_unstable_by_key(|it| it.0);
     let mut contents = Contents::default();
-    for (_, (node, entry)) in placed {
+    for place in placed(entries, count as usize) {
+        let (node, entry) = entries[place as usize];
         if contents.apply(&entry.op) != entry.reply {
             return Err((3, Some((node, entry))));
         }
     }
 
+    // Entries of a node stand in the order of its log, so the place in reading order breaks ties.
+    let key = |place: usize| {
+        let (_, it) = entries[place];
+        (it.version, !it.op.is_maker(), it.serial, place)
+    };
     for (place, pair) in entries.windows(2).enumerate() {
         let [(earlier_node, earlier), (node, entry)] = pair else {
             continue;
@@ -93,4 +96,39 @@ fn judge<'a>(entries: &[Placed<'a>], last: &Contents) -> Result<(), (u8, Option<
         return Err((5, None));
     }
     Ok(())
+}
+
+/// The places of the entries by version, of which none is above the number of makers: for each first its maker, and then its
+/// loads by node and serial.
+fn placed(entries: &[Placed], makers: usize) -> Vec<u32> {
+    let mut ends = vec![0u32; makers + 2];
+    for (_, entry) in entries {
+        ends[entry.version as usize + 1] += 1;
+    }
+    for version in 1..ends.len() {
+        ends[version] += ends[version - 1];
+    }
+    let mut placed = vec![0; entries.len()];
+    for is_making in [true, false] {
+        for (place, (_, entry)) in entries.iter().enumerate() {
+            if entry.op.is_maker() == is_making {
+                let end = &mut ends[entry.version as usize];
+                placed[*end as usize] = place as u32;
+                *end += 1;
+            }
+        }
+    }
+    let key = |place: &u32| {
+        let (node, entry) = &entries[*place as usize];
+        (!entry.op.is_maker(), *node, entry.serial)
+    };
+    let mut start = 0;
+    for end in &ends[..=makers] {
+        let of_version = &mut placed[start..*end as usize];
+        if !of_version.is_sorted_by_key(key) {
+            of_version.sort_by_key(key);
+        }
+        start = *end as usize;
+    }
+    placed
 }
