@@ -8,10 +8,9 @@ use Rattle.sci_history.specs.{Audit.{IsVerdict}, Cycle.{IsOrderVerdict, IsOrdere
 use Rattle.sci_history.specs.Sequential.{IsSequentiallyConsistent, by_serial}
 use Rattle.sci_history.proofs.AuditLines.{verdict_is}
 use Rattle.sci_command.specs.declared.outcome.Outcome.{Outcome, TheVariants.{Done, Unlawful, Refused}}
-use Rattle.sci_command.specs.VerdictLine.{verdict_text}
 use Rattle.sci_reports.specs.declared.ordering.NodeOrder.{NodeOrder, TheVariants.{Logged, BySerial}}
 use Rattle.sci_reports.specs.declared.ordering.OrderRequest.{OrderRequest}
-use Rattle.sci_reports.specs.OrderAnswer.{IsFound, IsVerdictOf, kept, IsOrderText}
+use Rattle.sci_reports.specs.OrderAnswer.{IsFound, IsVerdictOf, fault_shown, kept, IsOrderText}
 use Rattle.sci_history.specs.declared.verdict.Verdict.TheVariants as verdicts
 
 -- three facts of what was answered give a fourth
@@ -22,7 +21,7 @@ if_ok_three P Q R S (Err e) f p q r = tt
 -- logs that aren't lawful
 pub fault_found : (request : OrderRequest) (before : ℕ) (logs : List (List Entry)) (last : List Stamped) (line : ℕ) (kind : FaultKind) (at : Option (ℕ × ℕ))
     (text : List ℕ) → (let fault : Verdict = verdicts.Fault line kind at in
-    IsVerdict logs last fault × ((fault ≡ verdicts.Lawful) ↔ Lawful logs last) × (text ≡ verdict_text fault))
+    IsVerdict logs last fault × ((fault ≡ verdicts.Lawful) ↔ Lawful logs last) × (text ≡ fault_shown request line kind at))
     → IsFound request before logs last text Unlawful
 fault_found request before logs last line kind at text h = record {
   verdict = Fault line kind at;

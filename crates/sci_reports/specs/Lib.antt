@@ -1,6 +1,8 @@
 pub mod CheckAnswer
 pub mod EntryLines
 pub mod ExplainAnswer
+pub mod OrderWords
+pub mod OrderJson
 pub mod OrderAnswer
 pub mod TextReadings
 pub mod Subject

@@ -4,6 +4,7 @@ use Rattle.std.specs.List.{AllByRecursion, flat_map}
 use Rattle.sci_words.specs.declared.stamped.Stamped.{Stamped}
 use Rattle.sci_history.specs.declared.{entry.Entry.{Entry}, order_verdict.OrderVerdict.{OrderVerdict}}
 use Rattle.sci_history.specs.declared.order_verdict.{OrderVerdict.TheVariants.{Fault, Order, Cycle}, Reason.{Reason}}
+use Rattle.sci_history.specs.declared.verdict.FaultKind.{FaultKind}
 use Rattle.sci_history.specs.{declared.order_verdict.Step.{Step}, Audit.{IsFault, entries_of}, Lawful.{Lawful}}
 use Rattle.sci_history.specs.{Cycle.{IsOrderVerdict}, Sequential.{IsSequentiallyConsistent, by_serial}}
 use Rattle.sci_text.specs.{Number.{field}, FirstFault.{IsTold}, Log.{entry_line, issue_text, outcome_text}}
@@ -12,9 +13,8 @@ use Rattle.sci_command.specs.{declared.outcome.Outcome.{Outcome, TheVariants.{Do
 use Rattle.sci_command.specs.VerdictLine.{verdict_text}
 use Rattle.sci_reports.specs.declared.ordering.NodeOrder.{NodeOrder, TheVariants.{Logged, BySerial}}
 use Rattle.sci_reports.specs.declared.ordering.{NumberedStep.{NumberedStep}, OrderRequest.{OrderRequest}}
-use Rattle.sci_reports.specs.EntryLines.{IsBeforeEntries, IsLineOf}
+use Rattle.sci_reports.specs.{EntryLines.{IsBeforeEntries, IsLineOf}, OrderJson.{cycle_json, fault_json, found_json}, OrderWords.{reason_text}}
 use Rattle.sci_history.specs.declared.verdict.Verdict.TheVariants as verdicts
-use Rattle.sci_history.specs.declared.order_verdict.Reason.TheVariants as reasons
 
 -- each node's entries in the order that is asked for
 abbrev pub kept : NodeOrder → List (List Entry) → List (List Entry)
@@ -22,18 +22,6 @@ kept Logged logs = logs
 kept BySerial logs = by_serial logs
 
 -- ---- texts
-
--- the name of the order in which each node's entries have to stand
-unfoldable pub order_name : NodeOrder → List ℕ
-order_name Logged = codes "log order"
-order_name BySerial = codes "program order"
-
--- why an entry comes after another
-unfoldable pub reason_text : NodeOrder → Reason → List ℕ
-reason_text keeps reasons.Logged = order_name keeps
-reason_text keeps reasons.ReadsFrom = codes "write before read"
-reason_text keeps reasons.FromRead = codes "read before write"
-reason_text keeps reasons.Coherence = codes "version order"
 
 -- the number of the line on which an entry stands
 unfoldable pub place_text : Option ℕ → List ℕ
@@ -69,12 +57,21 @@ found_text request order = sense_text request.keeps ++ (10 ∷ [] ++ shown_text 
 abbrev pub AreNumbered : ℕ → List (List Entry) → List Step → List NumberedStep → Type 0
 AreNumbered before logs steps numbered = (map (λ x. x.step) numbered ≡ steps) × AllByRecursion (λ x. IsLineOf before logs x.step.entry x.line) numbered
 
--- the fault of logs that aren't lawful; an order; or a cycle
+-- the fault of logs that aren't lawful, in words or as a JSON object; the same of an order, and of a cycle
+abbrev pub fault_shown : OrderRequest → ℕ → FaultKind → Option (ℕ × ℕ) → List ℕ
+fault_shown request line kind at = if request.json then fault_json line kind at else verdict_text (verdicts.Fault line kind at)
+
+abbrev pub found_shown : OrderRequest → List Entry → List ℕ
+found_shown request order = if request.json then found_json request order else found_text request order
+
+abbrev pub cycle_shown : OrderRequest → List NumberedStep → List ℕ
+cycle_shown request steps = if request.json then cycle_json request.keeps steps else cycle_text request.keeps steps
+
 abbrev pub IsOrderText : OrderRequest → ℕ → List (List Entry) → OrderVerdict → List ℕ → Type 0
-IsOrderText request before logs (Fault line kind at) text = text ≡ verdict_text (verdicts.Fault line kind at)
-IsOrderText request before logs (Order order) text = text ≡ found_text request (entries_of order.items)
+IsOrderText request before logs (Fault line kind at) text = text ≡ fault_shown request line kind at
+IsOrderText request before logs (Order order) text = text ≡ found_shown request (entries_of order.items)
 IsOrderText request before logs (Cycle steps) text =
-    (numbered : List NumberedStep) × AreNumbered before logs steps.items numbered × (text ≡ cycle_text request.keeps numbered)
+    (numbered : List NumberedStep) × AreNumbered before logs steps.items numbered × (text ≡ cycle_shown request numbered)
 
 -- ---- the answer
 

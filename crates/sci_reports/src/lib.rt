@@ -6,6 +6,7 @@ mod explaining;
 mod faulty;
 mod note;
 mod numbered;
+mod order_json;
 mod ordering;
 mod read_log;
 

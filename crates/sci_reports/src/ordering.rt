@@ -6,14 +6,16 @@ ghost use Rattle.sci_history.specs.{Audit.{AreWithin, entries_of}, Cycle.{IsOrde
 ghost use Rattle.sci_text.specs.{FirstFault.{IsTold}, Log.{entry_line}, LogFault.{IsLogFault}, Tap.{has_failed}};
 ghost use Rattle.sci_command.specs.{Answer.{HasAnswered}, declared.outcome.Outcome.{Outcome}};
 ghost use Rattle.sci_reports.specs.OrderAnswer.{IsFound, AreNumbered, IsOrderAnswer, IsOrderOf, IsOrderText, cycle_text as cycle_text_of};
-ghost use Rattle.sci_reports.specs.OrderAnswer.{found_text as found_text_of, order_name as order_name_of, place_text, reason_text, sense_text, shown_text};
-ghost use Rattle.sci_reports.specs.{OrderAnswer.{step_text, why_text}, ReadLog.{IsReadLog}};
+ghost use Rattle.sci_reports.specs.OrderAnswer.{cycle_shown as cycle_shown_of, fault_shown as fault_shown_of, found_shown as found_shown_of};
+ghost use Rattle.sci_reports.specs.OrderAnswer.{found_text as found_text_of, place_text, sense_text, shown_text, step_text, why_text};
+ghost use Rattle.sci_reports.specs.{OrderWords.{order_name as order_name_of, reason_text}, ReadLog.{IsReadLog}};
 
 use crate::numbered::line_of_entry;
+use crate::order_json::{cycle_json, fault_json, found_json};
 use crate::read_log::ReadLog;
 use sci_command::{Answer, Answered, Outcome, verdict_line};
 use sci_history::{
-    Entry, Last, Logs, OrderVerdict, Reason, Step, Verdict, audit, sequential_order,
+    Entry, Last, LineFault, Logs, OrderVerdict, Reason, Step, Verdict, audit, sequential_order,
     serial_order_is_lawful,
 };
 use sci_text::{Tap, push_entry, push_field, push_text, read_input};
@@ -36,6 +38,8 @@ pub struct OrderRequest {
     pub keeps: NodeOrder,
     /// Whether its entries are written, if there is one.
     pub shows: bool,
+    /// Whether the answer is one JSON object.
+    pub json: bool,
 }
 
 /// What is searched for in the logs of a text.
@@ -55,8 +59,8 @@ pub struct NumberedStep {
 }
 
 /// The name of the order in which each node's entries have to stand.
-#[tactic(auto, unfolding(crate::specs::OrderAnswer::order_name))]
-fn order_name(keeps: NodeOrder) -> &'static str
+#[tactic(auto, unfolding(crate::specs::OrderWords::order_name))]
+pub(crate) fn order_name(keeps: NodeOrder) -> &'static str
     ensures { result.now ≡ order_name_of keeps }
 {
     match keeps {
@@ -66,8 +70,8 @@ fn order_name(keeps: NodeOrder) -> &'static str
 }
 
 /// Why an entry comes after another.
-#[tactic(auto, unfolding(crate::specs::OrderAnswer::reason_text))]
-fn reason_words(keeps: NodeOrder, reason: Reason) -> &'static str
+#[tactic(auto, unfolding(crate::specs::OrderWords::reason_text))]
+pub(crate) fn reason_words(keeps: NodeOrder, reason: Reason) -> &'static str
     ensures { result.now ≡ reason_text keeps reason }
 {
     match reason {
@@ -209,6 +213,60 @@ fn found_text(alloc: Global, request: OrderRequest, order: &[&Entry]) -> Result<
     Ok(text)
 }
 
+/// What is written of the fault of logs that aren't lawful.
+fn fault_shown(
+    alloc: Global,
+    request: OrderRequest,
+    fault: LineFault,
+    line: u8,
+) -> Result<Vec<u8>, AllocError>
+    ensures { IfOk result
+        (λ text. text.items ≡ fault_shown_of request line fault.kind fault.at) }
+{
+    if request.json {
+        return fault_json(alloc, fault, line);
+    }
+    verdict_line(
+        alloc,
+        Verdict::Fault {
+            line,
+            kind: fault.kind,
+            at: fault.at,
+        },
+    )
+}
+
+/// What is written of an order.
+fn found_shown(
+    alloc: Global,
+    request: OrderRequest,
+    order: &[&Entry],
+) -> Result<Vec<u8>, AllocError>
+    ensures { IfOk result
+        (λ text. text.items ≡ found_shown_of request (entries_of order.now)) }
+{
+    if request.json {
+        found_json(alloc, request, order)
+    } else {
+        found_text(alloc, request, order)
+    }
+}
+
+/// What is written of a cycle.
+fn cycle_shown(
+    alloc: Global,
+    request: OrderRequest,
+    steps: &[NumberedStep],
+) -> Result<Vec<u8>, AllocError>
+    ensures { IfOk result (λ text. text.items ≡ cycle_shown_of request steps.now) }
+{
+    if request.json {
+        cycle_json(alloc, request.keeps, steps)
+    } else {
+        cycle_text(alloc, request.keeps, steps)
+    }
+}
+
 /// The text of what a search for an order of logs found, and how the command ends.
 fn told(
     alloc: Global,
@@ -225,26 +283,25 @@ fn told(
 {
     match verdict {
         OrderVerdict::Fault { line, kind, at } => {
-            let fault = Verdict::Fault {
-                line: *line,
+            let fault = LineFault {
                 kind: *kind,
                 at: *at,
             };
             Ok(Answer {
-                text: verdict_line(alloc, fault)?,
+                text: fault_shown(alloc, search.request, fault, *line)?,
                 outcome: Outcome::Unlawful,
             })
         }
         OrderVerdict::Order(order) => {
             Ok(Answer {
-                text: found_text(alloc, search.request, order)?,
+                text: found_shown(alloc, search.request, order)?,
                 outcome: Outcome::Done,
             })
         }
         OrderVerdict::Cycle(steps) => {
             let steps = numbered(alloc, search.before, logs, steps)?;
             Ok(Answer {
-                text: cycle_text(alloc, search.request.keeps, &steps)?,
+                text: cycle_shown(alloc, search.request, &steps)?,
                 outcome: Outcome::Unlawful,
             })
         }
@@ -293,8 +350,8 @@ fn found_if_lawful(
     let verdict = audit(alloc, logs, last)?;
     match verdict {
         Verdict::Lawful => found_by_serial(alloc, search, logs, last),
-        Verdict::Fault { .. } => Ok(Answer {
-            text: verdict_line(alloc, verdict)?,
+        Verdict::Fault { line, kind, at } => Ok(Answer {
+            text: fault_shown(alloc, search.request, LineFault { kind, at }, line)?,
             outcome: Outcome::Unlawful,
         }),
     }
@@ -335,7 +392,7 @@ impl ReadLog {
 /// a line each. Unlawful if the log isn't lawful, with the line of an audit; and if there is no order, with the line `not
 /// sequentially consistent` (` in program order`) and a cycle of at most 32 entries, a line each, with the number of the
 /// log's line: each comes after the one on the next line in every such order, and the last after the first, for the reason
-/// beside it. A text with a fault is refused, as are a reader that fails, too long an input and running out of memory, at
+/// beside it. With `json` the same is one JSON object. A text with a fault is refused, as are a reader that fails, too long an input and running out of memory, at
 /// line 0. After a failed read nothing more is read.
 pub fn order<R: Read>(alloc: Global, request: OrderRequest, reader: &mut Tap<R>) -> Answered
     requires { has_failed reader.old ≡ false }
