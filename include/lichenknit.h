@@ -18,15 +18,16 @@
 **
 ** All else is looked at. Any number may be passed in any field, and what can't be done is answered by a status.
 **
-** MEMORY AND STACK. A call takes memory only if SCI_NO_MEMORY is among its statuses. sci_logs_read and sci_machine_logs take at most
-** 32 KB of stack; those that open, clone or replay 24 KB; sci_logs_order and sci_logs_order_kind 12 KB; all others 6 KB.
+** MEMORY AND STACK. A call takes memory only if SCI_NO_MEMORY is among its statuses. sci_logs_read, sci_logs_explain and
+** sci_machine_logs take at most 32 KB of stack; those that open, clone or replay 24 KB; sci_logs_order and sci_logs_order_kind 12 KB;
+** all others 6 KB.
 **
 ** STATUSES. Unless a function says otherwise, a call that answers another status than SCI_OK leaves the object and all that
 ** its other arguments lead to as they were. What is const stays the same in any case. Where more than one status would fit,
 ** they come in this order: SCI_MISUSE, the faults of a packet's bytes, SCI_RANGE, SCI_NOT_ENABLED, SCI_FULL, SCI_NO_MEMORY. The
-** functions that read a struct of a packet have an order of their own. sci_logs_order, sci_machine_sharing and those that end in
-** _write need memory to know how much room they want, so SCI_FULL comes last there. sci_logs_read and sci_machine_replay answer what
-** they meet first.
+** functions that read a struct of a packet have an order of their own. sci_logs_order, sci_logs_explain, sci_machine_sharing and those
+** that end in _write need memory to know how much room they want, so SCI_FULL comes last there. sci_logs_explain, sci_logs_read and
+** sci_machine_replay answer what they meet first.
 */
 #ifndef LICHENKNIT_H
 #define LICHENKNIT_H
@@ -861,6 +862,18 @@ sci_status sci_logs_entry(const sci_logs *logs, uint8_t node, size_t place, sci_
 **   - SCI_NO_MEMORY
 **   - SCI_MISUSE      The object keeps no logs. */
 sci_status sci_logs_audit(const sci_logs *logs, sci_verdict *verdict);
+
+/** Writes what is wrong with the logs over the first bytes, and how many: what sciview explain writes of the text of sci_logs_write.
+** Of each line that has a fault it has the entry at fault, what it found, the word that one memory of one thread gives and who made
+** it, and the entries around it; it names lines of that text. Of lawful logs it is one line. The bytes after it stay, and no zero
+** ends the text (sci_reports::ReadLog::explained).
+**
+**   - SCI_OK          text and used are written.
+**   - SCI_RANGE       The logs can't be a text: a serial is 65,536 or more.
+**   - SCI_FULL        It is longer than room. used says how long; text is as it was.
+**   - SCI_NO_MEMORY
+**   - SCI_MISUSE      The object keeps no logs. */
+sci_status sci_logs_explain(const sci_logs *logs, uint8_t *text, size_t room, size_t *used);
 
 /** Looks for one order of all entries that keeps the order of each node's log and that one memory of one thread explains, and
 ** writes it over the first entries, or a cycle of entries, each of which would have to come after the next, and the last after

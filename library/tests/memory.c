@@ -100,6 +100,7 @@ static int run(long refused) {
     MAKE(sci_logs_audit(&logs, &verdict), logs);
     MAKE(sci_logs_order(&logs, &kind, entries, 4, &used), logs);
     MAKE(sci_logs_order_kind(&logs, &kind), logs);
+    MAKE(sci_logs_explain(&logs, text, sizeof text, &used), logs);
     MAKE(sci_logs_write(&logs, text, sizeof text, &used), logs);
     MAKE(sci_logs_read(&read, text, used, &fault), read);
     for (uint32_t serial = 1; serial < 20; serial++) {

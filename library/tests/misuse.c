@@ -57,6 +57,7 @@ static void no_logs(void *object) {
     EXPECT(sci_logs_count(as_logs(object), 0, &count), SCI_MISUSE);
     EXPECT(sci_logs_entry(as_logs(object), 0, 0, &found), SCI_MISUSE);
     EXPECT(sci_logs_audit(as_logs(object), &verdict), SCI_MISUSE);
+    EXPECT(sci_logs_explain(as_logs(object), text, sizeof text, &count), SCI_MISUSE);
     EXPECT(sci_logs_order(as_logs(object), &number, &found, 1, &count), SCI_MISUSE);
     EXPECT(sci_logs_order_kind(as_logs(object), &number), SCI_MISUSE);
     EXPECT(sci_logs_write(as_logs(object), text, sizeof text, &count), SCI_MISUSE);

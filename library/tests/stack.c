@@ -66,6 +66,7 @@ static sci_status status;
     CALL(sci_logs_audit, &logs, &verdict)                                                                      \
     CALL(sci_logs_order, &logs, &number, entries, 64, &used)                                                   \
     CALL(sci_logs_order_kind, &logs, &number)                                                                  \
+    CALL(sci_logs_explain, &logs, text, sizeof text, &length)                                                  \
     CALL(sci_logs_write, &logs, text, sizeof text, &length)                                                    \
     CALL(sci_logs_read, &read_again, text, length, &fault)                                                     \
     CALL(sci_logs_open, &empty, 16, 64)                                                                        \
@@ -74,6 +75,7 @@ static sci_status status;
     CALL(sci_logs_last, &empty, 0, &stamped)                                                                   \
     CALL(sci_logs_size, &empty, &small, &lines)                                                                \
     CALL(sci_logs_count, &empty, 0, &used)                                                                     \
+    CALL(sci_logs_explain, &empty, text, sizeof text, &length)                                                 \
     CALL(sci_logs_entry, &empty, 0, 0, &entry)                                                                 \
     CALL(sci_packet_encode, &packet, bytes, &length)                                                             \
     CALL(sci_packet_decode, bytes, length, &packet, &used)                                                     \
@@ -151,9 +153,9 @@ static size_t stated(const char *name) {
         const char *name;
         size_t kilobytes;
     } deep[] = {
-        { "sci_logs_read", 32 },      { "sci_machine_logs", 32 },   { "sci_machine_open", 24 }, { "sci_machine_clone", 24 },
-        { "sci_machine_replay", 24 }, { "sci_node_open", 24 },      { "sci_node_clone", 24 },   { "sci_logs_open", 24 },
-        { "sci_logs_order", 12 },     { "sci_logs_order_kind", 12 },
+        { "sci_logs_explain", 32 },  { "sci_logs_read", 32 },      { "sci_machine_logs", 32 }, { "sci_machine_open", 24 },
+        { "sci_machine_clone", 24 }, { "sci_machine_replay", 24 }, { "sci_node_open", 24 },    { "sci_node_clone", 24 },
+        { "sci_logs_open", 24 },     { "sci_logs_order", 12 },     { "sci_logs_order_kind", 12 },
     };
     for (size_t i = 0; i < sizeof deep / sizeof *deep; i++) {
         if (strcmp(name, deep[i].name) == 0) {

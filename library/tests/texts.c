@@ -1,4 +1,4 @@
-/* The lines that are written, and schedules that are followed. */
+/* The lines that are written, schedules that are followed, and what is wrong with logs. */
 #include "expect.h"
 
 /* The lines of texts: each needs as much room as it has bytes, and what says nothing has none. */
@@ -107,8 +107,42 @@ static void schedules(void) {
     EXPECT(sci_machine_close(&machine), SCI_OK);
 }
 
+/* What is wrong with logs, in words; and logs that can't be a text. */
+static void explanations(void) {
+    static const char log[] = "log 2 3 1\nlast 0 @2 8 0 0 0 0 0 0 0\n0 0 store 0 0 7 = - @1\n1 0 load 0 0 = 7 @2\n"
+                              "2 0 store 0 0 8 = - @2\n";
+    static const char wanted[] =
+        "fault 3 wrong-reply line 0 node 1 serial 0\n"
+        "  line 4: node 1 serial 0 loads word 0 at version 2 and got 7; the word there is 8, made by node 2 serial 0\n"
+        "  entries of the line in the order of versions:\n"
+        "    line 3: 0 0 store 0 0 7 = - @1\n"
+        "    line 5: 2 0 store 0 0 8 = - @2\n"
+        "  > line 4: 1 0 load 0 0 = 7 @2\n";
+    sci_logs logs = SCI_INIT, empty = SCI_INIT;
+    sci_text_fault fault;
+    sci_entry late = entry;
+    uint8_t text[512];
+    size_t used = 7;
+    memset(text, 9, sizeof text);
+    EXPECT(sci_logs_read(&logs, (const uint8_t *)log, sizeof log - 1, &fault), SCI_OK);
+    EXPECT(sci_logs_explain(&logs, text, sizeof wanted - 2, &used), SCI_FULL);
+    CHECK(used == sizeof wanted - 1 && text[0] == 9);
+    EXPECT(sci_logs_explain(&logs, text, sizeof wanted - 1, &used), SCI_OK);
+    CHECK(used == sizeof wanted - 1 && memcmp(text, wanted, used) == 0 && text[used] == 9);
+    EXPECT(sci_logs_open(&empty, 2, 1), SCI_OK);
+    EXPECT(sci_logs_explain(&empty, text, sizeof text, &used), SCI_OK);
+    CHECK(used == 7 && memcmp(text, "lawful\n", used) == 0);
+    late.serial = 65536;
+    EXPECT(sci_logs_push(&empty, &late), SCI_OK);
+    EXPECT(sci_logs_explain(&empty, text, sizeof text, &used), SCI_RANGE);
+    CHECK(used == 7);
+    EXPECT(sci_logs_close(&logs), SCI_OK);
+    EXPECT(sci_logs_close(&empty), SCI_OK);
+}
+
 int main(void) {
     lines();
     schedules();
+    explanations();
     return failed;
 }

@@ -139,6 +139,7 @@ FUNCTIONS = {
     "sci_logs_count": (LOGS, c_uint8, SIZE),
     "sci_logs_entry": (LOGS, c_uint8, c_size_t, POINTER(sci_entry)),
     "sci_logs_audit": (LOGS, POINTER(sci_verdict)),
+    "sci_logs_explain": (LOGS, U8, c_size_t, SIZE),
     "sci_logs_order": (LOGS, U32, POINTER(sci_entry), c_size_t, SIZE),
     "sci_logs_order_kind": (LOGS, U32),
     "sci_logs_read": (LOGS, c_char_p, c_size_t, POINTER(sci_text_fault)),

@@ -73,14 +73,21 @@ class Logs(Owner):
 
     def text(self) -> str:
         """The text of the logs."""
+        return self._text("write")
+
+    def explain(self) -> str:
+        """What is wrong with the logs, line by line, and what would be right, as `sciview explain` says it."""
+        return self._text("explain")
+
+    def _text(self, name: str) -> str:
         used, room = c_size_t(), 0
         while True:
             data = (c_uint8 * room)()
-            status = self._status("write", data, room, byref(used))
+            status = self._status(name, data, room, byref(used))
             if status == Status.OK:
                 return bytes(data[: used.value]).decode()
             if status != Status.FULL:
-                raise failed("sci_logs_write", status)
+                raise failed(f"sci_logs_{name}", status)
             room = used.value
 
     def push(self, entry: Entry) -> None:

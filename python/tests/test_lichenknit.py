@@ -267,6 +267,11 @@ class Log(unittest.TestCase):
         self.assertRaises(IndexError, logs.of, 2)
         self.assertRaises(IndexError, logs.of(0).__getitem__, 1)
 
+    def test_what_is_wrong_is_said_in_words(self):
+        self.assertEqual(Logs.read(LOG).explain(), "lawful\n")
+        words = Logs.read(example("wrong-reply.log")).explain()
+        self.assertIn("line 4: node 1 serial 0 loads word 0 at version 2 and got 7; the word there is 8, made by node 2 serial 0\n", words)
+
     def test_what_is_no_log_is_refused_with_its_first_fault(self):
         with self.assertRaises(BadText) as caught:
             Logs.read(LOG.replace("load", "zero"))

@@ -4,6 +4,7 @@ pub mod Calls
 pub mod Cloning
 pub mod Closing
 pub mod Deciding
+pub mod Explaining
 pub mod Journal
 pub mod Kinds
 pub mod Lending

@@ -5,6 +5,7 @@ mod cloning;
 mod closing;
 mod controller;
 mod deciding;
+mod explaining;
 mod handle;
 mod journal;
 pub mod laws;

@@ -389,6 +389,12 @@ unsafe extern "C" {
         entry: *mut sci_entry,
     ) -> sci_status;
     pub fn sci_logs_audit(logs: *const sci_logs, verdict: *mut sci_verdict) -> sci_status;
+    pub fn sci_logs_explain(
+        logs: *const sci_logs,
+        text: *mut u8,
+        room: usize,
+        used: *mut usize,
+    ) -> sci_status;
     pub fn sci_logs_order(
         logs: *const sci_logs,
         kind: *mut u32,

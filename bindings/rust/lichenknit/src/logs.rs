@@ -43,6 +43,11 @@ impl Logs {
         text_of(|text, room, used| unsafe { sys::sci_logs_write(&self.raw, text, room, used) })
     }
 
+    /// What is wrong with the logs, line by line, and what would be right, as `sciview explain` says it.
+    pub fn explain(&self) -> Result<String> {
+        text_of(|text, room, used| unsafe { sys::sci_logs_explain(&self.raw, text, room, used) })
+    }
+
     /// Ends the log of the entry's node with the entry.
     pub fn push(&mut self, entry: &Entry) -> Result<()> {
         checked(unsafe { sys::sci_logs_push(&mut self.raw, &entry.raw()) })

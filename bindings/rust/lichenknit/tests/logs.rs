@@ -22,6 +22,7 @@ fn texts_are_read_and_written() {
         "log 2 2 1\nlast 0 @1 7 0 0 0 0 0 0 0\n0 zero\n".parse::<Logs>().unwrap_err(),
         fault
     );
+    assert!(Logs::new(1, 1).unwrap().explain().unwrap() == "lawful\n");
     assert_eq!(fault.to_string(), "SCI_TEXT: the text has a fault: line 3: Syntax");
 }
 
