@@ -1,5 +1,5 @@
 -- What `page` writes for its input. What a browser makes of it is tested.
-use Rattle.std.specs.Prelude.{◌≡◌, ◌<◌, ◌≤◌, ◌⊎◌, ℕ, Bool, true, List, [], ◌∷◌, ◌++◌, length, Option, None}
+use Rattle.std.specs.Prelude.{false, ◌≡◌, ◌<◌, ◌≤◌, ◌⊎◌, ℕ, Bool, true, List, [], ◌∷◌, ◌++◌, length, Option, None}
 use Rattle.sci_words.specs.declared.stamped.Stamped.{Stamped}
 use Rattle.sci_history.specs.declared.entry.Entry.{Entry}
 use Rattle.sci_core.specs.Core.{stepping}
@@ -58,7 +58,7 @@ IsExplained input text = (ends : Outcome) × IsExplanationOf input text ends
 
 -- what `order --show` writes of it, each node's entries in the order that is asked for
 abbrev pub IsOrdered : NodeOrder → List ℕ → List ℕ → Type 0
-IsOrdered keeps input text = (ends : Outcome) × IsOrderOf (record { keeps = keeps; shows = true }) input text ends
+IsOrdered keeps input text = (ends : Outcome) × IsOrderOf (record { keeps = keeps; shows = true; json = false }) input text ends
 
 -- the input is the text of these logs with last contents, of any nodes
 abbrev pub IsLogText : List ℕ → List (List Entry) → List Stamped → Type 0

@@ -18,12 +18,14 @@ use std::alloc::{AllocError, Global};
 const SHOWN: OrderRequest = OrderRequest {
     keeps: NodeOrder::Logged,
     shows: true,
+    json: false,
 };
 
 /// The same of the order of the program.
 const SHOWN_BY_SERIAL: OrderRequest = OrderRequest {
     keeps: NodeOrder::BySerial,
     shows: true,
+    json: false,
 };
 
 /// The line before what `explain` writes.
