@@ -606,10 +606,10 @@ sci_status sci_machine_logs(const sci_machine *machine, sci_logs *logs);
 /** @name Nodes
 ** The controller that a simulator has at each processor. The caller carries the packets. Their first two bytes are
 ** the target, the higher one first. The nodes are together a coherent machine if the caller gives each packet to its target at
-** most once: a request by sci_node_serve or sci_node_refuse, an answer by sci_node_accept. Packets may come in any order. Nothing
-** goes on about a line of a node whose packet is never given. A call that answers another status than SCI_OK has not taken the
-** packet. At most min(lines, slots) answers are under way to a node, and nodes * min(lines, slots) packets in all. After
-** sci_node_open no call takes memory.
+** most once: a request by sci_node_serve or sci_node_refuse, an answer by sci_node_accept, and any by sci_node_turn. Packets may come
+** in any order. Nothing goes on about a line of a node whose packet is never given. A call that answers another status than SCI_OK has
+** not taken the packet, nor has a turn that marks it with 0. At most min(lines, slots) answers are under way to a node, and nodes *
+** min(lines, slots) packets in all. No call but sci_node_open and sci_node_clone takes memory.
 **
 ** What a node does next, and which requests it keeps for later, is its policy's to say: sci_node_turn does it in one call, and
 ** sci_node_next and sci_node_decide say it. A policy

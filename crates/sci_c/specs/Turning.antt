@@ -1,5 +1,5 @@
 -- A turn of a node: what it does with the packets that have come, and what it sends.
-use Rattle.std.specs.Prelude.{◌≡◌, ◌⊎◌, ◌+◌, ◌<◌, ℕ, zero, suc, List, length, slice_get, slice_set, Option, Some, None}
+use Rattle.std.specs.Prelude.{◌≡◌, ◌≢◌, ◌⊎◌, ◌+◌, ◌<◌, ℕ, zero, suc, List, length, slice_get, slice_set, Option, Some, None}
 use Rattle.sci_words.specs.declared.event.AskKind.{AskKind}
 use Rattle.sci_packets.specs.declared.packet.Packet.{Packet}
 use Rattle.sci_cache.specs.Cache.{Letter, letter_of}
@@ -74,6 +74,7 @@ decision_of Accept = decision.Keep
 
 -- a request is served or refused, as the policy decides, and noted
 pub record HasDone (taking : Taking) (letter : Letter) (before after : Controller) : Type 0 where
+  pub request : taking ≢ Accept
   pub decides : decided before.policy before.node letter ≡ decision_of taking
   pub taken : node_taking taking before.node letter ≡ Some after.node
   pub noted : after.policy ≡ noting letter before.policy
