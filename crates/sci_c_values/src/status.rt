@@ -15,7 +15,7 @@ pub const SCI_RANGE: u32 = 3;
 /// The object is empty where one is wanted, open where none is, or of another kind.
 pub const SCI_MISUSE: u32 = 4;
 
-/// A log has as many entries as it may have, or the caller's room is too small.
+/// A log or a node has as many operations as it may, or the caller's room is too small.
 pub const SCI_FULL: u32 = 5;
 
 /// There are fewer bytes or words than the packet has.
@@ -30,5 +30,5 @@ pub const SCI_BAD_OFFSET: u32 = 8;
 /// The target, the source or an identifier of the packet is one that it can't have.
 pub const SCI_BAD_IDENTIFIER: u32 = 9;
 
-/// The text is no log: the fault says where and why.
+/// The text is no log, or no schedule: the fault says where and why.
 pub const SCI_TEXT: u32 = 10;
