@@ -1,6 +1,6 @@
 //! A whole turn of a node, by its policy.
 
-ghost use Rattle.std.specs.Prelude.{◌≡◌, ◌≢◌, ◌<◌, ◌≤◌, ◌+◌, ◌⊎◌, ◌∷◌, [], ℕ, List, IsTrue, true, false, length};
+ghost use Rattle.std.specs.Prelude.{◌≡◌, ◌≢◌, ◌<◌, ◌≤◌, ◌+◌, ◌∷◌, [], ℕ, List, IsTrue, true, false, length};
 ghost use Rattle.sci_c_values.specs.declared.packet.SciPacket.{SciPacket as SciPacketValue};
 ghost use Rattle.sci_c.specs.declared.taking.Taking.{Taking as TakingValue};
 ghost use Rattle.sci_words.specs.declared.limits.TheConstants.{MAX_NODES};
