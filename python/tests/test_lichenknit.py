@@ -179,6 +179,56 @@ class Machines(unittest.TestCase):
 
 
 class Nodes(unittest.TestCase):
+    def by_hand(self, node, came):
+        """What a turn does, call by call."""
+        left, sent = [], []
+
+        def reply():
+            if (data := node.take_answer()) is not None:
+                sent.append(Packet.decode(data)[0])
+
+        node.begin_turn()
+        reply()
+        for packet in came:
+            try:
+                node.accept(packet.encode())
+            except (NotEnabled, OutOfRange):
+                left.append(packet)
+        requests, left = left, []
+        for packet in requests:
+            decision = node.decide(packet.encode())
+            if decision == Decision.KEEP:
+                left.append(packet)
+                continue
+            (node.serve if decision == Decision.TO_SERVE else node.refuse)(packet.encode())
+            reply()
+        for _ in range(4):
+            want = node.next()
+            if want is None or want.kind == WantKind.PERFORM:
+                return tuple(left), tuple(sent), want
+            sent.append(Packet.decode(node.ask(want.line, want.asks))[0])
+        return tuple(left), tuple(sent), None
+
+    def test_a_turn_is_its_calls(self):
+        draw, nodes, ways = random.Random(7), [Node(it, 4, 8, 3, 400) for it in range(4)], [[] for _ in range(4)]
+        for _ in range(1500):
+            me = draw.randrange(4)
+            node, line = nodes[me], draw.randrange(8)
+            if node.pending(line) is None:
+                node.issue(draw.choice([Op.load(line, 0), Op.fetch_add(line, 0, 1)]))
+            count = draw.randint(0, len(ways[me]))
+            came, later = ways[me][:count], ways[me][count:]
+            copy = node.clone()
+            turn = node.turn(came)
+            self.assertEqual(turn, self.by_hand(copy, came))
+            self.assertEqual([node.held(it) for it in range(8)], [copy.held(it) for it in range(8)])
+            self.assertEqual((node.first_sender(), node.home_state(me)), (copy.first_sender(), copy.home_state(me)))
+            ways[me] = [*turn.left, *later]
+            for packet in turn.sent:
+                ways[packet.target].append(packet)
+            if turn.want:
+                node.perform(turn.want.line)
+
     def test_nodes_work_by_turns(self):
         nodes, ways, entries, issued = [Node(it, 3, 2, 2, 50) for it in range(3)], [[], [], []], [], [0, 0, 0]
         for _ in range(10_000):
