@@ -1,7 +1,8 @@
 #!/usr/bin/env python3
 """Random calls of the C library from Python, against the text programs. The same events by `scimem replay` give the same logs; the
-same logs by `scimem audit` give the same verdict, or the same first fault, and by `sciview order` the same order. The controllers
-of the nodes, wired here, do what a machine does, and their packets are read by `scimem decode`.
+same logs by `scimem audit` give the same verdict, or the same first fault, by `sciview order` the same order, and by `sciview
+explain` the same words. Lines are written as the programs read them. The controllers of the nodes, wired here, do what a machine
+does, and their packets are printed as by `scimem decode`.
 
     random_calls.py SCIMEM CALLS
 
@@ -14,7 +15,7 @@ import subprocess
 import sys
 from collections import deque
 
-from lichenknit import Act, BadText, Event, EventKind, Lane, Logs, Machine, Node, NotEnabled, Op, OrderKind, Packet, Status, packets
+from lichenknit import Act, BadText, Event, EventKind, Lane, Logs, Machine, Node, NotEnabled, Op, OrderKind, Packet, Status, packets, size_text
 
 EXAMPLES = os.path.join(os.path.dirname(os.path.abspath(__file__)), "..", "..", "examples")
 ASKS = ("mread", "fread", "cread", "claim", "clear", "purge", "roll", "wback", "setback")
@@ -121,6 +122,15 @@ def shown(tally, text):
     return [next((it for it in (b"not sequentially consistent", b"fault") if lines[0].startswith(it)), b"")]
 
 
+def explain(tally, text):
+    """Compares what both say of a log, if the text is one. The lines that they name are those of its own text."""
+    try:
+        logs = Logs.read(text)
+    except BadText:
+        return
+    tally.same("what is wrong with a log", logs.explain().encode(), tally.ran("explain", logs.text().encode(), program=tally.sciview))
+
+
 def changed(draw, text):
     """The text with another number, or with bytes that are gone or twice there."""
     number = draw.choice([it.span() for it in re.finditer(rb"\d+", text)])
@@ -135,15 +145,20 @@ def changed(draw, text):
 def machine_run(tally, draw, calls):
     """A machine goes through random events, and so does the text program."""
     size = draw.randrange(1, 5), draw.randrange(1, 4), draw.randrange(1, 3)
-    schedule = [f"machine {size[0]} {size[1]} {size[2]}"]
+    schedule, written, dead = [f"machine {size[0]} {size[1]} {size[2]}\n"], [size_text(*size)], 0
     with Machine(*size, 65536) as machine:
         for _ in range(calls):
             event = random_event(draw, *size[:2])
-            machine.try_step(event)
-            schedule.append(line_of(event))
+            dead += not machine.try_step(event)
+            schedule.append(line_of(event) + "\n")
+            written.append(event.text())
         logs = machine.logs()
         text = logs.text().encode()
-        tally.same(f"logs of a machine of {size}", text, tally.ran("replay", ("\n".join(schedule) + "\n").encode()))
+        tally.same("the lines of a schedule", written, schedule)
+        tally.same(f"logs of a machine of {size}", text, tally.ran("replay", "".join(schedule).encode()))
+        again, found = Machine.replay("".join(schedule), 65536)
+        tally.same("a schedule that is followed", again.logs().text().encode(), text)
+        tally.same("events that weren't enabled", found.count if found else 0, dead)
         tally.same("verdict", verdict_line(logs.audit()), b"lawful\n")
         entries = list(logs)
         copy = Logs(size[0], size[1])
@@ -153,6 +168,7 @@ def machine_run(tally, draw, calls):
             tally.same("last contents", machine.last(line), logs.last(line))
             copy.set_last(line, logs.last(line))
         tally.same("logs that are pushed again", copy.text().encode(), text)
+        tally.same("the lines of entries", "".join(it.text() for it in entries), "".join(f"{entry_line(it)}\n" for it in entries))
         if tally.sciview:
             tally.same("the order of a log", ordered(text), shown(tally, text))
         kind, order = logs.order()
@@ -165,6 +181,8 @@ def machine_run(tally, draw, calls):
             if tally.sciview:
                 tally.same("the order of a changed log", ordered(other), shown(tally, other))
             tally.same("a changed log", judged(other), printed(tally, other))
+            if tally.sciview:
+                explain(tally, other)
 
 
 class Wires:
@@ -233,7 +251,7 @@ def wired_run(tally, draw, calls):
         tally.same("a copy", copy.logs().text(), machine.logs().text())
     tally.same("events that are enabled, and what they do", differ, 0)
     data = b"".join(wires.sent)
-    tally.same("packets", tally.ran("decode", data).count(b"\n"), len(wires.sent))
+    tally.same("packets", tally.ran("decode", data), "".join(it.text() for it in packets(data)).encode())
     again = b"".join(Packet.decode(packet)[0].encode() for packet in wires.sent)
     tally.same("packets that are encoded again", again, data)
 
