@@ -502,7 +502,8 @@ sci_status sci_machine_obstacle(const sci_machine *machine, const sci_event *eve
 
 /** Puts the machine where a schedule leads into an empty object: its events are applied in the order of the text to a machine of the
 ** size in its first line, in which no line was touched, and each node of which may issue limit operations. An event that isn't
-** enabled when it comes changes nothing, and dead says which they are (sci_text::schedule_of, Machine::step and DeadEvents).
+** enabled when it comes changes nothing, and dead says how many there are, and which is the first (sci_text::schedule_of,
+** Machine::step and DeadEvents).
 **
 **   - SCI_OK          The object keeps the machine, until sci_machine_close, and dead is written. fault is as it was.
 **   - SCI_TEXT        The text is no schedule: fault is written, and the object stays empty.
@@ -612,10 +613,9 @@ sci_status sci_machine_logs(const sci_machine *machine, sci_logs *logs);
 ** min(lines, slots) packets in all. No call but sci_node_open and sci_node_clone takes memory.
 **
 ** What a node does next, and which requests it keeps for later, is its policy's to say: sci_node_turn does it in one call, and
-** sci_node_next and sci_node_decide say it. A policy
-** of one's own may do other events, and the logs are lawful with any. But one that serves each request at once can go on for ever
-** without an operation, in lock step with fixed delays for one: a node claims a line, another's cread comes while it waits, the
-** claim is answered wbno, and the node claims again.
+** sci_node_next and sci_node_decide say it. A policy of one's own may do other events, and the logs are lawful with any. But one that
+** serves each request at once can go on for ever without an operation, in lock step with fixed delays for one: a node claims a line,
+** another's cread comes while it waits, the claim is answered wbno, and the node claims again.
 ** @{ */
 
 /** Puts the controller of node me in a machine of this size into an empty object. Its processor may issue limit operations
