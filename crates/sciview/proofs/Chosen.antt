@@ -1,10 +1,10 @@
 -- What words choose, from what is read of them.
-use Rattle.std.proofs.Common.{◌≡◌, ◌↔◌, ◌⊎◌, ℕ, Bool, true, false, List, [], ◌∷◌, map, Option, Some, None, inl, inr, sym, ap, ◌∙◌, subst, refl}
+use Rattle.std.proofs.Common.{◌≡◌, ◌↔◌, ℕ, true, false, List, [], ◌∷◌, Option, Some, None, inl, inr, sym, ap, ◌∙◌, subst, refl}
 use Rattle.std.specs.Prelude.{codes, option_map, Result, Ok, Err}
 use Rattle.sci_options.specs.declared.given.{Given.{Given}, Wrong.{Wrong}}
 use Rattle.sci_options.specs.declared.given.Wrong.TheVariants as wrongs
 use Rattle.sci_options.specs.declared.setting.{OptionRow.{OptionRow}, Setting.{Setting}}
-use Rattle.sci_options.specs.Options.{IsGiven, begins_option, is_given}
+use Rattle.sci_options.specs.Options.{begins_option, is_given}
 use Rattle.sci_options.specs.declared.option_name.OptionName.TheVariants as options
 use Rattle.sci_options.specs.Given.{IsReading, lacks_memory, texts}
 use Rattle.sciview.specs.declared.choice.{Choice.{Choice}, Command.{Command}}
@@ -14,12 +14,13 @@ use Rattle.sciview.specs.declared.complaint.Complaint.TheVariants as complaints
 use Rattle.sciview.specs.declared.verb.Verb.{Verb}
 use Rattle.sciview.specs.declared.verb.Verb.TheVariants.{Allowed, Chart, Check, Explain, Judge, Lists, Order, Outcomes, Packets, Page, Random, Run}
 use Rattle.sciview.specs.declared.verb.Verb.TheVariants.{Stats, Trace}
-use Rattle.sciview.specs.Choice.{Asks, Chooses, ChoosesOf, IsChosenBy, IsHelp, IsNamed, Named, command_of, is_refused, no_names, options_of}
+use Rattle.sciview.specs.Choice.{Asks, Chooses, ChoosesOf, IsChosenBy, IsHelp, IsNamed, Named, command_of, is_refused, no_names, options_of, reads_several}
 use Rattle.sciview.specs.Choice.{shown_in, verb_word}
 
 -- a command that reads a text
 pub asks_text : (verb : Verb) (settings : List Setting) (alone : List (List ℕ)) (command : Command) (named : Named) → ¬ (verb ≡ Random)
-    → Asks verb settings alone command named ↔ ((command_of verb settings ≡ Some command) × (IsNamed (is_given options.Title settings) alone named))
+    → Asks verb settings alone command named
+    ↔ ((command_of verb settings ≡ Some command) × (IsNamed (is_given options.Title settings) (reads_several verb settings) alone named))
 asks_text Random settings alone command named other = absurd (other refl)
 asks_text verb settings alone command named other = (λ h. h, λ h. h)
 
@@ -32,7 +33,8 @@ of_named command named = Some (command, named)
 
 -- a command that reads a text, and the names that words give, are what is asked of it, and nothing else is
 pub asked_text : (verb : Verb) (settings : List Setting) (alone : List (List ℕ)) (asked : Command) (names : Named) → ¬ (verb ≡ Random)
-    → command_of verb settings ≡ Some asked → ((named : Named) → (Some names ≡ Some named) ↔ (IsNamed (is_given options.Title settings) alone named))
+    → command_of verb settings ≡ Some asked
+    → ((named : Named) → (Some names ≡ Some named) ↔ (IsNamed (is_given options.Title settings) (reads_several verb settings) alone named))
     → (command : Command) (named : Named) → (of_named asked names ≡ of_named command named) ↔ Asks verb settings alone command named
 asked_text verb settings alone asked names other is files command named =
     let text = asks_text verb settings alone command named other in (

@@ -1,10 +1,7 @@
--- The names that words give, from the title in front and the file behind it.
-use Rattle.std.proofs.Common.{◌≡◌, ◌↔◌, ℕ, true, List, ◌∷◌, Option, Some, None, sym, ap, ◌∙◌}
-use Rattle.sciview.specs.Choice.{IsNamed, Named, name_words}
-
--- what is said of the file that words name
-abbrev pub IsFiled : Option (Option (List ℕ)) → List (List ℕ) → Type 0
-IsFiled said words = (file : Option (List ℕ)) → (said ≡ Some file) ↔ (words ≡ name_words file)
+-- The names that words give, from the title in front and the files behind it.
+use Rattle.std.specs.List.{remove}
+use Rattle.std.proofs.Common.{◌<◌, arith, get_or, length, map, ◌≡◌, ◌↔◌, ℕ, Bool, true, List, [], ◌∷◌, Option, Some, sym, ap, ◌∙◌, subst}
+use Rattle.sciview.specs.Choice.{AreFiles, IsNamed, Named}
 
 unsome : {A : Type 0} (x y : A) → Some x ≡ Some y → x ≡ y
 unsome x y same = cc
@@ -15,19 +12,31 @@ head_same a b front back same = cc
 tail_same : (a b : List ℕ) (front back : List (List ℕ)) → a ∷ front ≡ b ∷ back → front ≡ back
 tail_same a b front back same = cc
 
-abbrev names : Option (List ℕ) → Option (List ℕ) → Named
-names title file = record { title = title; file = file }
+abbrev pub names : Option (List ℕ) → List (List ℕ) → Named
+names title files = record { title = title; files = files }
 
-pub title_given : (words : List (List ℕ)) (title : List ℕ) (rest : List (List ℕ)) (file : Option (List ℕ)) → words ≡ title ∷ rest
-    → IsFiled (Some file) rest → (named : Named) → (Some (names (Some title) file) ≡ Some named) ↔ IsNamed true words named
-title_given words title rest file at filed named = (
+-- a title, and files behind it
+pub title_given : (several : Bool) (words : List (List ℕ)) (title : List ℕ) (rest : List (List ℕ)) → words ≡ title ∷ rest → AreFiles several rest
+    → (named : Named) → (Some (names (Some title) rest) ≡ Some named) ↔ IsNamed true several words named
+title_given several words title rest at fit named = (
   λ same.
-      let are = unsome (names (Some title) file) named same in
-      let is_file = (filed named.file).0 (ap (λ (n : Named). Some n.file) are) in
-      (title, sym (ap (λ (n : Named). n.title) are), at ∙ ap (λ (l : List (List ℕ)). title ∷ l) is_file),
+      let are = unsome (names (Some title) rest) named same in
+      let is_files : rest ≡ named.files = ap (λ (n : Named). n.files) are in (
+        title,
+        sym (ap (λ (n : Named). n.title) are),
+        at ∙ ap (λ (l : List (List ℕ)). title ∷ l) is_files,
+        subst (AreFiles several) is_files fit,
+      ),
   λ is.
       let whole = sym at ∙ is.2 in
-      let of = unsome file named.file ((filed named.file).1 (tail_same title is.0 rest (name_words named.file) whole)) in
-      let titled = ap (λ (t : List ℕ). Some t) (head_same title is.0 rest (name_words named.file) whole) ∙ sym is.1 in
-      ap (λ (f : Option (List ℕ)). Some (names (Some title) f)) of ∙ ap (λ (t : Option (List ℕ)). Some (names t named.file)) titled,
+      let of = tail_same title is.0 rest named.files whole in
+      let titled = ap (λ (t : List ℕ). Some t) (head_same title is.0 rest named.files whole) ∙ sym is.1 in
+      ap (λ (f : List (List ℕ)). Some (names (Some title) f)) of ∙ ap (λ (t : Option (List ℕ)). Some (names t named.files)) titled,
 )
+
+-- the first of some words, and those behind it
+pub first_and_rest : {A : Type 0} (f : A → List ℕ) (words rest : List A) (title : A) → 0 < length words → title ≡ get_or words 0 title
+    → rest ≡ remove words 0 → map f words ≡ f title ∷ map f rest
+first_and_rest {A} f [] rest title some is left = absurd (omega (arith, some))
+first_and_rest {A} f (w ∷ words) rest title some is left =
+    ap (λ (x : A). f x ∷ map f words) (sym is) ∙ ap (λ (l : List A). f title ∷ map f l) (sym left)

@@ -1,10 +1,10 @@
 -- The words of a command line.
 use Rattle.std.specs.Prelude.{◌≡◌, ◌↔◌, ◌<◌, ◌^◌, ◌⊎◌, if◌then◌else◌, ℕ, Bool, List, [], ◌∷◌, codes, Option, Some, None, Result, Ok, Err}
-use Rattle.std.specs.Prelude.{option_map, true, false}
+use Rattle.std.specs.Prelude.{◌≤◌, length, map, option_map, true, false}
 use Rattle.sci_words.specs.declared.limits.TheConstants.{MAX_LINES, MAX_NODES}
 use Rattle.sci_text.specs.Number.{number}
 use Rattle.sci_options.specs.Options.{IsGiven, is_given, number_in, place_in, two_in, value_of}
-use Rattle.sci_options.specs.declared.argument.Argument.{Argument, TheVariants.{Nothing, Number, Place, TwoNumbers}}
+use Rattle.sci_options.specs.declared.argument.Argument.{TheVariants.{Nothing, Number, Place, TwoNumbers}}
 use Rattle.sci_options.specs.declared.option_name.OptionName.{OptionName}
 use Rattle.sci_options.specs.declared.option_name.OptionName.TheVariants as options
 use Rattle.sci_options.specs.declared.setting.{OptionRow.{OptionRow}, Setting.{Setting}}
@@ -53,7 +53,7 @@ two_numbers name = record { name = name; argument = TwoNumbers }
 
 -- the options of each command
 abbrev pub options_of : Verb → List OptionRow
-options_of Order = flag options.BySerial ∷ flag options.Show ∷ []
+options_of Order = flag options.BySerial ∷ flag options.Show ∷ flag options.Json ∷ []
 options_of Judge = flag options.Times ∷ flag options.Order ∷ number_from options.Limit 0 0xffff_ffff_ffff_ffff ∷ flag options.Log ∷ []
 options_of Run = number_from options.Seed 0 0xffff_ffff_ffff_ffff ∷ flag options.InOrder ∷ number_from options.Turns 0 0xffff_ffff_ffff_ffff ∷ []
 options_of Outcomes = number_from options.Runs 1 MAX_RUNS ∷ number_from options.Seed 0 0xffff_ffff_ffff_ffff ∷ flag options.Threads
@@ -61,7 +61,7 @@ options_of Outcomes = number_from options.Runs 1 MAX_RUNS ∷ number_from option
 options_of Allowed = flag options.InOrder ∷ number_from options.Show 1 0xffff_ffff_ffff_ffff ∷ []
 options_of Trace = flag options.Json ∷ flag options.Strict ∷ place options.Line MAX_LINES ∷ []
 options_of Lists = place options.Line MAX_LINES ∷ []
-options_of Stats = place options.Line MAX_LINES ∷ place options.Node MAX_NODES ∷ []
+options_of Stats = flag options.Transitions ∷ flag options.Json ∷ place options.Line MAX_LINES ∷ place options.Node MAX_NODES ∷ []
 options_of Chart = place options.Line MAX_LINES ∷ two_numbers options.Events ∷ []
 options_of Page = place options.Line MAX_LINES ∷ two_numbers options.Events ∷ flag options.Title ∷ []
 options_of Random = number_from options.Dead 0 100 ∷ []
@@ -100,9 +100,32 @@ outcomes_asked settings turns = commands.Outcomes (record {
   all = is_given options.AllOutcomes settings;
 })
 
+abbrev pub asked_node : List Setting → Option ℕ
+asked_node settings = place_in (value_of options.Node settings)
+
+-- what `stats` is asked for: figures, or transitions, which are those of all lines and nodes
+abbrev pub transitions_asked : Bool → Option ℕ → Option ℕ → Option Command
+transitions_asked json None None = Some (commands.Transitions json)
+transitions_asked json _ _ = None
+
+abbrev pub figures_asked : List Setting → Command
+figures_asked settings =
+    commands.Stats (record { line = asked_line settings; node = asked_node settings; json = is_given options.Json settings })
+
+abbrev pub stats_asked : Bool → List Setting → Option Command
+stats_asked false settings = Some (figures_asked settings)
+stats_asked true settings = transitions_asked (is_given options.Json settings) (asked_line settings) (asked_node settings)
+
+abbrev pub stats_command : List Setting → Option Command
+stats_command settings = stats_asked (is_given options.Transitions settings) settings
+
 -- what a command other than `random` is asked for
 abbrev pub command_of : Verb → List Setting → Option Command
-command_of Order settings = Some (commands.Order (record { keeps = asked_order settings; shows = is_given options.Show settings }))
+command_of Order settings = Some (commands.Order (record {
+  keeps = asked_order settings;
+  shows = is_given options.Show settings;
+  json = is_given options.Json settings;
+}))
 command_of Explain settings = Some commands.Explain
 command_of Judge settings = Some (commands.Judge (record {
   timed = is_given options.Times settings;
@@ -125,7 +148,7 @@ command_of Trace settings = Some (commands.Trace (record {
   line = asked_line settings;
 }))
 command_of Lists settings = Some (commands.Lists (asked_line settings))
-command_of Stats settings = Some (commands.Stats (record { line = asked_line settings; node = place_in (value_of options.Node settings) }))
+command_of Stats settings = stats_command settings
 command_of Chart settings = Some (commands.Chart (record { line = asked_line settings; events = asked_events settings }))
 command_of Page settings = Some (commands.Page (record { line = asked_line settings; events = asked_events settings }))
 command_of Random settings = None
@@ -142,29 +165,35 @@ pub record FitsWalk (walk : Walk) : Type 0 where
   pub events_fit : walk.events < 2 ^ 64
   pub seed_fits : walk.seed < 2 ^ 64
 
--- the words that a command takes as they are: a title, and a file
+-- the words that a command takes as they are: a title, and files
 pub record Named : Type 0 where
   pub title : Option (List ℕ)
-  pub file : Option (List ℕ)
+  pub files : List (List ℕ)
 
 abbrev pub no_names : Named
-no_names = record { title = None; file = None }
+no_names = record { title = None; files = [] }
 
--- the word of a title or of a file, if there is one
-abbrev pub name_words : Option (List ℕ) → List (List ℕ)
-name_words None = []
-name_words (Some name) = name ∷ []
+-- whether a command reads several files, one behind another
+abbrev pub reads_several : Verb → List Setting → Bool
+reads_several Stats settings = is_given options.Transitions settings
+reads_several verb settings = false
 
--- words are a title if there has to be one, and then a file if one is named
-abbrev pub IsNamed : Bool → List (List ℕ) → Named → Type 0
-IsNamed false words named = (named.title ≡ None) × (words ≡ name_words named.file)
-IsNamed true words named = (title : List ℕ) × (named.title ≡ Some title) × (words ≡ title ∷ name_words named.file)
+-- one file at most, or several
+abbrev pub AreFiles : Bool → List (List ℕ) → Type 0
+AreFiles true files = Unit {0}
+AreFiles false files = length files ≤ 1
+
+-- words are a title if there has to be one, and then files
+abbrev pub IsNamed : (titled several : Bool) → List (List ℕ) → Named → Type 0
+IsNamed false several words named = (named.title ≡ None) × (words ≡ named.files) × AreFiles several named.files
+IsNamed true several words named = (title : List ℕ) × (named.title ≡ Some title) × (words ≡ title ∷ named.files) × AreFiles several named.files
 
 -- options and words that stand alone ask this of a command, with these names
 abbrev pub Asks : Verb → List Setting → List (List ℕ) → Command → Named → Type 0
 Asks Random settings alone command named = (walk : Walk) × (command ≡ commands.Random walk (asked_number options.Dead settings))
     × (alone ≡ walk_words walk) × FitsWalk walk × (named ≡ no_names)
-Asks verb settings alone command named = (command_of verb settings ≡ Some command) × IsNamed (is_given options.Title settings) alone named
+Asks verb settings alone command named =
+    (command_of verb settings ≡ Some command) × IsNamed (is_given options.Title settings) (reads_several verb settings) alone named
 
 -- one word that asks for help
 abbrev pub IsHelp : List (List ℕ) → Type 0
@@ -175,7 +204,7 @@ abbrev pub ChoosesOf : Verb → List (List ℕ) → Command → Named → Type 0
 ChoosesOf verb words command named = (IsHelp words × (command ≡ commands.Help (Some verb)) × (named ≡ no_names)) ⊎ (¬ (IsHelp words)
     × (settings : List Setting) × (alone : List (List ℕ)) × IsGiven (options_of verb) words settings alone × Asks verb settings alone command named)
 
--- the words choose the command, a title, and the file that it reads; None is standard input
+-- the words choose the command, a title, and the files that it reads; none is standard input
 abbrev pub Chooses : List (List ℕ) → Command → Named → Type 0
 Chooses words command named = (IsHelp words × (command ≡ commands.Help None) × (named ≡ no_names))
     ⊎ (((words ≡ codes "--version" ∷ []) × (command ≡ commands.Version) × (named ≡ no_names))
@@ -183,7 +212,7 @@ Chooses words command named = (IsHelp words × (command ≡ commands.Help None) 
 
 -- names, and a choice, without where their words lie
 abbrev pub shown_names : Names → Named
-shown_names names = record { title = option_map (λ title. title.now) names.title; file = option_map (λ file. file.now) names.file }
+shown_names names = record { title = option_map (λ title. title.now) names.title; files = map (λ file. file.now) names.files.items }
 
 abbrev pub shown_in : Choice → Command × Named
 shown_in choice = (choice.command, shown_names choice.names)

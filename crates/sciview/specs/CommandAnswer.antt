@@ -15,7 +15,8 @@ use Rattle.sci_reports.specs.{CheckAnswer.{IsCheckAnswer}, ExplainAnswer.{IsExpl
 use Rattle.sci_traces.specs.{ListsAnswer.{IsListsAnswer}, PacketsAnswer.{IsPacketsAnswer}, TraceAnswer.{IsTraceAnswer}}
 use Rattle.sci_outcomes.specs.{OutcomesAnswer.{IsOutcomesAnswer}, RunAnswer.{IsRunAnswer}}
 use Rattle.sci_walks.specs.RandomAnswer.{IsRandomAnswer}
-use Rattle.sci_statistics.specs.StatsAnswer.{IsStatsAnswer}
+use Rattle.sci_statistics.specs.{StatsAnswer.{IsStatsAnswer}, TransitionsAnswer.{IsTransitionsAnswer}}
+use Rattle.sci_statistics.specs.declared.coverage.Coverage.{Coverage}
 use Rattle.sciview.specs.declared.choice.Command.TheVariants as commands
 use Rattle.sciview.specs.Choice.{shown_names}
 
@@ -42,28 +43,30 @@ help_for None = HELP.now
 help_for (Some verb) = help_text verb
 
 -- The text that a command writes, and how it ends, for the bytes of a reader, which has failed or not. If `judge` writes a log,
--- `lines` are the addresses of its lines of memory. If `page` writes a page, this is its title, if it is given one.
-abbrev pub IsAnswerFor : (lines : List ℕ) → (title : Option (List ℕ)) → Command → Option (List ℕ) → Bool → List ℕ → Outcome → Type 0
-IsAnswerFor lines title (commands.Order request) = IsOrderAnswer request
-IsAnswerFor lines title commands.Explain = IsExplainAnswer
-IsAnswerFor lines title commands.Check = IsCheckAnswer
-IsAnswerFor lines title (commands.Judge request) = IsJudgeAnswer request lines
-IsAnswerFor lines title commands.Packets = IsPacketsAnswer
-IsAnswerFor lines title (commands.Trace request) = IsTraceAnswer request
-IsAnswerFor lines title (commands.Lists line) = IsListsAnswer line
-IsAnswerFor lines title (commands.Stats request) = IsStatsAnswer request
-IsAnswerFor lines title (commands.Chart request) = IsChartAnswer request
-IsAnswerFor lines title (commands.Page request) = IsPageAnswer request title
-IsAnswerFor lines title (commands.Random walk dead) = λ input failed. IsRandomAnswer walk dead
-IsAnswerFor lines title (commands.Run request) = IsRunAnswer request
-IsAnswerFor lines title (commands.Outcomes request) = IsOutcomesAnswer request
-IsAnswerFor lines title (commands.Allowed request) = IsAllowedAnswer request
-IsAnswerFor lines title (commands.Help verb) = λ input failed text outcome. (text ≡ help_for verb) × (outcome ≡ Done)
-IsAnswerFor lines title commands.Version = λ input failed text outcome. (text ≡ VERSION.now) × (outcome ≡ Done)
+-- `lines` are the addresses of its lines of memory. If `page` writes a page, this is its title, if it is given one. What
+-- `stats --transitions` counts is added to the counts so far.
+abbrev pub IsAnswerFor : (lines : List ℕ) → (so_far : Coverage) → (title : Option (List ℕ)) → Command → Option (List ℕ) → Bool → List ℕ → Outcome → Type 0
+IsAnswerFor lines so_far title (commands.Order request) = IsOrderAnswer request
+IsAnswerFor lines so_far title commands.Explain = IsExplainAnswer
+IsAnswerFor lines so_far title commands.Check = IsCheckAnswer
+IsAnswerFor lines so_far title (commands.Judge request) = IsJudgeAnswer request lines
+IsAnswerFor lines so_far title commands.Packets = IsPacketsAnswer
+IsAnswerFor lines so_far title (commands.Trace request) = IsTraceAnswer request
+IsAnswerFor lines so_far title (commands.Lists line) = IsListsAnswer line
+IsAnswerFor lines so_far title (commands.Stats request) = IsStatsAnswer request
+IsAnswerFor lines so_far title (commands.Transitions json) = IsTransitionsAnswer json so_far
+IsAnswerFor lines so_far title (commands.Chart request) = IsChartAnswer request
+IsAnswerFor lines so_far title (commands.Page request) = IsPageAnswer request title
+IsAnswerFor lines so_far title (commands.Random walk dead) = λ input failed. IsRandomAnswer walk dead
+IsAnswerFor lines so_far title (commands.Run request) = IsRunAnswer request
+IsAnswerFor lines so_far title (commands.Outcomes request) = IsOutcomesAnswer request
+IsAnswerFor lines so_far title (commands.Allowed request) = IsAllowedAnswer request
+IsAnswerFor lines so_far title (commands.Help verb) = λ input failed text outcome. (text ≡ help_for verb) × (outcome ≡ Done)
+IsAnswerFor lines so_far title commands.Version = λ input failed text outcome. (text ≡ VERSION.now) × (outcome ≡ Done)
 
 -- the same of what words choose
-abbrev pub IsAnswerTo : (lines : List ℕ) → Choice → Option (List ℕ) → Bool → List ℕ → Outcome → Type 0
-IsAnswerTo lines choice = IsAnswerFor lines (shown_names choice.names).title choice.command
+abbrev pub IsAnswerTo : (lines : List ℕ) → (so_far : Coverage) → Choice → Option (List ℕ) → Bool → List ℕ → Outcome → Type 0
+IsAnswerTo lines so_far choice = IsAnswerFor lines so_far (shown_names choice.names).title choice.command
 
 -- the addresses of the lines of a log are told by `judge`, and by no other command
 abbrev pub KeepsLines : Command → (old new : List ℕ) → Type 0
@@ -74,5 +77,6 @@ KeepsLines command old new = new ≡ old
 -- command
 abbrev pub AreDeadOf : Command → Option (List ℕ) → Bool → Option Refusal → Option DeadEvents → Type 0
 AreDeadOf (commands.Stats request) known failed refusal dead = AreDeadBeside known failed refusal dead
+AreDeadOf (commands.Transitions json) known failed refusal dead = AreDeadBeside known failed refusal dead
 AreDeadOf (commands.Chart request) known failed refusal dead = AreDeadBeside known failed refusal dead
 AreDeadOf command known failed refusal dead = dead ≡ None

@@ -14,7 +14,7 @@ use sci_command::{Ended, Outcome, parted, show, write_answer};
 use sci_outcomes::{outcomes_of, run};
 use sci_pages::page;
 use sci_reports::{check, explain, order};
-use sci_statistics::stats;
+use sci_statistics::{Coverage, stats, transitions};
 use sci_text::Tap;
 use sci_traces::{lists, packets, trace};
 use sci_walks::random_schedule;
@@ -40,22 +40,31 @@ fn show_words<W: Write>(writer: &mut Tap<W>, words: &str) -> Ended
     }
 }
 
+/// What a command keeps beside the text that it writes.
+#[derive(Drop)]
+pub struct Kept {
+    /// The addresses of the lines of memory of the log of a trace.
+    pub lines: Vec<u64>,
+    /// How often each transition came in the schedules so far.
+    pub coverage: Coverage,
+}
+
 /// Carries out a command: reads its input to the end, if it has one, and writes its answer, or nothing if the input is refused.
-/// After the first read or write that fails nothing more is read or written. If it writes the log of a trace, `lines` are the
-/// addresses of the log's lines of memory.
+/// After the first read or write that fails nothing more is read or written. If it writes the log of a trace, the addresses of
+/// the log's lines of memory are kept. The transitions of a schedule are added to those so far.
 pub fn carried_out<T: Threads + Sync, R: Read, W: Write>(
     rt: &T,
     alloc: Global,
     choice: &Choice,
     reader: &mut Tap<R>,
     writer: &mut Tap<W>,
-    lines: &mut Vec<u64>,
+    kept: &mut Kept,
 ) -> Ended
     requires reader { has_failed reader.old ≡ false }
     requires writer { has_failed writer.old ≡ false }
     ensures answer { HasCarriedOut R.remaining W.contents reader.old reader.new writer.old writer.new
-        result.outcome (IsAnswerAlone (IsAnswerTo lines.new.items choice.now) result.refusal) }
-    ensures lines { KeepsLines choice.now.command lines.old.items lines.new.items }
+        result.outcome (IsAnswerAlone (IsAnswerTo kept.new.lines.items kept.old.coverage choice.now) result.refusal) }
+    ensures lines { KeepsLines choice.now.command kept.old.lines.items kept.new.lines.items }
     ensures dead { AreDeadOf choice.now.command (R.remaining (tapped reader.old)) (has_failed reader.new)
         result.refusal result.dead }
 {
@@ -63,12 +72,19 @@ pub fn carried_out<T: Threads + Sync, R: Read, W: Write>(
         Command::Order(request) => show(writer, order(alloc, request, reader)),
         Command::Explain => show(writer, explain(alloc, reader)),
         Command::Check => show(writer, check(alloc, reader)),
-        Command::Judge(request) => show(writer, judge_trace(alloc, request, reader, lines)),
+        Command::Judge(request) => show(
+            writer,
+            judge_trace(alloc, request, reader, &mut kept.lines),
+        ),
         Command::Packets => show(writer, packets(alloc, reader)),
         Command::Trace(request) => show(writer, trace(alloc, request, reader)),
         Command::Lists { line } => show(writer, lists(alloc, line, reader)),
         Command::Stats(request) => {
             let (answered, dead) = parted(stats(alloc, request, reader));
+            show(writer, answered).beside(dead)
+        }
+        Command::Transitions { json } => {
+            let (answered, dead) = parted(transitions(alloc, json, &mut kept.coverage, reader));
             show(writer, answered).beside(dead)
         }
         Command::Chart(request) => {

@@ -3,7 +3,7 @@
 ghost use Rattle.std.specs.Prelude.{◌≡◌, ◌↔◌, ℕ, IfSome, IsTrue, List, [], ◌∷◌, Option, None, Some, codes, map, option_map};
 ghost use Rattle.sciview.specs.declared.choice.Command.{Command};
 ghost use Rattle.sciview.specs.Choice.{Asks, Chooses, ChoosesOf, FitsWalk, IsHelp, Named, asked_events, asked_issuing, asked_order, asked_turns};
-ghost use Rattle.sciview.specs.Choice.{IsChosenBy, command_of, IsNamed, name_words, no_names, shown_in, shown_names, walk_words};
+ghost use Rattle.sciview.specs.Choice.{AreFiles, IsChosenBy, command_of, IsNamed, no_names, reads_several, shown_in, shown_names, stats_command, walk_words};
 ghost use Rattle.sci_walks.specs.declared.random.Walk.{Walk};
 
 use crate::complaint::{Complaint, Problem};
@@ -41,6 +41,8 @@ pub enum Command {
     Lists { line: Option<u8> },
     /// Write figures of a schedule.
     Stats(StatsRequest),
+    /// Write how often each pair of a state and what it met came in schedules, and which never did.
+    Transitions { json: bool },
     /// Write a chart of a schedule.
     Chart(ChartRequest),
     /// Write a page that steps through a schedule, or shows a log.
@@ -60,36 +62,28 @@ pub enum Command {
 }
 
 /// The words that a command takes as they are.
-#[derive(Clone, Copy)]
+#[derive(Drop)]
 pub struct Names<'a> {
     /// The title of a page.
     pub title: Option<&'a str>,
-    /// The file that the command reads. None is standard input.
-    pub file: Option<&'a str>,
+    /// The files that the command reads. None is standard input.
+    pub files: Vec<&'a str>,
 }
 
 impl Names<'_> {
     /// No words.
-    fn none() -> Self
+    fn none(alloc: Global) -> Self
         ensures { shown_names result ≡ no_names }
     {
         Names {
             title: None,
-            file: None,
-        }
-    }
-
-    /// The file that is to be opened. None for standard input.
-    pub fn file_to_open(&self) -> Option<&str> {
-        match self.file {
-            Some("-") | None => None,
-            Some(file) => Some(file),
+            files: Vec::new(alloc),
         }
     }
 }
 
 /// What words choose: a command, and the words that it takes as they are.
-#[derive(Clone, Copy)]
+#[derive(Drop)]
 pub struct Choice<'a> {
     pub command: Command,
     pub names: Names<'a>,
@@ -97,12 +91,12 @@ pub struct Choice<'a> {
 
 impl Choice<'_> {
     /// The command alone.
-    fn of(command: Command) -> Self
+    fn of(alloc: Global, command: Command) -> Self
         ensures { shown_in result ≡ (command, no_names) }
     {
         Choice {
             command,
-            names: Names::none(),
+            names: Names::none(alloc),
         }
     }
 }
@@ -118,7 +112,7 @@ impl Command {
             Command::Packets => Verb::Packets.name(),
             Command::Trace(_) => Verb::Trace.name(),
             Command::Lists { .. } => Verb::Lists.name(),
-            Command::Stats(_) => Verb::Stats.name(),
+            Command::Stats(_) | Command::Transitions { .. } => Verb::Stats.name(),
             Command::Chart(_) => Verb::Chart.name(),
             Command::Page(_) => Verb::Page.name(),
             Command::Random { .. } => Verb::Random.name(),
@@ -175,7 +169,34 @@ fn events_of(given: &Given) -> Option<TextLines>
     Some(TextLines { first, last })
 }
 
-/// What options ask of a command that reads a text. None if they ask for two orders of turns, or the command is `random`.
+/// What options ask of `stats`. None if they ask for the transitions of one line or of one node.
+fn stats_of(given: &Given) -> Option<Command>
+    ensures { result ≡ stats_command given.now.settings.items }
+{
+    let json = given.has(OptionName::Json);
+    let line = given.place(OptionName::Line);
+    let node = given.place(OptionName::Node);
+    if !given.has(OptionName::Transitions) {
+        return Some(Command::Stats(StatsRequest { line, node, json }));
+    }
+    match (line, node) {
+        (None, None) => Some(Command::Transitions { json }),
+        _ => None,
+    }
+}
+
+/// Whether a command reads several files, as options say.
+fn reads_several(verb: Verb, given: &Given) -> bool
+    ensures { result ≡ reads_several verb given.now.settings.items }
+{
+    match verb {
+        Verb::Stats => given.has(OptionName::Transitions),
+        _ => false,
+    }
+}
+
+/// What options ask of a command that reads a text. None if they ask for two orders of turns, or for the transitions of one
+/// line or node, or the command is `random`.
 fn command_of(verb: Verb, given: &Given) -> Option<Command>
     ensures { result ≡ command_of verb given.now.settings.items }
 {
@@ -184,6 +205,7 @@ fn command_of(verb: Verb, given: &Given) -> Option<Command>
         Verb::Order => Command::Order(OrderRequest {
             keeps: order_of(given),
             shows: given.has(OptionName::Show),
+            json: given.has(OptionName::Json),
         }),
         Verb::Explain => Command::Explain,
         Verb::Judge => Command::Judge(JudgeRequest {
@@ -215,10 +237,7 @@ fn command_of(verb: Verb, given: &Given) -> Option<Command>
             line,
         }),
         Verb::Lists => Command::Lists { line },
-        Verb::Stats => Command::Stats(StatsRequest {
-            line,
-            node: given.place(OptionName::Node),
-        }),
+        Verb::Stats => stats_of(given)?,
         Verb::Chart => Command::Chart(ChartRequest {
             line,
             events: events_of(given),
@@ -250,49 +269,54 @@ fn walk_of(words: &[&str]) -> Option<Walk>
     })
 }
 
-/// The file that words name: one, or none. None if they are more.
-fn file_of<'a>(words: &[&'a str]) -> Option<Option<&'a str>>
-    ensures { (file : Option (List ℕ))
-        → (option_map (option_map (λ word. word.now)) result ≡ Some file) ↔
-        (map (λ word. word.now) words.now ≡ name_words file) }
+/// Words as files, if a command reads as many: several, or one at most. None if it doesn't.
+fn files_of<'a>(several: bool, words: Vec<&'a str>) -> Option<Vec<&'a str>>
+    ensures some { IfSome result (λ files. (files ≡ words.entry)
+        × AreFiles several (map (λ word. word.now) files.items)) }
+    ensures none { result ≡ None → AreFiles several (map (λ word. word.now) words.entry.items) → ⊥ }
 {
-    match words {
-        [] => Some(None),
-        [file] => Some(Some(*file)),
-        _ => None,
+    if !several && words.len() > 1 {
+        return None;
     }
+    Some(words)
 }
 
-/// What words name: a title, if there is one, and then perhaps a file. None if they name something else.
-fn names_of<'a>(titled: bool, words: &[&'a str]) -> Option<Names<'a>>
+/// What words name: a title, if there is one, and then files. None if they name something else.
+fn names_of<'a>(titled: bool, several: bool, words: Vec<&'a str>) -> Option<Names<'a>>
     ensures { (named : Named) → (option_map shown_names result ≡ Some named) ↔
-        IsNamed titled (map (λ word. word.now) words.now) named }
+        IsNamed titled several (map (λ word. word.now) words.entry.items) named }
 {
+    let mut words = words;
     if !titled {
-        let file = file_of(words)?;
-        return Some(Names { title: None, file });
+        let files = files_of(several, words)?;
+        return Some(Names { title: None, files });
     }
-    let (title, rest) = first_of(words)?;
-    let file = file_of(rest)?;
+    if words.is_empty() {
+        return None;
+    }
+    let title = words.remove(0);
+    let files = files_of(several, words)?;
     Some(Names {
         title: Some(title),
-        file,
+        files,
     })
 }
 
 /// What options and words that stand alone ask of a command. None if they ask nothing that it does.
-fn asked_of<'a>(verb: Verb, given: &Given<'a>) -> Option<Choice<'a>>
+fn asked_of<'a>(alloc: Global, verb: Verb, given: Given<'a>) -> Option<Choice<'a>>
     ensures { (command : Command) (named : Named)
         → (option_map shown_in result ≡ Some (command, named)) ↔
-        Asks verb given.now.settings.items (map (λ word. word.now) given.now.alone.items) command named }
+        Asks verb given.entry.settings.items (map (λ word. word.now) given.entry.alone.items) command named }
 {
     if let Verb::Random = verb {
         let walk = walk_of(&given.alone)?;
         let dead = given.number(OptionName::Dead);
-        return Some(Choice::of(Command::Random { walk, dead }));
+        return Some(Choice::of(alloc, Command::Random { walk, dead }));
     }
-    let command = command_of(verb, given)?;
-    let names = names_of(given.has(OptionName::Title), &given.alone)?;
+    let command = command_of(verb, &given)?;
+    let titled = given.has(OptionName::Title);
+    let several = reads_several(verb, &given);
+    let names = names_of(titled, several, given.alone)?;
     Some(Choice { command, names })
 }
 
@@ -325,15 +349,16 @@ fn chosen_of<'a>(alloc: Global, verb: Verb, words: &[&'a str]) -> Result<Choice<
     ensures { IsChosenBy (ChoosesOf verb (map (λ word. word.now) words.now)) result }
 {
     if asks_help(words) {
-        return Ok(Choice::of(Command::Help(Some(verb))));
+        return Ok(Choice::of(alloc, Command::Help(Some(verb))));
     }
     let given = match read_words(alloc, verb.options(), words) {
         Ok(given) => given,
         Err(wrong) => return Err(Complaint::of_word(verb, wrong)),
     };
-    match asked_of(verb, &given) {
+    let problem = Problem::of(verb, &given);
+    match asked_of(alloc, verb, given) {
         Some(choice) => Ok(choice),
-        None => Err(Complaint::Words(verb, Problem::of(verb, &given))),
+        None => Err(Complaint::Words(verb, problem)),
     }
 }
 
@@ -342,10 +367,10 @@ fn chosen<'a>(alloc: Global, words: &[&'a str]) -> Result<Choice<'a>, Complaint<
     ensures { IsChosenBy (Chooses (map (λ word. word.now) words.now)) result }
 {
     if asks_help(words) {
-        return Ok(Choice::of(Command::Help(None)));
+        return Ok(Choice::of(alloc, Command::Help(None)));
     }
     if asks_version(words) {
-        return Ok(Choice::of(Command::Version));
+        return Ok(Choice::of(alloc, Command::Version));
     }
     let Some((word, rest)) = first_of(words) else {
         return Err(Complaint::NoCommand);

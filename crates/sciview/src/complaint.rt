@@ -21,6 +21,8 @@ pub enum Problem<'a> {
     NoWalk,
     /// Two options exclude each other.
     TwoOrders,
+    /// Transitions are those of all lines and nodes.
+    Transitions,
     /// No word is the title.
     NoTitle,
 }
@@ -60,6 +62,9 @@ impl<'a> Problem<'a> {
         if titled && given.alone.is_empty() {
             return Problem::NoTitle;
         }
+        if given.has(OptionName::Transitions) {
+            return Problem::Transitions;
+        }
         match given.alone.get(1 + usize::from(titled)) {
             Some(word) => Problem::Extra(*word),
             None => Problem::TwoOrders,
@@ -98,6 +103,7 @@ impl Display for Problem<'_> {
             Problem::Extra(word) => write!(f, "{word}: one FILE at most"),
             Problem::NoWalk => write!(f, "expected five numbers below 2^64"),
             Problem::TwoOrders => write!(f, "--seed and --threads exclude each other"),
+            Problem::Transitions => write!(f, "--transitions excludes --line and --node"),
             Problem::NoTitle => write!(f, "--title: expected a title"),
         }
     }

@@ -52,7 +52,7 @@ be written.
 
 /// What `order --help` writes.
 pub const ORDER: &str = "\
-usage: sciview order [--by-serial] [--show] [FILE]
+usage: sciview order [--by-serial] [--show] [--json] [FILE]
 
 Of a log: `sequentially consistent`, or a cycle of entries which shows that no
 order makes the log sequentially consistent.
@@ -60,6 +60,7 @@ order makes the log sequentially consistent.
   --by-serial   each node's entries stand in the order by their serials, and
                 not as in its log
   --show        the order follows
+  --json        as one JSON object, and not in words
 ";
 
 /// What `explain --help` writes.
@@ -175,13 +176,20 @@ line's last contents.
 
 /// What `stats --help` writes.
 pub const STATS: &str = "\
-usage: sciview stats [--line L] [--node N] [FILE]
+usage: sciview stats [--line L] [--node N] [--json] [FILE]
+       sciview stats --transitions [--json] [FILE]..
 
 Figures of a schedule, one on each line: events of each kind, packets of each
 command, what happened to each line of memory, and what each node did.
 
   --line L      of the lines what happened to the line L, 0 to 63, alone
   --node N      of the nodes what the node N, 0 to 15, did alone
+  --json        as one JSON object, and not in lines
+  --transitions
+                in place of these, how often each pair of a state and what it met
+                came (an ask, a request that was served, an answer, an operation),
+                and which pairs of the tables never did; each FILE is a schedule,
+                and their counts are added up
 ";
 
 /// What `chart --help` writes.

@@ -151,6 +151,11 @@ const TITLE: OptionRow = OptionRow {
     argument: Argument::Nothing,
 };
 
+const TRANSITIONS: OptionRow = OptionRow {
+    name: OptionName::Transitions,
+    argument: Argument::Nothing,
+};
+
 const TURNS: OptionRow = OptionRow {
     name: OptionName::Turns,
     argument: Argument::Number {
@@ -188,14 +193,14 @@ impl Verb {
         ensures { result.now ≡ options_of self }
     {
         match self {
-            Verb::Order => &[BY_SERIAL, SHOW],
+            Verb::Order => &[BY_SERIAL, SHOW, JSON],
             Verb::Judge => &[TIMES, ORDER, LIMIT, LOG],
             Verb::Run => &[SEED, IN_ORDER, TURNS],
             Verb::Outcomes => &[RUNS, SEED, THREADS, IN_ORDER, ALL_OUTCOMES],
             Verb::Allowed => &[IN_ORDER, SHOW_ROW],
             Verb::Trace => &[JSON, STRICT, LINE],
             Verb::Lists => &[LINE],
-            Verb::Stats => &[LINE, NODE],
+            Verb::Stats => &[TRANSITIONS, JSON, LINE, NODE],
             Verb::Chart => &[LINE, EVENTS],
             Verb::Page => &[LINE, EVENTS, TITLE],
             Verb::Random => &[DEAD],

@@ -15,7 +15,7 @@ use Rattle.sci_reports.specs.OrderAnswer.{IsOrderAnswer}
 use Rattle.sci_traces.specs.{ListsAnswer.{IsListsAnswer}, PacketsAnswer.{IsPacketsAnswer}, TraceAnswer.{IsTraceAnswer}}
 use Rattle.sci_outcomes.specs.{OutcomesAnswer.{IsOutcomesAnswer, IsOutcomesRefusal}, RunAnswer.{IsLongRun, IsRunAnswer, IsRunRefusal}}
 use Rattle.sci_walks.specs.RandomAnswer.{IsRandomAnswer, IsWalkFault}
-use Rattle.sci_statistics.specs.StatsAnswer.{IsStatsAnswer, IsStatsFault}
+use Rattle.sci_statistics.specs.{StatsAnswer.{IsStatsAnswer, IsStatsFault}, TransitionsAnswer.{IsTransitionsAnswer}}
 use Rattle.sciview.specs.{Choice.{shown_names}, CommandAnswer.{help_for}}
 use Rattle.sciview.proofs.carrying_out.carried_out.Goals as goal
 
@@ -87,6 +87,25 @@ returns-in-Stats-clause-dead g c =
     let refusal = rw parted.answer at c.show-in-Stats.ensures.refusal in
     rw (c.in-Stats.is, beside.refusal, beside.dead)
     (dead_beside _ _ c.stats.result c.stats.ensures.dead c.show-in-Stats.result.refusal refusal c.parted-answered.result.1 parted.dead)
+
+pub returns-in-Transitions-clause-answer : goal.returns-in-Transitions-clause-answer
+returns-in-Transitions-clause-answer g c =
+    let shown = c.show-in-Transitions in
+    let parted = c.parted-answered-in-Transitions.ensures in
+    let beside = c.beside-in-Transitions.ensures in
+    rw (c.in-Transitions.is, beside.outcome, beside.refusal)
+    (carried_out (IsTransitionsAnswer c.in-Transitions.json c.args.kept.now.coverage) (IsTold IsScheduleFault)
+    (answer_in c.transitions.result) shown.result.refusal (λ text is. is) c.transitions.ensures.answer (rw parted.answer at shown.ensures.refusal)
+    (rw parted.answer at shown.ensures.written) shown.ensures.again)
+
+pub returns-in-Transitions-clause-dead : goal.returns-in-Transitions-clause-dead
+returns-in-Transitions-clause-dead g c =
+    let parted = c.parted-answered-in-Transitions.ensures in
+    let beside = c.beside-in-Transitions.ensures in
+    let refusal = rw parted.answer at c.show-in-Transitions.ensures.refusal in
+    rw (c.in-Transitions.is, beside.refusal, beside.dead)
+    (dead_beside _ _ c.transitions.result c.transitions.ensures.dead c.show-in-Transitions.result.refusal refusal c.parted-answered-in-Transitions.result.1
+    parted.dead)
 
 pub returns-in-Chart-clause-answer : goal.returns-in-Chart-clause-answer
 returns-in-Chart-clause-answer g c =

@@ -1,4 +1,4 @@
-use Rattle.std.proofs.Common.{◌≡◌, List, ℕ, map, ap, subst, ◌∙◌}
+use Rattle.std.proofs.Common.{List, ℕ, map, ap, subst, ◌∙◌}
 use Rattle.sciview.specs.Choice.{Chooses, IsChosenBy}
 use Rattle.sciview.proofs.choice.choice_of.Goals as goal
 

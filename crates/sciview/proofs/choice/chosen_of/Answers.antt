@@ -1,4 +1,4 @@
-use Rattle.std.proofs.Common.{◌≡◌, List, ℕ, true, false, map, Ok, Err}
+use Rattle.std.proofs.Common.{◌≡◌, true, false, map, Ok, Err}
 use Rattle.sciview.specs.declared.complaint.Complaint.TheVariants as complaints
 use Rattle.sciview.proofs.Chosen.{by_table, none_asked, none_read, some_asked}
 use Rattle.sciview.proofs.choice.chosen_of.Goals as goal
@@ -22,10 +22,10 @@ returns-in-Some c =
     some_asked c.args.verb words c.in-Ok.given c.asked_of.result (λ help. apart (rw c.if-asks_help.false at (c.asks_help.ensures.1 help))) reading
     c.asked_of.ensures c.in-Some.choice c.in-Some.is
 
-pub returns : goal.returns
-returns c =
+pub returns-in-None : goal.returns-in-None
+returns-in-None c =
     let words = map (λ word. word.now) c.args.words.now in
     let reading = by_table c.args.verb c.options.result.now words c.read_words.result (Ok c.in-Ok.given) c.options.ensures c.in-Ok.is
     c.read_words.ensures in
     none_asked c.args.verb words c.in-Ok.given c.asked_of.result (λ help. apart (rw c.if-asks_help.false at (c.asks_help.ensures.1 help))) reading
-    c.asked_of.ensures (complaints.Words c.args.verb c.of-in-None.result) c.in-None.is
+    c.asked_of.ensures (complaints.Words c.args.verb c.of-problem.result) c.in-None.is
