@@ -6,15 +6,19 @@
 Each log is audited twice: by `scimem audit`, and by a reader written anew (plain_answers.py), which works out each reply.
 Each entry has to be of the operation of the script that its serial names, and each operation has to have one. A run in
 turns that are drawn from a seed is replayed, and its log is judged in the same way and by `sciview order`; `sciview
-outcomes` has to find what that log's loads and locks replied. It prints a line every five seconds, and at the end `N runs,
-M operations, F failed`. A script that failed stays in a file, which the line of the failure names."""
+outcomes` has to find what that log's loads and locks replied. Beside each script a schedule is drawn from all enabled events
+(`sciview random`), and its log judged. It prints a line every five seconds, and at the end which pairs of a state and what it
+met these schedules never came to (`sciview stats --transitions`), and `N runs, M operations, F failed`. A script that failed
+stays in a file, which the line of the failure names."""
 
+import json
 import os
 import random
 import subprocess
 import sys
 import tempfile
 import time
+from collections import Counter
 
 TOP = os.path.dirname(os.path.dirname(os.path.dirname(os.path.abspath(__file__))))
 sys.path.append(f"{TOP}/scripts/gate")
@@ -59,7 +63,12 @@ def one_word(chance, node, lines):
     return "fetch-add 0 0 1"
 
 
-SHAPES = (own_line, any_line, mostly_own, mostly_loads, few_lines, one_word)
+def loads_and_leaves(chance, node, lines):
+    """Loads of few lines and now and then a store: with few slots, entries leave long lists from anywhere."""
+    return operation(chance, chance.randrange(min(lines, 5)), 90)
+
+
+SHAPES = (own_line, any_line, mostly_own, mostly_loads, few_lines, one_word, loads_and_leaves)
 
 
 def script(chance):
@@ -96,12 +105,20 @@ def replies(log):
     return " ".join(f"{node}:{serial}={word}" for node, serial, word in found)
 
 
-def drawn_fault(given, seed, in_order):
+def add_pairs(pairs, schedule):
+    """Adds how often each pair of a state and what it met came in a schedule."""
+    _status, text = ran(SCIVIEW, ["stats", "--transitions", "--json"], schedule)
+    for pair in json.loads(text)["pairs"]:
+        pairs[".".join(pair[it] for it in ("place", "state", "met", "what"))] += pair["count"]
+
+
+def drawn_fault(given, seed, in_order, pairs):
     """What was wrong with a run of the script in turns that are drawn from a seed, if something was."""
     words = ["--seed", str(seed), *(["--in-order"] if in_order else [])]
     status, schedule = ran(SCIVIEW, ["run", *words], given)
     if status != 0:
         return f"run: status {status}"
+    add_pairs(pairs, schedule)
     status, log = ran(SCIMEM, ["replay"], schedule)
     if status != 0:
         return f"replay: status {status}"
@@ -115,20 +132,34 @@ def drawn_fault(given, seed, in_order):
     return judged(given, log)
 
 
-def fault(given, seed):
+def walk_fault(chance, pairs):
+    """What was wrong with a schedule that is drawn from all enabled events, if something was. It goes where no policy does."""
+    words = [chance.randint(2, 8), chance.randint(1, 3), chance.randint(1, 2), 20000, chance.randrange(2**64)]
+    status, schedule = ran(SCIVIEW, ["random", *map(str, words)], b"")
+    if status != 0:
+        return f"random: status {status}"
+    add_pairs(pairs, schedule)
+    _status, log = ran(SCIMEM, ["replay"], schedule)
+    if ran(SCIMEM, ["audit"], log) != (0, b"lawful\n") or ran(SCIVIEW, ["order"], log)[0] != 0:
+        return f"random {words}: a log that isn't lawful, or has no order"
+    return None
+
+
+def fault(given, seed, pairs):
     """What was wrong with the runs of a script, if something was."""
-    return threads_fault(given) or drawn_fault(given, seed, False) or drawn_fault(given, seed, True)
+    return threads_fault(given) or drawn_fault(given, seed, False, pairs) or drawn_fault(given, seed, True, pairs)
 
 
 def main(words):
     seconds, seed = (int(word) for word in (words + ["60", "1"][len(words):]))
     begun = told = time.monotonic()
     runs = operations = failed = 0
+    pairs = Counter()
     while time.monotonic() - begun < seconds:
         chance = random.Random(f"{seed} {runs}")
         given = script(chance)
-        why = fault(given, runs)
-        runs, operations = runs + 3, operations + 3 * given.count(b"\np ")
+        why = fault(given, runs, pairs) or walk_fault(chance, pairs)
+        runs, operations = runs + 4, operations + 3 * given.count(b"\np ")
         if why:
             failed += 1
             with tempfile.NamedTemporaryFile(suffix=".script", delete=False) as file:
@@ -137,6 +168,8 @@ def main(words):
         if time.monotonic() - told >= 5:
             told = time.monotonic()
             print(f"{told - begun:.0f} s: {runs:,} runs, {operations:,} operations, {failed} failed", flush=True)
+    never = [it for it, count in pairs.items() if count == 0]
+    print(f"pairs that never came, of {len(pairs)}: {', '.join(never) or 'none'}")
     print(f"{runs} runs, {operations} operations, {failed} failed")
     return 1 if failed or not runs else 0
 
