@@ -83,17 +83,18 @@ fn add_earlier(
     Ok(())
 }
 
-/// Says on standard error how a command ended. If it reads several files, the message names the file.
+/// Says on standard error how a command ended. If it reads several files, the message names the file, unless memory is
+/// refused for that.
 fn tell(rt: &HostRuntime, ended: &Ended, choice: &Choice, file: Option<&str>, is_broken: bool) {
     let command = choice.command.name();
-    let mut name = String::new(rt.alloc());
-    let _ = name.push_str(command);
-    if let (Some(file), true) = (file, choice.names.files.len() > 1) {
-        let _ = name.push_str(": ");
-        let _ = name.push_str(file);
-    }
     let mut errors = Tap::new(rt.stderr());
-    ended.tell(rt.alloc(), &mut errors, &name, is_broken);
+    if let (Some(file), true) = (file, choice.names.files.len() > 1) {
+        if let Ok(name) = format!(in rt.alloc(); "{command}: {file}") {
+            ended.tell(rt.alloc(), &mut errors, &name, is_broken);
+            return;
+        }
+    }
+    ended.tell(rt.alloc(), &mut errors, command, is_broken);
 }
 
 fn main(rt: HostRuntime) -> ExitCode {
