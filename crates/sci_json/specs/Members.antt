@@ -1,6 +1,6 @@
 -- The members of JSON objects, as tokens of the kit's `json`. A word of 64 bits stands in a string, so that no reader rounds it.
 use Rattle.std.specs.Prelude.{◌≡◌, ℕ, Bool, true, List, [], ◌∷◌, ◌++◌, decimal, map, Option, Some, None, if◌then◌else◌}
-use Rattle.json.specs.Token.{Token, begin_object, end_object, begin_array, end_array, key, string, number, boolean, null}
+use Rattle.json.specs.{Token.{Token, begin_object, end_object, begin_array, end_array, key, string, number, boolean, null}, Print.{print}}
 use Rattle.json.specs.Written.{Written}
 
 -- a writer that has written these tokens more
@@ -32,8 +32,19 @@ optional_member name (Some n) = number_member name n
 unfoldable pub flag_member : List ℕ → Bool → List Token
 flag_member name flag = if flag then truth_member name true else []
 
+unfoldable pub array_member : List ℕ → List Token → List Token
+array_member name items = key name ∷ begin_array ∷ (items ++ end_array ∷ [])
+
 unfoldable pub words_member : List ℕ → List ℕ → List Token
-words_member name words = key name ∷ begin_array ∷ (map (λ word. string (decimal word)) words ++ end_array ∷ [])
+words_member name words = array_member name (map (λ word. string (decimal word)) words)
 
 unfoldable pub object_member : List ℕ → List Token → List Token
 object_member name members = key name ∷ begin_object ∷ (members ++ end_object ∷ [])
+
+-- an object that stands alone or in an array
+unfoldable pub object_of : List Token → List Token
+object_of members = begin_object ∷ (members ++ end_object ∷ [])
+
+-- the text of an object, and a line feed
+unfoldable pub object_line : List Token → List ℕ
+object_line members = print (object_of members) ++ 10 ∷ []

@@ -1,6 +1,7 @@
 //! The members of JSON objects.
 
-ghost use Rattle.std.specs.Prelude.{◌≡◌, ◌++◌, OnOk};
+ghost use Rattle.std.specs.Prelude.{◌≡◌, ◌++◌, ◌∷◌, [], IfOk, OnOk};
+ghost use Rattle.json.specs.Print.{print};
 ghost use Rattle.sci_json.specs.Members.{Adds, flag_member, null_member, number_member, optional_member, text_member, truth_member, word_member};
 ghost use Rattle.sci_json.specs.Members.{words_member};
 
@@ -67,7 +68,7 @@ pub fn write_flag(out: &mut Writer, name: &str, flag: bool) -> Result<(), AllocE
 }
 
 /// Writes a member that is the words of a line, each a string.
-#[tactic(auto, unfolding(crate::specs::Members::words_member))]
+#[tactic(auto, unfolding(crate::specs::Members::words_member, crate::specs::Members::array_member))]
 pub fn write_words(out: &mut Writer, name: &str, line: &Line) -> Result<(), AllocError>
     ensures { OnOk result (Adds out.old out.new (words_member name.now line.now)) }
 {
@@ -77,4 +78,13 @@ pub fn write_words(out: &mut Writer, name: &str, line: &Line) -> Result<(), Allo
         out.quoted_u64(*word)?;
     }
     out.end_array()
+}
+
+/// The text that was written, and a line feed behind it. Refused if memory is.
+pub fn into_line(writer: Writer) -> Result<Vec<u8>, AllocError>
+    ensures { IfOk result (λ text. text.items ≡ writer.before ++ (print writer.tokens ++ 10 ∷ [])) }
+{
+    let mut text = writer.into_inner();
+    text.push(b'\n')?;
+    Ok(text)
 }

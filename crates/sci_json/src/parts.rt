@@ -39,9 +39,9 @@ fn write_identifier(out: &mut Writer, identifier: Option<NodeId>) -> Result<(), 
     }
 }
 
-/// Writes the contents of a line.
+/// Writes the version and the words of a line's contents. Refused if memory is.
 #[tactic(auto, unfolding(crate::specs::Parts::contents_members))]
-fn write_contents(out: &mut Writer, contents: &Stamped) -> Result<(), AllocError>
+pub fn write_contents(out: &mut Writer, contents: &Stamped) -> Result<(), AllocError>
     ensures { OnOk result (Adds out.old out.new (contents_members contents.now)) }
 {
     write_number(out, "version", contents.version)?;

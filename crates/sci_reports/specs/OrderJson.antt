@@ -1,23 +1,13 @@
 -- What `order --json` writes: a verdict as one JSON object.
-use Rattle.std.specs.Prelude.{ℕ, Bool, true, false, List, [], ◌∷◌, ◌++◌, codes, Option, Some, None, if◌then◌else◌}
+use Rattle.std.specs.Prelude.{ℕ, Bool, true, false, List, [], ◌++◌, codes, Option, Some, None, if◌then◌else◌}
 use Rattle.std.specs.List.{flat_map}
-use Rattle.json.specs.{Token.{Token, begin_array, begin_object, end_array, end_object, key}, Print.{print}}
+use Rattle.json.specs.Token.{Token}
 use Rattle.sci_history.specs.declared.{entry.Entry.{Entry}, verdict.FaultKind.{FaultKind}}
 use Rattle.sci_history.specs.declared.verdict.FaultKind.TheVariants.{VersionTwice, VersionMissing, WrongReply, OutOfOrder, LastDiffers}
-use Rattle.sci_json.specs.{Members.{number_member, object_member, optional_member, text_member, truth_member}, Parts.{entry_members}}
+use Rattle.sci_json.specs.Members.{array_member, number_member, object_line, object_member, object_of, optional_member, text_member, truth_member}
+use Rattle.sci_json.specs.Parts.{entry_members}
 use Rattle.sci_reports.specs.declared.ordering.{NodeOrder.{NodeOrder}, NumberedStep.{NumberedStep}, OrderRequest.{OrderRequest}}
 use Rattle.sci_reports.specs.OrderWords.{order_name, reason_text}
-
--- an object that stands in an array, and an array
-unfoldable pub object_of : List Token → List Token
-object_of members = begin_object ∷ (members ++ end_object ∷ [])
-
-unfoldable pub array_member : List ℕ → List Token → List Token
-array_member name items = key name ∷ begin_array ∷ (items ++ end_array ∷ [])
-
--- an object, and the line feed
-unfoldable pub object_line : List Token → List ℕ
-object_line members = print (object_of members) ++ 10 ∷ []
 
 -- the name of a kind of fault
 unfoldable pub fault_name : FaultKind → List ℕ

@@ -1,10 +1,9 @@
 //! What a search for an order finds, as a JSON object.
 
-ghost use Rattle.std.specs.{Prelude.{◌≡◌, ◌++◌, ◌∷◌, [], IfOk, OnOk, codes, false, true}, List.{flat_map}};
-ghost use Rattle.json.specs.Print.{print};
+ghost use Rattle.std.specs.{Prelude.{◌≡◌, ◌++◌, IfOk, OnOk, codes, false, true}, List.{flat_map}};
 ghost use Rattle.sci_history.specs.Audit.{entries_of};
-ghost use Rattle.sci_json.specs.Members.{Adds, object_member, optional_member, text_member};
-ghost use Rattle.sci_reports.specs.OrderJson.{array_member, at_members, cycle_json as cycle_json_of, entry_object, fault_json as fault_json_of};
+ghost use Rattle.sci_json.specs.Members.{Adds, array_member, object_member, optional_member, text_member};
+ghost use Rattle.sci_reports.specs.OrderJson.{at_members, cycle_json as cycle_json_of, entry_object, fault_json as fault_json_of};
 ghost use Rattle.sci_reports.specs.OrderJson.{fault_members, fault_name as fault_name_of, found_json as found_json_of, judged_members};
 ghost use Rattle.sci_reports.specs.OrderWords.{reason_text};
 ghost use Rattle.sci_reports.specs.OrderJson.{shown_members, step_members, step_object};
@@ -12,7 +11,7 @@ ghost use Rattle.sci_reports.specs.OrderJson.{shown_members, step_members, step_
 use crate::ordering::{NodeOrder, NumberedStep, OrderRequest, order_name, reason_words};
 use json::Writer;
 use sci_history::{Entry, FaultKind, LineFault, Reason};
-use sci_json::{write_entry, write_number, write_text, write_truth};
+use sci_json::{into_line, write_entry, write_number, write_text, write_truth};
 use std::alloc::{AllocError, Global};
 
 /// The name of a kind of fault.
@@ -43,9 +42,9 @@ fn write_at(out: &mut Writer, at: Option<(u8, u32)>) -> Result<(), AllocError>
     }
 }
 
-/// Writes a fault of a line of memory.
+/// Writes a fault of a line of memory: its kind, the line, and the node and the serial of the entry at fault, if there is one.
 #[tactic(auto, unfolding(crate::specs::OrderJson::fault_members))]
-fn write_fault(out: &mut Writer, fault: LineFault, line: u8) -> Result<(), AllocError>
+pub(crate) fn write_fault(out: &mut Writer, fault: LineFault, line: u8) -> Result<(), AllocError>
     ensures { OnOk result (Adds out.old out.new (fault_members line fault.kind fault.at)) }
 {
     write_text(out, "kind", fault_name(fault.kind))?;
@@ -65,17 +64,8 @@ fn write_fault_object(out: &mut Writer, fault: LineFault, line: u8) -> Result<()
     out.end_object()
 }
 
-/// The bytes of an object, and a line feed.
-fn finished(writer: Writer) -> Result<Vec<u8>, AllocError>
-    ensures { IfOk result (λ text. text.items ≡ writer.before ++ (print writer.tokens ++ 10 ∷ [])) }
-{
-    let mut text = writer.into_inner();
-    text.push(b'\n')?;
-    Ok(text)
-}
-
 /// What is written of the fault of logs that aren't lawful: one JSON object, and a line feed. Refused if memory is.
-#[tactic(auto, unfolding(crate::specs::OrderJson::object_line, crate::specs::OrderJson::object_of, crate::specs::OrderJson::unlawful_members))]
+#[tactic(auto, unfolding(sci_json::specs::Members::object_line, sci_json::specs::Members::object_of, crate::specs::OrderJson::unlawful_members))]
 pub(crate) fn fault_json(alloc: Global, fault: LineFault, line: u8) -> Result<Vec<u8>, AllocError>
     ensures { IfOk result (λ text. text.items ≡ fault_json_of line fault.kind fault.at) }
 {
@@ -84,7 +74,7 @@ pub(crate) fn fault_json(alloc: Global, fault: LineFault, line: u8) -> Result<Ve
     write_truth(&mut writer, "lawful", false)?;
     write_fault_object(&mut writer, fault, line)?;
     writer.end_object()?;
-    finished(writer)
+    into_line(writer)
 }
 
 /// Writes that logs are lawful, which order is asked for, and whether there is one.
@@ -98,7 +88,7 @@ fn write_judged(out: &mut Writer, keeps: NodeOrder, consistent: bool) -> Result<
 }
 
 /// Writes the object of an entry.
-#[tactic(auto, unfolding(crate::specs::OrderJson::entry_object, crate::specs::OrderJson::object_of))]
+#[tactic(auto, unfolding(crate::specs::OrderJson::entry_object, sci_json::specs::Members::object_of))]
 fn write_entry_object(out: &mut Writer, entry: &Entry) -> Result<(), AllocError>
     ensures { OnOk result (Adds out.old out.new (entry_object entry.now)) }
 {
@@ -118,7 +108,7 @@ fn write_entries(out: &mut Writer, order: &[&Entry]) -> Result<(), AllocError>
 }
 
 /// Writes the entries of an order, if they are shown.
-#[tactic(auto, unfolding(crate::specs::OrderJson::shown_members, crate::specs::OrderJson::array_member))]
+#[tactic(auto, unfolding(crate::specs::OrderJson::shown_members, sci_json::specs::Members::array_member))]
 fn write_shown(out: &mut Writer, shows: bool, order: &[&Entry]) -> Result<(), AllocError>
     ensures { OnOk result (Adds out.old out.new (shown_members shows (entries_of order.now))) }
 {
@@ -132,7 +122,7 @@ fn write_shown(out: &mut Writer, shows: bool, order: &[&Entry]) -> Result<(), Al
 }
 
 /// What is written of an order: one JSON object, and a line feed. Refused if memory is.
-#[tactic(auto, unfolding(crate::specs::OrderJson::object_line, crate::specs::OrderJson::object_of, crate::specs::OrderJson::found_members))]
+#[tactic(auto, unfolding(sci_json::specs::Members::object_line, sci_json::specs::Members::object_of, crate::specs::OrderJson::found_members))]
 pub(crate) fn found_json(
     alloc: Global,
     request: OrderRequest,
@@ -146,7 +136,7 @@ pub(crate) fn found_json(
     write_judged(&mut writer, request.keeps, true)?;
     write_shown(&mut writer, request.shows, order)?;
     writer.end_object()?;
-    finished(writer)
+    into_line(writer)
 }
 
 /// Writes the number of the text's line on which an entry stands, if it stands on one.
@@ -179,7 +169,7 @@ fn write_step(out: &mut Writer, keeps: NodeOrder, it: &NumberedStep) -> Result<(
 }
 
 /// Writes the object of an entry of a cycle.
-#[tactic(auto, unfolding(crate::specs::OrderJson::step_object, crate::specs::OrderJson::object_of))]
+#[tactic(auto, unfolding(crate::specs::OrderJson::step_object, sci_json::specs::Members::object_of))]
 fn write_step_object(
     out: &mut Writer,
     keeps: NodeOrder,
@@ -203,7 +193,7 @@ fn write_steps(out: &mut Writer, keeps: NodeOrder, steps: &[NumberedStep]) -> Re
 }
 
 /// Writes the array of the entries of a cycle.
-#[tactic(auto, unfolding(crate::specs::OrderJson::array_member))]
+#[tactic(auto, unfolding(sci_json::specs::Members::array_member))]
 fn write_cycle(out: &mut Writer, keeps: NodeOrder, steps: &[NumberedStep]) -> Result<(), AllocError>
     ensures { OnOk result (Adds out.old out.new
         (array_member (codes "cycle") (flat_map (step_object keeps) steps.now))) }
@@ -215,7 +205,7 @@ fn write_cycle(out: &mut Writer, keeps: NodeOrder, steps: &[NumberedStep]) -> Re
 }
 
 /// What is written of a cycle: one JSON object, and a line feed. Refused if memory is.
-#[tactic(auto, unfolding(crate::specs::OrderJson::object_line, crate::specs::OrderJson::object_of, crate::specs::OrderJson::cycle_members))]
+#[tactic(auto, unfolding(sci_json::specs::Members::object_line, sci_json::specs::Members::object_of, crate::specs::OrderJson::cycle_members))]
 pub(crate) fn cycle_json(
     alloc: Global,
     keeps: NodeOrder,
@@ -228,5 +218,5 @@ pub(crate) fn cycle_json(
     write_judged(&mut writer, keeps, false)?;
     write_cycle(&mut writer, keeps, steps)?;
     writer.end_object()?;
-    finished(writer)
+    into_line(writer)
 }

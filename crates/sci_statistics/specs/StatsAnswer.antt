@@ -8,7 +8,8 @@ use Rattle.sci_statistics.specs.declared.waits.{NodeWaits.{NodeWaits}, WaitFigur
 use Rattle.sci_statistics.specs.declared.counting.StatsRequest.{StatsRequest}
 use Rattle.sci_statistics.specs.Figures.{at_node, event_figures, line_figures, node_figures, on_line}
 use Rattle.sci_statistics.specs.{Passages.{passages}}
-use Rattle.sci_statistics.specs.{StatsJson.{object_line, stats_members}, Waits.{node_waits}}
+use Rattle.sci_json.specs.Members.{object_line}
+use Rattle.sci_statistics.specs.{StatsJson.{stats_members}, Waits.{node_waits}}
 use Rattle.sci_statistics.specs.StatsRows.{command_row, event_rows, line_rows, node_rows, packet_rows, shown}
 use Rattle.sci_command.specs.Beginning.{before}
 use Rattle.sci_text.specs.{declared.fault.TextFaultKind.{TextFaultKind, TheVariants.{Range}}, Number.{number, field}}

@@ -1,9 +1,9 @@
 -- What `stats --json` writes: the figures as one JSON object.
-use Rattle.std.specs.Prelude.{ℕ, List, [], ◌∷◌, ◌++◌, codes, count_by, map}
+use Rattle.std.specs.Prelude.{ℕ, List, ◌++◌, codes, count_by, map}
 use Rattle.std.specs.List.{flat_map}
-use Rattle.json.specs.{Token.{Token, begin_array, begin_object, end_array, end_object, key}, Print.{print}}
+use Rattle.json.specs.Token.{Token}
 use Rattle.sci_packets.specs.declared.command.TheConstants.Command.{ALL}
-use Rattle.sci_json.specs.Members.{number_member, object_member, text_member}
+use Rattle.sci_json.specs.Members.{array_member, number_member, object_line, object_member, object_of, text_member}
 use Rattle.sci_statistics.specs.declared.{coverage.Coverage.{Coverage}, event_figures.{EventFigures.{EventFigures}, Tally.{Tally}}}
 use Rattle.sci_statistics.specs.declared.{line_figures.LineFigures.{LineFigures}, node_figures.NodeFigures.{NodeFigures}, passage.Passage.{Passage}}
 use Rattle.sci_statistics.specs.declared.{transition.Transition.{Transition}, waits.{NodeWaits.{NodeWaits}, WaitFigures.{WaitFigures}}}
@@ -12,17 +12,6 @@ use Rattle.sci_statistics.specs.{StatsRows.{command_row, line_rows, node_rows, p
 use Rattle.sci_statistics.specs.PairNames.{has_come, has_never_come, met_word, place_word, what_word}
 
 -- ---- parts
-
--- an object that stands in an array
-unfoldable pub object_of : List Token → List Token
-object_of members = begin_object ∷ (members ++ end_object ∷ [])
-
-unfoldable pub array_member : List ℕ → List Token → List Token
-array_member name items = key name ∷ begin_array ∷ (items ++ end_array ∷ [])
-
--- an object, and the line feed
-unfoldable pub object_line : List Token → List ℕ
-object_line members = print (object_of members) ++ 10 ∷ []
 
 -- figures, each by its name
 unfoldable pub row_member : List ℕ × ℕ → List Token

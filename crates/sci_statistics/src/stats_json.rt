@@ -1,11 +1,10 @@
 //! Figures as JSON objects.
 
-ghost use Rattle.std.specs.{Prelude.{◌≡◌, ◌≤◌, ◌++◌, ◌∷◌, [], IfOk, OnOk, codes, length, map}, List.{flat_map}};
-ghost use Rattle.json.specs.Print.{print};
-ghost use Rattle.sci_json.specs.Members.{Adds, object_member};
+ghost use Rattle.std.specs.{Prelude.{◌≡◌, ◌≤◌, ◌++◌, IfOk, OnOk, codes, length, map}, List.{flat_map}};
+ghost use Rattle.sci_json.specs.Members.{Adds, array_member, object_line, object_member};
 ghost use Rattle.sci_words.specs.declared.limits.TheConstants.{MAX_EVENTS};
-ghost use Rattle.sci_statistics.specs.StatsJson.{array_member, coverage_json as coverage_json_of, coverage_members, event_members, line_members, line_object, node_members};
-ghost use Rattle.sci_statistics.specs.StatsJson.{node_object, object_line, packet_members, pair_members, pair_object, row_member, row_members, stats_members, tally_member};
+ghost use Rattle.sci_statistics.specs.StatsJson.{coverage_json as coverage_json_of, coverage_members, event_members, line_members, line_object, node_members};
+ghost use Rattle.sci_statistics.specs.StatsJson.{node_object, packet_members, pair_members, pair_object, row_member, row_members, stats_members, tally_member};
 ghost use Rattle.sci_statistics.specs.StatsJson.{tally_members, wait_member, wait_members};
 ghost use Rattle.sci_statistics.specs.StatsRows.{command_row, named};
 ghost use Rattle.sci_statistics.specs.Figures.{event_figures};
@@ -22,7 +21,7 @@ use crate::tables::pairs;
 use crate::transition::Transition;
 use crate::waits::{NodeWaits, WaitFigures};
 use json::Writer;
-use sci_json::{write_number, write_text};
+use sci_json::{into_line, write_number, write_text};
 use sci_packets::Command;
 use std::alloc::{AllocError, Global};
 
@@ -163,7 +162,7 @@ fn write_node_members(
 }
 
 /// Writes the object of a line. Requires that there are at most 500,000 events.
-#[tactic(auto, unfolding(crate::specs::StatsJson::line_object, crate::specs::StatsJson::object_of))]
+#[tactic(auto, unfolding(crate::specs::StatsJson::line_object, sci_json::specs::Members::object_of))]
 fn write_line(
     alloc: Global,
     out: &mut Writer,
@@ -180,7 +179,7 @@ fn write_line(
 }
 
 /// Writes the object of a node. Requires that there are at most 500,000 events.
-#[tactic(auto, unfolding(crate::specs::StatsJson::node_object, crate::specs::StatsJson::object_of))]
+#[tactic(auto, unfolding(crate::specs::StatsJson::node_object, sci_json::specs::Members::object_of))]
 fn write_node(
     alloc: Global,
     out: &mut Writer,
@@ -230,7 +229,7 @@ fn write_nodes(
 }
 
 /// Writes the array of lines.
-#[tactic(auto, unfolding(crate::specs::StatsJson::array_member))]
+#[tactic(auto, unfolding(sci_json::specs::Members::array_member))]
 fn write_line_array(
     alloc: Global,
     out: &mut Writer,
@@ -248,7 +247,7 @@ fn write_line_array(
 }
 
 /// Writes the array of nodes.
-#[tactic(auto, unfolding(crate::specs::StatsJson::array_member))]
+#[tactic(auto, unfolding(sci_json::specs::Members::array_member))]
 fn write_node_array(
     alloc: Global,
     out: &mut Writer,
@@ -290,18 +289,9 @@ fn write_packet_object(out: &mut Writer, passages: &[Passage]) -> Result<(), All
     out.end_object()
 }
 
-/// The bytes of an object, and a line feed.
-fn finished(writer: Writer) -> Result<Vec<u8>, AllocError>
-    ensures { IfOk result (λ text. text.items ≡ writer.before ++ (print writer.tokens ++ 10 ∷ [])) }
-{
-    let mut text = writer.into_inner();
-    text.push(b'\n')?;
-    Ok(text)
-}
-
 /// The figures of all passages, and of these lines and nodes, as one JSON object and a line feed. Requires that there are at
 /// most 500,000 events. Refused if memory is.
-#[tactic(auto, unfolding(crate::specs::StatsJson::object_line, crate::specs::StatsJson::object_of, crate::specs::StatsJson::stats_members))]
+#[tactic(auto, unfolding(sci_json::specs::Members::object_line, sci_json::specs::Members::object_of, crate::specs::StatsJson::stats_members))]
 pub fn stats_json(
     alloc: Global,
     passages: &[Passage],
@@ -319,7 +309,7 @@ pub fn stats_json(
     write_line_array(alloc, &mut writer, passages, lines)?;
     write_node_array(alloc, &mut writer, passages, nodes)?;
     writer.end_object()?;
-    finished(writer)
+    into_line(writer)
 }
 
 /// Writes what is known of a pair.
@@ -339,7 +329,7 @@ fn write_pair_members(
 }
 
 /// Writes the object of a pair.
-#[tactic(auto, unfolding(crate::specs::StatsJson::pair_object, crate::specs::StatsJson::object_of))]
+#[tactic(auto, unfolding(crate::specs::StatsJson::pair_object, sci_json::specs::Members::object_of))]
 fn write_pair(out: &mut Writer, coverage: &Coverage, pair: Transition) -> Result<(), AllocError>
     ensures { OnOk result (Adds out.old out.new (pair_object coverage.now pair)) }
 {
@@ -363,7 +353,7 @@ fn write_pairs(
 }
 
 /// Writes the array of pairs.
-#[tactic(auto, unfolding(crate::specs::StatsJson::array_member))]
+#[tactic(auto, unfolding(sci_json::specs::Members::array_member))]
 fn write_pair_array(
     out: &mut Writer,
     coverage: &Coverage,
@@ -379,7 +369,7 @@ fn write_pair_array(
 }
 
 /// What a coverage says of these pairs, as one JSON object and a line feed.
-#[tactic(auto, unfolding(crate::specs::StatsJson::object_line, crate::specs::StatsJson::object_of, crate::specs::StatsJson::coverage_members))]
+#[tactic(auto, unfolding(sci_json::specs::Members::object_line, sci_json::specs::Members::object_of, crate::specs::StatsJson::coverage_members))]
 fn pairs_json(
     alloc: Global,
     coverage: &Coverage,
@@ -394,7 +384,7 @@ fn pairs_json(
     write_number(&mut writer, "never", never_count(coverage, pairs))?;
     write_pair_array(&mut writer, coverage, pairs)?;
     writer.end_object()?;
-    finished(writer)
+    into_line(writer)
 }
 
 /// What a coverage says of the pairs of the tables, as one JSON object and a line feed: how many came, how many never did,

@@ -1,13 +1,13 @@
 -- What an event does, as a JSON object.
-use Rattle.std.specs.Prelude.{ℕ, true, false, List, [], ◌∷◌, ◌++◌, codes, Option, Some, None}
-use Rattle.json.specs.{Token.{Token, begin_object, end_object}, Print.{print}}
+use Rattle.std.specs.Prelude.{ℕ, true, false, List, [], ◌++◌, codes, Option, Some, None}
+use Rattle.json.specs.Token.{Token}
 use Rattle.sci_words.specs.{declared.event.Event.{Event}, Event.{kind_word}}
 use Rattle.sci_history.specs.declared.entry.Entry.{Entry}
 use Rattle.sci_cache.specs.Cache.{Letter}
 use Rattle.sci_core.specs.{declared.obstacle.Obstacle.{Obstacle}, Core.{Core, node_of, stepping}}
 use Rattle.sci_core.specs.Obstacles.{obstacle_name, obstacle_to}
 use Rattle.sci_text.specs.Schedule.{event_word}
-use Rattle.sci_json.specs.Members.{number_member, object_member, optional_member, text_member, truth_member}
+use Rattle.sci_json.specs.Members.{number_member, object_line, object_member, optional_member, text_member, truth_member}
 use Rattle.sci_json.specs.Parts.{entry_members, home_members, operation_members, packet_members, state_members}
 use Rattle.sci_traces.specs.{declared.json_event.When.{When, TheVariants.{Before, After}}, Logged.{entry_logged}}
 use Rattle.sci_statistics.specs.Standing.{cache_at, home_at}
@@ -102,4 +102,4 @@ event_members core k e = number_member (codes "number") k
 
 -- one object, and the line feed
 unfoldable pub json_line : Core → ℕ → Event → List ℕ
-json_line core k e = print (begin_object ∷ (event_members core k e ++ end_object ∷ [])) ++ 10 ∷ []
+json_line core k e = object_line (event_members core k e)

@@ -13,8 +13,8 @@ use json::Writer;
 use sci_core::{Machine, node_of};
 use sci_history::Entry;
 use sci_json::{
-    write_entry, write_home, write_number, write_operation, write_packet, write_state, write_text,
-    write_truth,
+    into_line, write_entry, write_home, write_number, write_operation, write_packet, write_state,
+    write_text, write_truth,
 };
 use sci_packets::Packet;
 use sci_statistics::{held_at, home_at, line_changed, sent, taken};
@@ -224,7 +224,7 @@ fn write_outcome(out: &mut Writer, machine: &mut Machine, event: &Event) -> Resu
 
 /// Takes a step, and appends a JSON object and a line feed: the number of the event's line, the event and what comes of
 /// it. Answers whether it was enabled. Refused if memory is.
-#[tactic(auto, unfolding(crate::specs::JsonEvent::json_line, crate::specs::JsonEvent::event_members))]
+#[tactic(auto, unfolding(crate::specs::JsonEvent::json_line, crate::specs::JsonEvent::event_members, sci_json::specs::Members::object_line, sci_json::specs::Members::object_of))]
 pub fn push_json(
     out: &mut Vec<u8>,
     machine: &mut Machine,
@@ -244,7 +244,6 @@ pub fn push_json(
     write_parts(&mut writer, event)?;
     let enabled = write_outcome(&mut writer, machine, event)?;
     writer.end_object()?;
-    out.extend_from_slice(&writer.into_inner())?;
-    out.push(b'\n')?;
+    out.extend_from_slice(&into_line(writer)?)?;
     Ok(enabled)
 }
