@@ -1,5 +1,5 @@
 -- What the call answers that says what is wrong with logs.
-use Rattle.std.specs.Prelude.{◌≡◌, ◌<◌, ℕ, List, length}
+use Rattle.std.specs.Prelude.{◌≡◌, ◌<◌, ℕ, List, false, length}
 use Rattle.sci_command.specs.declared.outcome.Outcome.{Outcome}
 use Rattle.sci_reports.specs.ExplainAnswer.{IsExplanationOf}
 use Rattle.sci_c.specs.{Journal.{JournalOf}, Logs.{text_of}, Written.{StandOver}}
@@ -8,13 +8,13 @@ use Rattle.sci_c.specs.{Journal.{JournalOf}, Logs.{text_of}, Written.{StandOver}
 pub record IsExplainedOver (old new : List ℕ) (used : ℕ) (journal : JournalOf) : Type 0 where
   pub words : List ℕ
   pub outcome : Outcome
-  pub explains : IsExplanationOf (text_of journal) words outcome
+  pub explains : IsExplanationOf false (text_of journal) words outcome
   pub stand : StandOver words old new used
 
 -- it has more bytes than there is room
 pub record IsLongerExplanation (old : List ℕ) (used : ℕ) (journal : JournalOf) : Type 0 where
   pub words : List ℕ
   pub outcome : Outcome
-  pub explains : IsExplanationOf (text_of journal) words outcome
+  pub explains : IsExplanationOf false (text_of journal) words outcome
   pub length_is : used ≡ length words
   pub more : length old < used

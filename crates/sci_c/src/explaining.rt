@@ -41,7 +41,7 @@ fn explain(alloc: Global, journal: &Journal, text: &mut [u8], used: &mut usize) 
         Ok(log) => log,
         Err(refusal) => return status_of_unread(refusal.fault.kind),
     };
-    match log.explained(alloc) {
+    match log.explained(alloc, false) {
         Ok(answer) => put_over(&answer.text, text, used),
         Err(_) => SCI_NO_MEMORY,
     }

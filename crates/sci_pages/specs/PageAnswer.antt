@@ -54,7 +54,7 @@ pub record HasManyEvents (request : ChartRequest) (input : List ℕ) : Type 0 wh
 
 -- what `explain` writes of a log
 abbrev pub IsExplained : List ℕ → List ℕ → Type 0
-IsExplained input text = (ends : Outcome) × IsExplanationOf input text ends
+IsExplained input text = (ends : Outcome) × IsExplanationOf false input text ends
 
 -- what `order --show` writes of it, each node's entries in the order that is asked for
 abbrev pub IsOrdered : NodeOrder → List ℕ → List ℕ → Type 0

@@ -62,7 +62,7 @@ fn data_of(alloc: Global, text: &[u8], log: &ReadLog) -> Result<Vec<u8>, AllocEr
     ensures { entry_count log.now.logs ≤ MAX_PAGE_ENTRIES
         → IfOk result (λ body. AreLogData text.now body.items) }
 {
-    let explained = log.explained(alloc)?;
+    let explained = log.explained(alloc, false)?;
     let ordered = log.ordered(alloc, SHOWN)?;
     let by_serial = log.ordered(alloc, SHOWN_BY_SERIAL)?;
     let mut data = Vec::from_slice(alloc, text)?;

@@ -1,6 +1,6 @@
 pub mod Answered
 pub mod Checked
-mod Notes
+mod FoundOnLines
 mod Orders
 pub mod EntriesOn
 pub mod FoundEntries

@@ -1,7 +1,7 @@
 -- The entry at fault on a line of memory, and why it is.
 use Rattle.std.specs.Prelude.{◌≡◌, ◌<◌, ◌≤◌, ◌==◌, ◌&&◌, ◌||◌, not, ℕ, Bool, true, false, List, [], ◌∷◌, ◌++◌, take, slice_get, slice_index}
 use Rattle.std.specs.{Prelude.{Option, Some, None, option_map}, List.{list_any}}
-use Rattle.sci_words.specs.{declared.operation.{Act.{Act, TheVariants.{Load, Store, Lock}}, Op.{Op}}, Operation.{effect}}
+use Rattle.sci_words.specs.{declared.{operation.{Act.{Act, TheVariants.{Load, Store, Lock}}, Op.{Op}}, stamped.Stamped.{Stamped}}, Operation.{effect}}
 use Rattle.sci_history.specs.declared.{entry.Entry.{Entry}, verdict.FaultKind.{FaultKind}}
 use Rattle.sci_history.specs.declared.verdict.FaultKind.TheVariants.{VersionTwice, VersionMissing, WrongReply, OutOfOrder, LastDiffers}
 use Rattle.sci_history.specs.Placed.{is_of_node, maker_count, makes}
@@ -36,6 +36,10 @@ pub record IsWordExpected (placed : List Entry) (found : FaultyEntry) : Type 0 w
   pub place : ℕ
   pub stands : slice_get placed place ≡ Some (faulty found)
   pub word : word_expected found.cause ≡ Some (slice_index (words_after (take place placed)) (faulty found).op.word)
+
+-- the contents that entries in the order of versions leave: the words, and the number of makers
+abbrev pub contents_left : List Entry → Stamped
+contents_left placed = record { line = words_after placed; version = maker_count placed }
 
 -- ---- where it stands, and its cause
 

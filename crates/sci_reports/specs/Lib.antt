@@ -10,5 +10,6 @@ pub mod Placed
 pub mod Faulty
 pub mod Window
 pub mod NoteText
-pub mod Note
+pub mod Finding
+pub mod ExplainJson
 pub mod ReadLog

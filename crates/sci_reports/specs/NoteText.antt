@@ -3,12 +3,13 @@ use Rattle.std.specs.Prelude.{ℕ, ◌==◌, List, [], ◌∷◌, ◌++◌, leng
 use Rattle.std.specs.List.{flat_map}
 use Rattle.sci_words.specs.declared.operation.{Act.{Act, TheVariants.{Load, Store, Lock}}, Reply.{Reply, TheVariants.{Stored, Got}}}
 use Rattle.sci_words.specs.declared.stamped.Stamped.{Stamped}
-use Rattle.sci_history.specs.{declared.entry.Entry.{Entry}, Audit.{words_after}, Placed.{is_making, maker_count}}
+use Rattle.sci_history.specs.{declared.entry.Entry.{Entry}, Placed.{is_making}}
 use Rattle.sci_text.specs.{Number.{field}, Log.{issue_text, outcome_text}}
-use Rattle.sci_command.specs.PacketLine.{contents_text}
-use Rattle.sci_reports.specs.declared.{faulty.{Cause.{Cause}, FaultyEntry.{FaultyEntry}}, numbered.Numbered.{Numbered}}
+use Rattle.sci_command.specs.{PacketLine.{contents_text}, VerdictLine.{verdict_text}}
+use Rattle.sci_reports.specs.declared.{faulty.{Cause.{Cause}, FaultyEntry.{FaultyEntry}}, finding.Finding.{Finding}, numbered.Numbered.{Numbered}}
 use Rattle.sci_reports.specs.declared.faulty.Cause.TheVariants.{MadeBefore, FewMakers, OtherWord, SerialAfter, PlacedAfter}
-use Rattle.sci_reports.specs.{EntryLines.{entries_in, entry_of}, Faulty.{faulty}, Window.{window}}
+use Rattle.sci_reports.specs.{EntryLines.{entry_of}, Faulty.{faulty}, Window.{window}}
+use Rattle.sci_history.specs.declared.verdict.Verdict.TheVariants as verdicts
 
 -- a label, a space and a number
 abbrev pub labelled : List ℕ → ℕ → List ℕ
@@ -112,25 +113,25 @@ around_text placed marked = if length placed == 0 then [] else around_title ++ f
 
 -- ---- last contents that differ
 
--- the contents that entries leave: the words, and the number of makers
-abbrev pub contents_left : List Entry → Stamped
-contents_left placed = record { line = words_after placed; version = maker_count placed }
-
 -- the line of the text that has the last contents, and these
 unfoldable pub last_are_text : ℕ → Stamped → List ℕ
 last_are_text text_line last = labelled (codes "  line") text_line ++ (codes ": the last contents are" ++ contents_text last)
 
 -- the contents that the entries leave, and the line feed
-unfoldable pub left_text : List Entry → List ℕ
-left_text placed = codes "; the entries leave" ++ (contents_text (contents_left placed) ++ 10 ∷ [])
+unfoldable pub left_text : Stamped → List ℕ
+left_text left = codes "; the entries leave" ++ (contents_text left ++ 10 ∷ [])
 
 -- the line that says both
-unfoldable pub last_text : ℕ → Stamped → List Entry → List ℕ
-last_text text_line last placed = last_are_text text_line last ++ left_text placed
+unfoldable pub last_text : Finding → List ℕ
+last_text finding = last_are_text finding.subject.last_line finding.subject.last ++ left_text finding.left
 
--- ---- the note
+-- ---- what is found
 
 -- of the entry that was found, or else of the last contents and their line of the text; and the entries, none of which is marked then
-unfoldable pub note_text : Option FaultyEntry → List Numbered → Stamped → ℕ → List ℕ
-note_text None placed last last_line = last_text last_line last (entries_in placed) ++ around_text placed 0
-note_text (Some found) placed last last_line = fault_text found ++ around_text placed found.at.text_line
+unfoldable pub note_text : Option FaultyEntry → Finding → List ℕ
+note_text None finding = last_text finding ++ around_text finding.placed.items 0
+note_text (Some found) finding = fault_text found ++ around_text finding.placed.items found.at.text_line
+
+-- the line of an audit that names the fault, and then the note
+abbrev pub finding_text : Finding → List ℕ
+finding_text finding = verdict_text (verdicts.Fault finding.subject.line finding.fault.kind finding.fault.at) ++ note_text finding.found finding

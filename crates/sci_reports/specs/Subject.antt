@@ -2,7 +2,7 @@
 use Rattle.std.specs.Prelude.{◌≡◌, ℕ, ◌+◌, List, length}
 use Rattle.sci_words.specs.declared.stamped.Stamped.{Stamped}
 use Rattle.sci_history.specs.{declared.entry.Entry.{Entry}, Memory.{stamped_at}}
-use Rattle.sci_reports.specs.{declared.note.Subject.{Subject}, EntryLines.{numbered_on, numberings}}
+use Rattle.sci_reports.specs.{declared.finding.Subject.{Subject}, EntryLines.{numbered_on, numberings}}
 
 -- the line's entries with their lines of the text, its last contents and the line that has them, which are just before all entries
 pub record IsSubject (before : ℕ) (logs : List (List Entry)) (last : List Stamped) (line : ℕ) (subject : Subject) : Type 0 where

@@ -1,21 +1,22 @@
 //! The command `explain`: what is wrong with a log, line by line, and what would be right.
 
-ghost use Rattle.std.specs.Prelude.{◌≡◌, ◌+◌, ◌≤◌, ◌<◌, ℕ, List, Option, Some, false, length, IfOk};
-ghost use Rattle.sci_words.specs.declared.{limits.TheConstants.{MAX_LINES, MAX_OPERATIONS}, stamped.Stamped.{Stamped}};
-ghost use Rattle.sci_history.specs.declared.{entry.Entry.{Entry}, faults.LineFault.{LineFault}};
-ghost use Rattle.sci_history.specs.{Audit.{AreFound, AreKnown, AreWithin}, Placed.{log_of}};
+ghost use Rattle.std.specs.{Prelude.{◌≡◌, ◌+◌, ◌≤◌, ◌<◌, ℕ, List, Option, false, length, IfOk}, List.{flat_map}};
+ghost use Rattle.sci_words.specs.declared.limits.TheConstants.{MAX_LINES, MAX_OPERATIONS};
+ghost use Rattle.sci_history.specs.declared.faults.LineFault.{LineFault};
+ghost use Rattle.sci_history.specs.{Audit.{AreFound, AreWithin}, Placed.{log_of}};
 ghost use Rattle.sci_text.specs.{FirstFault.{IsTold}, LogFault.{IsLogFault}, Tap.{has_failed}};
-ghost use Rattle.sci_command.specs.{Answer.{HasAnswered}, declared.outcome.Outcome.{Outcome}};
-ghost use Rattle.sci_reports.specs.EntryLines.{entries_in};
-ghost use Rattle.sci_reports.specs.ExplainAnswer.{AreNotes, IsExplainAnswer, IsExplained, IsExplanationOf, IsNote};
-ghost use Rattle.sci_reports.specs.ReadLog.{IsReadLog};
-ghost use Rattle.sci_reports.specs.Subject.{IsSubject};
+ghost use Rattle.sci_command.specs.Answer.{HasAnswered};
+ghost use Rattle.sci_reports.specs.ExplainAnswer.{IsExplainAnswer, IsExplained, IsExplanationOf};
+ghost use Rattle.sci_reports.specs.ExplainAnswer.{findings_shown as findings_shown_of, lawful_shown as lawful_shown_of};
+ghost use Rattle.sci_reports.specs.{Finding.{AreFindings}, NoteText.{finding_text}, ReadLog.{IsReadLog}, Subject.{IsSubject}};
 
-use crate::note::{Subject, note_of};
+use crate::explain_json::{findings_json, lawful_json};
+use crate::finding::{Finding, Subject};
+use crate::note::push_finding;
 use crate::numbered::entries_on;
 use crate::read_log::ReadLog;
 use sci_command::{Answer, Answered, Outcome, verdict_line};
-use sci_history::{Last, LineFault, Logs, Verdict, audit, line_faults};
+use sci_history::{Last, Logs, Verdict, audit, line_faults};
 use sci_text::{Tap, read_input};
 use std::alloc::{AllocError, Global};
 use std::io::Read;
@@ -42,66 +43,87 @@ fn subject_of<'a>(
     })
 }
 
-/// What is written of a line of memory that has a fault.
-fn piece(alloc: Global, fault: LineFault, subject: &Subject) -> Result<Vec<u8>, AllocError>
-    ensures { (before : ℕ) (logs : List (List Entry)) (last : List Stamped) (line : ℕ)
-        → IsSubject before logs last line subject.now
-        → AreKnown (entries_in subject.now.entries.items)
-        → IfOk result (λ text. IsNote before logs last line (Some fault) text.items) }
-{
-    let verdict = Verdict::Fault {
-        line: subject.line,
-        kind: fault.kind,
-        at: fault.at,
-    };
-    let mut text = verdict_line(alloc, verdict)?;
-    let note = note_of(alloc, fault, subject)?;
-    text.extend_from_slice(&note)?;
-    Ok(text)
-}
-
-/// What is written of all lines of memory, of a log with this many lines of text before its entries.
-fn notes(alloc: Global, before: usize, logs: &Logs, last: &Last) -> Result<Vec<u8>, AllocError>
+/// What is found on all lines of memory that have a fault, of a log with this many lines of text before its entries.
+fn findings<'a>(
+    alloc: Global,
+    before: usize,
+    logs: &'a Logs,
+    last: &Last,
+) -> Result<Vec<Finding<'a>>, AllocError>
     requires within { AreWithin (length last.now) logs.now }
     requires lines { length last.now ≤ before }
     requires before { before ≤ MAX_LINES + 1 }
     requires few { (n : ℕ) → length (log_of logs.now n) ≤ MAX_OPERATIONS }
-    ensures { IfOk result (λ text. (faults : List (Option LineFault))
+    ensures { IfOk result (λ findings. (faults : List (Option LineFault))
         × AreFound logs.now last.now (length last.now) faults
-        × AreNotes before logs.now last.now 0 faults text.items) }
+        × AreFindings before logs.now last.now 0 faults findings.items) }
 {
     // Read, so that the prover knows that there are sixteen logs, and that each has its own node's entries.
     let _nodes = logs.nodes();
     let faults = line_faults(alloc, logs, last)?;
-    let mut text = Vec::new(alloc);
+    let mut findings = Vec::new(alloc);
     for line in 0..last.lines() {
         let Some(fault) = faults[line as usize] else {
             continue;
         };
         let subject = subject_of(alloc, before, logs, last, line)?;
-        let piece = piece(alloc, fault, &subject)?;
-        text.extend_from_slice(&piece)?;
+        let finding = Finding::of(alloc, fault, subject)?;
+        findings.push(finding)?;
+    }
+    Ok(findings)
+}
+
+/// What is found, in words.
+fn findings_text(alloc: Global, findings: &[Finding]) -> Result<Vec<u8>, AllocError>
+    ensures { IfOk result (λ text. text.items ≡ flat_map finding_text findings.now) }
+{
+    let mut text = Vec::new(alloc);
+    for finding in findings {
+        push_finding(alloc, &mut text, finding)?;
     }
     Ok(text)
 }
 
-/// What is written of logs, and how the command ends.
-fn explained(alloc: Global, before: usize, logs: &Logs, last: &Last) -> Result<Answer, AllocError>
-    requires within { AreWithin (length last.now) logs.now }
-    requires lines { length last.now ≤ before }
-    requires before { before ≤ MAX_LINES + 1 }
-    requires few { (n : ℕ) → length (log_of logs.now n) ≤ MAX_OPERATIONS }
-    ensures { IfOk result (λ x. IsExplained before logs.now last.now x.text.items x.outcome) }
+/// What is written of a lawful log.
+fn lawful_shown(alloc: Global, json: bool) -> Result<Vec<u8>, AllocError>
+    ensures { IfOk result (λ text. text.items ≡ lawful_shown_of json) }
 {
-    let verdict = audit(alloc, logs, last)?;
-    match verdict {
+    if json {
+        lawful_json(alloc)
+    } else {
+        verdict_line(alloc, Verdict::Lawful)
+    }
+}
+
+/// What is written of what is found in another.
+fn findings_shown(alloc: Global, json: bool, findings: &[Finding]) -> Result<Vec<u8>, AllocError>
+    ensures { IfOk result (λ text. text.items ≡ findings_shown_of json findings.now) }
+{
+    if json {
+        findings_json(alloc, findings)
+    } else {
+        findings_text(alloc, findings)
+    }
+}
+
+/// What is written of a log, and how the command ends.
+fn explained(alloc: Global, json: bool, log: &ReadLog) -> Result<Answer, AllocError>
+    requires within { AreWithin (length log.now.last) log.now.logs }
+    requires lines { length log.now.last ≤ log.now.before }
+    requires before { log.now.before ≤ MAX_LINES + 1 }
+    requires few { (n : ℕ) → length (log_of log.now.logs n) ≤ MAX_OPERATIONS }
+    ensures { IfOk result (λ x.
+        IsExplained json log.now.before log.now.logs log.now.last x.text.items x.outcome) }
+{
+    match audit(alloc, &log.logs, &log.last)? {
         Verdict::Lawful => Ok(Answer {
-            text: verdict_line(alloc, verdict)?,
+            text: lawful_shown(alloc, json)?,
             outcome: Outcome::Done,
         }),
         Verdict::Fault { .. } => {
+            let findings = findings(alloc, log.before, &log.logs, &log.last)?;
             Ok(Answer {
-                text: notes(alloc, before, logs, last)?,
+                text: findings_shown(alloc, json, &findings)?,
                 outcome: Outcome::Unlawful,
             })
         }
@@ -109,13 +131,13 @@ fn explained(alloc: Global, before: usize, logs: &Logs, last: &Last) -> Result<A
 }
 
 impl ReadLog {
-    /// What `explain` writes of the log, and how it ends. Refused if memory is.
-    pub fn explained(&self, alloc: Global) -> Result<Answer, AllocError>
+    /// What `explain` writes of the log, in words or as one JSON object, and how it ends. Refused if memory is.
+    pub fn explained(&self, alloc: Global, json: bool) -> Result<Answer, AllocError>
         requires { (text : List ℕ) × IsReadLog text self.now }
         ensures { (text : List ℕ) → IsReadLog text self.now
-            → IfOk result (λ x. IsExplanationOf text x.text.items x.outcome) }
+            → IfOk result (λ x. IsExplanationOf json text x.text.items x.outcome) }
     {
-        explained(alloc, self.before, &self.logs, &self.last)
+        explained(alloc, json, self)
     }
 }
 
@@ -125,13 +147,13 @@ impl ReadLog {
 /// - the line of the text that has the entry at fault, what was found there, and what one memory of one thread gives;
 /// - the entry at fault and those around it in the order of versions.
 ///
-/// A text with a fault is refused, as are a reader that fails, too long an input and running out of memory, at line 0.
-/// After a failed read nothing more is read.
-pub fn explain<R: Read>(alloc: Global, reader: &mut Tap<R>) -> Answered
+/// With `json` the same is one JSON object. A text with a fault is refused, as are a reader that fails, too long an input and
+/// running out of memory, at line 0. After a failed read nothing more is read.
+pub fn explain<R: Read>(alloc: Global, json: bool, reader: &mut Tap<R>) -> Answered
     requires { has_failed reader.old ≡ false }
-    ensures { HasAnswered R.remaining reader.old reader.new IsExplainAnswer (IsTold IsLogFault) result }
+    ensures { HasAnswered R.remaining reader.old reader.new (IsExplainAnswer json) (IsTold IsLogFault) result }
 {
     let bytes = read_input(alloc, reader)?;
     let log = ReadLog::of(alloc, &bytes)?;
-    Ok(log.explained(alloc)?)
+    Ok(log.explained(alloc, json)?)
 }

@@ -2,8 +2,10 @@
 #![tactic(auto)]
 
 mod checking;
+mod explain_json;
 mod explaining;
 mod faulty;
+mod finding;
 mod note;
 mod numbered;
 mod order_json;

@@ -1,34 +1,20 @@
 //! What a fault of a line means, in words, and the entries around it.
 
-ghost use Rattle.std.specs.{Prelude.{◌≡◌, ◌<◌, ◌≤◌, ◌++◌, All, IfOk, OnOk, length}, List.{flat_map}};
-ghost use Rattle.sci_words.specs.declared.limits.TheConstants.{WORDS_PER_LINE};
-ghost use Rattle.sci_history.specs.Audit.{AreKnown};
-ghost use Rattle.sci_reports.specs.{EntryLines.{entries_in, entry_of}, Note.{IsNoteOf}};
-ghost use Rattle.sci_reports.specs.NoteText.{around_text, cause_text, done_text, fault_text, got_text, last_are_text, last_text, left_text};
+ghost use Rattle.std.specs.{Prelude.{◌≡◌, ◌≤◌, ◌++◌, OnOk, length}, List.{flat_map}};
+ghost use Rattle.sci_reports.specs.EntryLines.{entry_of};
+ghost use Rattle.sci_reports.specs.NoteText.{around_text, cause_text, done_text, fault_text, finding_text, got_text, last_are_text, last_text, left_text};
 ghost use Rattle.sci_reports.specs.NoteText.{made_before_text, maker_text, makers_text, note_text, other_word_text, placed_after_text};
 ghost use Rattle.sci_reports.specs.NoteText.{serial_after_text, shown_line, some_makers_text, verb_text, version_text, where_text, who_text};
 ghost use Rattle.sci_reports.specs.Window.{place_on_line, window};
 
-use crate::faulty::{Cause, FaultyEntry, contents_after, faulty_entry};
-use crate::numbered::{Numbered, placed};
-use sci_command::{push_contents, push_labelled};
-use sci_history::LineFault;
+use crate::faulty::{Cause, FaultyEntry};
+use crate::finding::Finding;
+use crate::numbered::Numbered;
+use sci_command::{push_contents, push_labelled, verdict_line};
+use sci_history::Verdict;
 use sci_text::{push_entry, push_field, push_text};
 use sci_words::{Act, Reply, Stamped, Word};
 use std::alloc::{AllocError, Global};
-
-/// What a note of a line of memory is about.
-#[derive(Drop)]
-pub struct Subject<'a> {
-    /// The line of memory.
-    pub line: u8,
-    /// Its entries, in the order of the text.
-    pub entries: Vec<Numbered<'a>>,
-    /// Its last contents.
-    pub last: Stamped,
-    /// The line of the text that has them.
-    pub last_line: usize,
-}
 
 /// How many entries are shown before and after the one at fault.
 const AROUND: usize = 3;
@@ -217,7 +203,7 @@ fn place_on(placed: &[Numbered], text_line: usize) -> usize
 }
 
 /// The entries that are shown around the one on this line of the text: it, and up to three on either side.
-fn around<'a, 'b>(placed: &'b [Numbered<'a>], text_line: usize) -> &'b [Numbered<'a>]
+pub(crate) fn around<'a, 'b>(placed: &'b [Numbered<'a>], text_line: usize) -> &'b [Numbered<'a>]
     ensures { result.now ≡ window placed.now text_line }
 {
     let from = place_on(placed, text_line).saturating_sub(AROUND);
@@ -275,30 +261,22 @@ fn push_last_are(out: &mut Vec<u8>, text_line: usize, last: Stamped) -> Result<(
 }
 
 /// Appends what entries leave.
-fn push_left(out: &mut Vec<u8>, placed: &[Numbered]) -> Result<(), AllocError>
-    ensures { All (λ entry. entry.op.word < WORDS_PER_LINE) (entries_in placed.now)
-        → OnOk result (out.new.items ≡ out.old.items ++ left_text (entries_in placed.now)) }
+fn push_left(out: &mut Vec<u8>, left: Stamped) -> Result<(), AllocError>
+    ensures { OnOk result (out.new.items ≡ out.old.items ++ left_text left) }
 {
     push_text(out, "; the entries leave")?;
-    push_contents(out, &contents_after(placed))?;
+    push_contents(out, &left)?;
     push_text(out, "\n")?;
     Ok(())
 }
 
 /// Appends what last contents are, and what they should be.
 #[tactic(auto, unfolding(crate::specs::NoteText::last_text))]
-fn push_last(
-    out: &mut Vec<u8>,
-    text_line: usize,
-    last: Stamped,
-    placed: &[Numbered],
-) -> Result<(), AllocError>
-    ensures { All (λ entry. entry.op.word < WORDS_PER_LINE) (entries_in placed.now)
-        → OnOk result (out.new.items
-        ≡ out.old.items ++ last_text text_line last (entries_in placed.now)) }
+fn push_last(out: &mut Vec<u8>, finding: &Finding) -> Result<(), AllocError>
+    ensures { OnOk result (out.new.items ≡ out.old.items ++ last_text finding.now) }
 {
-    push_last_are(out, text_line, last)?;
-    push_left(out, placed)
+    push_last_are(out, finding.subject.last_line, finding.subject.last)?;
+    push_left(out, finding.left)
 }
 
 /// Appends the line that says which entry is at fault, and why.
@@ -315,33 +293,31 @@ fn push_fault(out: &mut Vec<u8>, found: FaultyEntry) -> Result<(), AllocError>
 
 /// Appends the lines that say what a fault means.
 #[tactic(auto, unfolding(crate::specs::NoteText::note_text))]
-fn push_lines(
-    out: &mut Vec<u8>,
-    subject: &Subject,
-    found: Option<FaultyEntry>,
-    placed: &[Numbered],
-) -> Result<(), AllocError>
-    ensures { All (λ entry. entry.op.word < WORDS_PER_LINE) (entries_in placed.now)
-        → OnOk result (out.new.items ≡ out.old.items
-        ++ note_text found.entry placed.now subject.now.last subject.now.last_line) }
+fn push_note(out: &mut Vec<u8>, finding: &Finding) -> Result<(), AllocError>
+    ensures { OnOk result (out.new.items ≡ out.old.items ++ note_text finding.now.found finding.now) }
 {
-    let Some(found) = found else {
-        push_last(out, subject.last_line, subject.last, placed)?;
-        return push_around(out, placed, 0);
+    let Some(found) = finding.found else {
+        push_last(out, finding)?;
+        return push_around(out, &finding.placed, 0);
     };
     push_fault(out, found)?;
-    push_around(out, placed, found.at.text_line)
+    push_around(out, &finding.placed, found.at.text_line)
 }
 
-/// The lines that say what a fault of a line of memory means, and the entries around it in the order of versions. Refused if
-/// memory is.
-pub fn note_of(alloc: Global, fault: LineFault, subject: &Subject) -> Result<Vec<u8>, AllocError>
-    ensures { AreKnown (entries_in subject.now.entries.items)
-        → IfOk result (λ note. IsNoteOf fault subject.now note.items) }
+/// Appends what is found on a line of memory: the line of an audit that names its fault, the lines that say what the fault
+/// means, and the entries around it in the order of versions. Refused if memory is.
+pub(crate) fn push_finding(
+    alloc: Global,
+    out: &mut Vec<u8>,
+    finding: &Finding,
+) -> Result<(), AllocError>
+    ensures { OnOk result (out.new.items ≡ out.old.items ++ finding_text finding.now) }
 {
-    let placed = placed(alloc, &subject.entries)?;
-    let found = faulty_entry(alloc, fault.kind, &subject.entries, &placed)?;
-    let mut note = Vec::new(alloc);
-    push_lines(&mut note, subject, found, &placed)?;
-    Ok(note)
+    let verdict = Verdict::Fault {
+        line: finding.subject.line,
+        kind: finding.fault.kind,
+        at: finding.fault.at,
+    };
+    out.extend_from_slice(&verdict_line(alloc, verdict)?)?;
+    push_note(out, finding)
 }

@@ -1,4 +1,4 @@
-use Rattle.std.proofs.Common.{List, ℕ, length, ap, ◌∙◌, subst}
+use Rattle.std.proofs.Common.{List, ℕ, false, length, ap, ◌∙◌, subst}
 use Rattle.sci_reports.specs.ExplainAnswer.{IsExplanationOf}
 use Rattle.sci_c.specs.Written.{StandOver}
 use Rattle.sci_c.proofs.Explanations.{not_refused, same_text}
@@ -16,7 +16,7 @@ returns-in-Ok-explained-clause-written c = λ ok.
     record {
       words = c.in-Ok-explained.answer.text.items;
       outcome = c.in-Ok-explained.answer.outcome;
-      explains = subst (λ (text : List ℕ). IsExplanationOf text c.in-Ok-explained.answer.text.items c.in-Ok-explained.answer.outcome) text_is
+      explains = subst (λ (text : List ℕ). IsExplanationOf false text c.in-Ok-explained.answer.text.items c.in-Ok-explained.answer.outcome) text_is
           (c.in-Ok-explained.ensures c.deref.result.now c.in-Ok-of.ensures.read);
       stand = subst (λ (words : List ℕ). StandOver words c.args.text.now c.put_over.new.room c.put_over.new.used)
           c.deref-in-Ok-explained.ensures.value (c.put_over.ensures.written ok);
@@ -28,7 +28,7 @@ returns-in-Ok-explained-clause-full c = λ full.
     record {
       words = c.in-Ok-explained.answer.text.items;
       outcome = c.in-Ok-explained.answer.outcome;
-      explains = subst (λ (text : List ℕ). IsExplanationOf text c.in-Ok-explained.answer.text.items c.in-Ok-explained.answer.outcome) text_is
+      explains = subst (λ (text : List ℕ). IsExplanationOf false text c.in-Ok-explained.answer.text.items c.in-Ok-explained.answer.outcome) text_is
           (c.in-Ok-explained.ensures c.deref.result.now c.in-Ok-of.ensures.read);
       length_is = c.put_over.ensures.used ∙ ap length c.deref-in-Ok-explained.ensures.value;
       more = c.put_over.ensures.full full;

@@ -11,8 +11,8 @@ returns g c =
     let unread = has_failed c.read_input.new.reader in
     let written = c.in_ok-explained.field-0 in
     let is = c.in_ok-explained.ensures c.in_ok-bytes.bytes.items (rw (sym c.deref.ensures.value) c.in_ok-log.ensures.read) in
-    let never = explained_judged is.before is.logs is.last written.text.items written.outcome is.found in (
-      answer_made IsExplanationOf (IsTold IsLogFault) known unread written.text.items written.outcome never
+    let never = explained_judged c.args.json is.before is.logs is.last written.text.items written.outcome is.found in (
+      answer_made (IsExplanationOf c.args.json) (IsTold IsLogFault) known unread written.text.items written.outcome never
           (c.in_ok-bytes.ensures.unfailed, (c.in_ok-bytes.bytes.items, c.in_ok-bytes.ensures.read, is)),
       c.read_input.ensures.again,
     )
@@ -20,7 +20,7 @@ returns g c =
 pub returns-in_err-log : goal.returns-in_err-log
 returns-in_err-log g c =
     let refused = c.from_residual-in_err-log in (
-      answer_refused IsExplainAnswer IsLogFault _ _ c.deref.result.now refused.result c.in_ok-bytes.ensures.unfailed
+      answer_refused (IsExplainAnswer c.args.json) IsLogFault _ _ c.deref.result.now refused.result c.in_ok-bytes.ensures.unfailed
           (rw c.deref.ensures.value c.in_ok-bytes.ensures.read) refused.ensures.0 (search rules),
       c.read_input.ensures.again,
     )

@@ -6,8 +6,8 @@ use Rattle.sci_reports.proofs.read_log.ReadLog.explained.Goals as goal
 pub returns : goal.returns
 returns c text is =
     let log = c.args.self.now in
-    IfOk-weaker c.explained.result (λ (x : Answer). IsExplained log.before log.logs log.last x.text.items x.outcome)
-    (λ (x : Answer). IsExplanationOf text x.text.items x.outcome)
+    IfOk-weaker c.explained.result (λ (x : Answer). IsExplained c.args.json log.before log.logs log.last x.text.items x.outcome)
+    (λ (x : Answer). IsExplanationOf c.args.json text x.text.items x.outcome)
     (λ x found. record {
       nodes = log.nodes;
       logs = log.logs;

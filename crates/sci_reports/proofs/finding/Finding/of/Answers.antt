@@ -1,15 +1,14 @@
--- The note is made from the subject's entries in placed order, and from the one that is at fault.
-use Rattle.std.proofs.Common.{◌<◌}
+-- It is found in the subject's entries in placed order.
+use Rattle.std.proofs.Common.{◌<◌, refl}
 use Rattle.std.proofs.lemmas.List.Sorted.{All-permutation, IsPermutation-map}
 use Rattle.sci_words.specs.declared.limits.TheConstants.{WORDS_PER_LINE}
 use Rattle.sci_history.specs.{declared.entry.Entry.{Entry}}
 use Rattle.sci_reports.specs.{EntryLines.{entries_in, entry_refs}}
-use Rattle.sci_reports.proofs.note.note_of.Goals as goal
+use Rattle.sci_reports.proofs.finding.Finding.of.Goals as goal
 
-pub returns : goal.returns
-returns c = λ known.
-    let subject = c.args.subject.now in
-    let entries = subject.entries.items in
+pub returns-clause-found : goal.returns-clause-found
+returns-clause-found c = λ known.
+    let entries = c.args.subject.entries.items in
     let placed = c.in_ok-placed.placed.items in
     let kept = rw c.deref.ensures.value at c.in_ok-placed.ensures.kept in
     let order = rw c.deref.ensures.value at c.in_ok-placed.ensures.order in
@@ -19,10 +18,9 @@ returns c = λ known.
     let at_fault = (rw (c.deref-2.ensures.value, c.deref-3.ensures.value) at c.in_ok-found.ensures.entry) known.nodes words in
     let cause = (rw (c.deref-2.ensures.value, c.deref-3.ensures.value) at c.in_ok-found.ensures.cause) known.nodes words in
     record {
-      placed = placed;
+      is = refl;
       are = record { kept = kept; order = λ bound below. order bound known.nodes below; ties = ties };
-      found = c.in_ok-found.found;
       at_fault = at_fault;
       cause = cause;
-      text = (rw (c.deref-4.ensures.value, c.new-note.ensures.items) at c.in_ok-push_lines.ensures) words;
+      left = (rw c.deref-4.ensures.value at c.left_by-left.ensures) words;
     }
