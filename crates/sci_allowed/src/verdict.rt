@@ -26,8 +26,8 @@ impl Condition {
 }
 
 impl FinalCondition {
-    /// Whether all outcomes of a script are as the condition says.
-    fn is_true_of(&self, rows: &[AllowedRow]) -> bool
+    /// Whether all outcomes of a script, of which each has a row, are as the condition says.
+    pub fn is_true_of(&self, rows: &[AllowedRow]) -> bool
         ensures { result ≡ is_true_of self.now.quantifier self.now.condition rows.now }
     {
         match self.quantifier {

@@ -1,44 +1,41 @@
 -- What is written of a script's runs is the answer, and that there are too many positions is why the command is refused.
-use Rattle.std.proofs.Common.{All, ◌≡◌, ◌⊎◌, ℕ, Bool, true, false, List, [], Option, None, Some, sym, subst, ◌∙◌, inl, inr}
+use Rattle.std.proofs.Common.{All, ◌≡◌, ◌⊎◌, ℕ, Bool, true, false, List, Option, None, Some, refl, sym, subst, ◌∙◌, inl, inr}
 use Rattle.sci_text.specs.{FirstFault.{AreRead, IsTold}, Script.{ScriptValue}, declared.fault.TextFaultKind.{TextFaultKind, TheVariants.{Memory, TooMany}}}
 use Rattle.sci_drive.specs.Rounds.{most_pending}
 use Rattle.sci_command.specs.{Input.{IsReadAs}, declared.outcome.Outcome.TheVariants.{Done, Unlawful, Refused}}
-use Rattle.sci_allowed.proofs.Verdicts.{verdict_is}
-use Rattle.sci_allowed.specs.{Allowed.{AreRows, IsTooBig}, Conditioned.{IsConditioned, IsConditionedFault}, Verdict.{IsVerdict, ending_of}}
+use Rattle.sci_allowed.proofs.Verdicts.{true_of}
+use Rattle.sci_allowed.specs.{Allowed.{AreRows, IsTooBig}, Conditioned.{IsConditioned, IsConditionedFault}, Verdict.{is_true_of}}
 use Rattle.sci_allowed.specs.Outcome.{IsPlaceWithin, written_places}
 use Rattle.sci_allowed.specs.declared.{condition.FinalCondition.{FinalCondition}, rows.AllowedRow.{AllowedRow}}
 use Rattle.sci_outcomes.proofs.{RowCounts.{row_count}, SightingsAllowed.{rows_allowed}}
 use Rattle.sci_outcomes.specs.OutcomesAnswer.{AreAsked, IsOutcomesAnswer, IsOutcomesRefusal, IsOutcomesText, IsSampleText, IsTable, IsWholeTable}
 use Rattle.sci_outcomes.specs.OutcomesAnswer.{IsWholeText, trials_of}
-use Rattle.sci_outcomes.specs.{SampleVerdict.{IsSampleVerdict, sample_ending, sample_of}, Trials.{AreSeenOf}}
-use Rattle.sci_outcomes.specs.declared.{histogram.Row.{Row}, outcome.Sighting.{Sighting}, trials.Trials.{Trials}}
+use Rattle.sci_outcomes.specs.{Said.{IsSaidOf, said_ending, said_of, said_of_all, sample_ending}, Trials.{AreSeenOf}}
+use Rattle.sci_outcomes.specs.declared.outcome.Sighting.{Sighting}
 use Rattle.sci_outcomes.specs.declared.outcomes_report.OutcomesRequest.{OutcomesRequest}
-use Rattle.sci_outcomes.specs.declared.sample_verdict.Sample.{Sample, TheVariants.{Yes, No, NoExample, NoCounterexample}}
+use Rattle.sci_outcomes.specs.declared.said.Said.{Said, TheVariants.{Yes, No, NoExample, NoCounterexample}}
 use Rattle.sci_command.specs.declared.outcome.Outcome as ending
 
 -- a command that isn't refused
 abbrev HasEnded : ending.Outcome → Type 0
 HasEnded ends = (ends ≡ Done) ⊎ (ends ≡ Unlawful)
 
-sample_ended : (sample : Sample) (ends : ending.Outcome) → ends ≡ sample_ending sample → HasEnded ends
-sample_ended Yes ends is = inl is
-sample_ended No ends is = inr is
-sample_ended NoExample ends is = inr is
-sample_ended NoCounterexample ends is = inl is
+one_ended : (said : Said) (ends : ending.Outcome) → ends ≡ sample_ending said → HasEnded ends
+one_ended Yes ends is = inl is
+one_ended No ends is = inr is
+one_ended NoExample ends is = inr is
+one_ended NoCounterexample ends is = inl is
 
-sample_ends : (last : Option FinalCondition) (rows : List Row) (verdict : List ℕ) (ends : ending.Outcome) → IsSampleVerdict last rows verdict ends
-    → HasEnded ends
-sample_ends None rows verdict ends is = inl is.1
-sample_ends (Some said) rows verdict ends is = sample_ended (sample_of said.quantifier said.condition rows) ends is.1
+said_ended : (said : Option Said) (ends : ending.Outcome) → ends ≡ said_ending said → HasEnded ends
+said_ended None ends is = inl is
+said_ended (Some said) ends is = one_ended said ends is
 
-true_ended : (b : Bool) (ends : ending.Outcome) → ends ≡ ending_of b → HasEnded ends
-true_ended true ends is = inl is
-true_ended false ends is = inr is
-
-verdict_ends : (script : ScriptValue) (window : ℕ) (last : Option FinalCondition) (verdict : List ℕ) (ends : ending.Outcome)
-    → IsVerdict script window last verdict ends → HasEnded ends
-verdict_ends script window None verdict ends is = inl is.1
-verdict_ends script window (Some said) verdict ends is = true_ended is.0 ends is.2
+-- what all outcomes say is said of all runs
+said_is : (script : ScriptValue) (window : ℕ) (rows : List AllowedRow) → AreRows script window rows → (last : Option FinalCondition)
+    → IsSaidOf script window last (said_of_all last rows)
+said_is script window rows all None = refl
+said_is script window rows all (Some said) =
+    (is_true_of said.quantifier said.condition rows, refl, true_of script window rows all said.quantifier said.condition)
 
 never : {X : Type 0} → true ≡ false → X
 never is = cc
@@ -47,7 +44,7 @@ module _ (request : OutcomesRequest) (script : ScriptValue) (last : Option Final
     (unfailed : failed ≡ false) (text : (input : List ℕ) × AreRead known input × IsConditioned script last input)
     (within : All (IsPlaceWithin script.lines) (written_places script.lines script.operations)) where
   sample_made : (seen : List Sighting) (out : List ℕ) (ends : ending.Outcome) → request.all ≡ false → AreSeenOf script (trials_of request) seen
-      → IsSampleText (trials_of request) last seen out ends → IsOutcomesText request text.0 out ends
+      → IsSampleText request last seen out ends → IsOutcomesText request text.0 out ends
   sample_made seen out ends asked runs table = record {
     script = script;
     last = last;
@@ -60,10 +57,9 @@ module _ (request : OutcomesRequest) (script : ScriptValue) (last : Option Final
 
   whole_text_is : (allowed : List AllowedRow) (seen : List Sighting) (out : List ℕ) (ends : ending.Outcome)
       → AreRows script (most_pending request.issuing) allowed → AreSeenOf script (trials_of request) seen
-      → IsWholeTable (trials_of request) last seen allowed out ends → IsWholeText script (trials_of request) last seen out ends
+      → IsWholeTable request last seen allowed out ends → IsWholeText request script last seen out ends
   whole_text_is allowed seen out ends rows runs table =
       let window = most_pending request.issuing in
-      let verdict = verdict_is script window allowed rows last [] table.verdict ends table.adds in
       let among = rows_allowed script text.2.good within (trials_of request) seen table.rows runs table.rows_are in
       record {
         rows = table.rows;
@@ -72,13 +68,14 @@ module _ (request : OutcomesRequest) (script : ScriptValue) (last : Option Final
         all = rows;
         seen_allowed = among;
         counted = row_count script window seen table.rows allowed table.rows_are rows.outcomes among;
-        verdict = table.verdict;
-        is_verdict = subst (λ (t : List ℕ). IsVerdict script window last t ends) (sym verdict.1) verdict.2;
+        said = said_of_all last allowed;
+        is_said = said_is script window allowed rows last;
+        ends_by = table.ends_by;
         written = table.written;
       }
 
   whole_made : (seen : List Sighting) (out : List ℕ) (ends : ending.Outcome) → request.all ≡ true → AreSeenOf script (trials_of request) seen
-      → IsWholeText script (trials_of request) last seen out ends → IsOutcomesText request text.0 out ends
+      → IsWholeText request script last seen out ends → IsOutcomesText request text.0 out ends
   whole_made seen out ends asked runs table = record {
     script = script;
     last = last;
@@ -91,12 +88,12 @@ module _ (request : OutcomesRequest) (script : ScriptValue) (last : Option Final
 
   made : (allowed : Option (List AllowedRow)) (seen : List Sighting) (out : List ℕ) (ends : ending.Outcome)
       → AreAsked request.all script (most_pending request.issuing) allowed → AreSeenOf script (trials_of request) seen
-      → IsTable (trials_of request) last seen allowed out ends → IsOutcomesText request text.0 out ends × HasEnded ends
+      → IsTable request last seen allowed out ends → IsOutcomesText request text.0 out ends × HasEnded ends
   made None seen out ends asked runs table =
-      (sample_made seen out ends asked runs table, sample_ends last table.rows table.verdict ends table.is_verdict)
+      (sample_made seen out ends asked runs table, said_ended (said_of last table.rows) ends table.ends_by)
   made (Some allowed) seen out ends asked runs table =
       let whole = whole_text_is allowed seen out ends asked.1 runs table in
-      (whole_made seen out ends asked.0 runs whole, verdict_ends script (most_pending request.issuing) last whole.verdict ends whole.is_verdict)
+      (whole_made seen out ends asked.0 runs whole, said_ended (said_of_all last allowed) ends table.ends_by)
 
   ended : (out : List ℕ) (ends : ending.Outcome) → HasEnded ends → IsOutcomesText request text.0 out ends
       → (ends ≡ Refused → ⊥) × IsOutcomesAnswer request known failed out ends
@@ -109,12 +106,11 @@ module _ (request : OutcomesRequest) (script : ScriptValue) (last : Option Final
       (unfailed, (text.0, text.1, subst (IsOutcomesText request text.0 out) is shown)) in
       subst (λ (e : ending.Outcome). (e ≡ Refused → ⊥) × IsOutcomesAnswer request known failed out e) (sym is) ((λ e. cc), read)
 
-  pub answered_for : (trials : Trials) (allowed : Option (List AllowedRow)) (seen : List Sighting) (out : List ℕ) (ends : ending.Outcome)
-      → trials ≡ trials_of request → AreAsked request.all script (most_pending request.issuing) allowed → AreSeenOf script trials seen
-      → IsTable trials last seen allowed out ends → (ends ≡ Refused → ⊥) × IsOutcomesAnswer request known failed out ends
-  answered_for trials allowed seen out ends same asked runs table =
-      let both = made allowed seen out ends asked (subst (λ (t : Trials). AreSeenOf script t seen) same runs)
-      (subst (λ (t : Trials). IsTable t last seen allowed out ends) same table) in
+  pub answered_for : (allowed : Option (List AllowedRow)) (seen : List Sighting) (out : List ℕ) (ends : ending.Outcome)
+      → AreAsked request.all script (most_pending request.issuing) allowed → AreSeenOf script (trials_of request) seen
+      → IsTable request last seen allowed out ends → (ends ≡ Refused → ⊥) × IsOutcomesAnswer request known failed out ends
+  answered_for allowed seen out ends asked runs table =
+      let both = made allowed seen out ends asked runs table in
       ended out ends both.1 both.0
 
   pub refused_for : (kind : TextFaultKind) (line : ℕ) → line ≡ 0 → (kind ≡ TooMany) ⊎ (kind ≡ Memory)

@@ -2,5 +2,6 @@ pub mod Outcomes
 pub mod Rows
 pub mod Trials
 pub mod RunAnswer
-pub mod SampleVerdict
+pub mod Said
+pub mod OutcomesJson
 pub mod OutcomesAnswer

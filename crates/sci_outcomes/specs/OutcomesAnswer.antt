@@ -1,5 +1,6 @@
 -- What `outcomes` writes for its input.
-use Rattle.std.specs.Prelude.{All, ◌≡◌, ◌⊎◌, ℕ, ◌+◌, ◌%◌, ◌^◌, Bool, true, false, List, [], ◌∷◌, ◌++◌, codes, length, Option, None, Some, unwrap_or}
+use Rattle.std.specs.Prelude.{All, ◌≡◌, ◌⊎◌, ℕ, ◌+◌, ◌%◌, ◌^◌, Bool, true, false, List, [], ◌∷◌, ◌++◌, codes, length, Option, None, Some}
+use Rattle.std.specs.Prelude.{unwrap_or, if◌then◌else◌}
 use Rattle.std.specs.List.{flat_map}
 use Rattle.sci_text.specs.{FirstFault.{IsTold}, Number.{field}, Script.{ScriptValue}}
 use Rattle.sci_text.specs.declared.fault.TextFaultKind.{TextFaultKind, TheVariants.{TooMany}}
@@ -10,11 +11,16 @@ use Rattle.sci_outcomes.specs.declared.histogram.Row.{Row}
 use Rattle.sci_outcomes.specs.declared.outcomes_report.{OutcomesRequest.{OutcomesRequest}, TheConstants.{RUNS, SEED}}
 use Rattle.sci_outcomes.specs.declared.trials.{Trials.{Trials}, Turns.{Turns, TheVariants.{Drawn, Threads}}}
 use Rattle.sci_drive.specs.Rounds.{most_pending}
-use Rattle.sci_allowed.specs.{Allowed.{AreRows, IsAllowed, IsTooBig}, Outcome.{shown_of}, Verdict.{AddsVerdict, IsVerdict}}
+use Rattle.sci_allowed.specs.{Allowed.{AreRows, IsAllowed, IsTooBig}, Outcome.{shown_of}}
 use Rattle.sci_allowed.specs.declared.rows.AllowedRow.{AllowedRow}
-use Rattle.sci_outcomes.specs.{Rows.{AreRowsOf, unseen_of}, SampleVerdict.{IsSampleVerdict}, Trials.{AreSeenOf, OneIsGivenUp}}
+use Rattle.sci_outcomes.specs.{OutcomesJson.{outcomes_json}, Rows.{AreRowsOf, unseen_of}, Trials.{AreSeenOf, OneIsGivenUp}}
+use Rattle.sci_outcomes.specs.{declared.said.Said.{Said}, Said.{IsSaidOf, said_ending, said_of, said_of_all, said_text}}
 use Rattle.sci_outcomes.specs.declared.outcome.Sighting.{Sighting}
 use Rattle.sci_command.specs.declared.outcome.Outcome as ending
+
+-- the runs that are asked for
+abbrev pub trials_of : OutcomesRequest → Trials
+trials_of request = record { runs = unwrap_or request.runs RUNS; turns = unwrap_or request.turns (Drawn SEED); issuing = request.issuing }
 
 -- ---- texts
 
@@ -51,33 +57,38 @@ whole_text trials rows unseen =
 abbrev pub outcomes_text : Trials → List Row → List ℕ
 outcomes_text trials rows = flat_map (row_text trials.turns) rows ++ total_text (length rows) trials.runs
 
+-- the same and what is said of a condition, in lines or as a JSON object
+abbrev pub sample_shown : OutcomesRequest → List Row → Option Said → List ℕ
+sample_shown request rows said =
+    if request.json then outcomes_json (trials_of request) rows [] said else outcomes_text (trials_of request) rows ++ said_text said
+
+abbrev pub whole_shown : OutcomesRequest → List Row → List AllowedRow → Option Said → List ℕ
+whole_shown request rows unseen said =
+    if request.json then outcomes_json (trials_of request) rows unseen said else whole_text (trials_of request) rows unseen ++ said_text said
+
 -- ---- the answer
 
--- the runs that are asked for
-abbrev pub trials_of : OutcomesRequest → Trials
-trials_of request = record { runs = unwrap_or request.runs RUNS; turns = unwrap_or request.turns (Drawn SEED); issuing = request.issuing }
-
 -- the outcomes of the runs are written, and what they say of the condition of the script, if it has one
-pub record IsSampleText (trials : Trials) (last : Option FinalCondition) (seen : List Sighting) (text : List ℕ) (ends : ending.Outcome) : Type 0 where
+pub record IsSampleText (request : OutcomesRequest) (last : Option FinalCondition) (seen : List Sighting) (text : List ℕ) (ends : ending.Outcome) : Type 0 where
   pub rows : List Row
   pub rows_are : AreRowsOf seen rows
-  pub verdict : List ℕ
-  pub is_verdict : IsSampleVerdict last rows verdict ends
-  pub written : text ≡ outcomes_text trials rows ++ verdict
+  pub ends_by : ends ≡ said_ending (said_of last rows)
+  pub written : text ≡ sample_shown request rows (said_of last rows)
 
 -- The outcomes of the runs are written, all others that a run of the script can have, and whether the condition is true of all runs.
 -- Each outcome that was seen is one that a run can have, so there are as many rows and others as there are outcomes of runs.
-pub record IsWholeText (script : ScriptValue) (trials : Trials) (last : Option FinalCondition) (seen : List Sighting) (text : List ℕ)
+pub record IsWholeText (request : OutcomesRequest) (script : ScriptValue) (last : Option FinalCondition) (seen : List Sighting) (text : List ℕ)
     (ends : ending.Outcome) : Type 0 where
   pub rows : List Row
   pub rows_are : AreRowsOf seen rows
   pub allowed : List AllowedRow
-  pub all : AreRows script (most_pending trials.issuing) allowed
-  pub seen_allowed : All (λ row. IsAllowed script (most_pending trials.issuing) (shown_of row.outcome)) rows
+  pub all : AreRows script (most_pending request.issuing) allowed
+  pub seen_allowed : All (λ row. IsAllowed script (most_pending request.issuing) (shown_of row.outcome)) rows
   pub counted : length rows + length (unseen_of seen allowed) ≡ length allowed
-  pub verdict : List ℕ
-  pub is_verdict : IsVerdict script (most_pending trials.issuing) last verdict ends
-  pub written : text ≡ whole_text trials rows (unseen_of seen allowed) ++ verdict
+  pub said : Option Said
+  pub is_said : IsSaidOf script (most_pending request.issuing) last said
+  pub ends_by : ends ≡ said_ending said
+  pub written : text ≡ whole_shown request rows (unseen_of seen allowed) said
 
 -- the input is the text of a script and its condition, if it has one, and what is asked of its runs is written
 pub record IsOutcomesText (request : OutcomesRequest) (input text : List ℕ) (ends : ending.Outcome) : Type 0 where
@@ -86,8 +97,8 @@ pub record IsOutcomesText (request : OutcomesRequest) (input text : List ℕ) (e
   pub read : IsConditioned script last input
   pub seen : List Sighting
   pub runs : AreSeenOf script (trials_of request) seen
-  pub sample : request.all ≡ false → IsSampleText (trials_of request) last seen text ends
-  pub whole : request.all ≡ true → IsWholeText script (trials_of request) last seen text ends
+  pub sample : request.all ≡ false → IsSampleText request last seen text ends
+  pub whole : request.all ≡ true → IsWholeText request script last seen text ends
 
 -- the input is the text of a script, and one of its runs is given up
 pub record IsGivenUpScript (request : OutcomesRequest) (input : List ℕ) : Type 0 where
@@ -116,18 +127,17 @@ IsOutcomesAnswer request = IsAnswerBy (IsOutcomesText request) (IsOutcomesRefusa
 
 -- ---- inside
 
--- the outcomes of the runs are written, all others, and what a verdict on all of them says
-pub record IsWholeTable (trials : Trials) (last : Option FinalCondition) (seen : List Sighting) (allowed : List AllowedRow) (text : List ℕ)
+-- the outcomes of the runs are written, all others, and what all of them say of the condition
+pub record IsWholeTable (request : OutcomesRequest) (last : Option FinalCondition) (seen : List Sighting) (allowed : List AllowedRow) (text : List ℕ)
     (ends : ending.Outcome) : Type 0 where
   pub rows : List Row
   pub rows_are : AreRowsOf seen rows
-  pub verdict : List ℕ
-  pub adds : AddsVerdict last allowed [] verdict ends
-  pub written : text ≡ whole_text trials rows (unseen_of seen allowed) ++ verdict
+  pub ends_by : ends ≡ said_ending (said_of_all last allowed)
+  pub written : text ≡ whole_shown request rows (unseen_of seen allowed) (said_of_all last allowed)
 
-abbrev pub IsTable : Trials → Option FinalCondition → List Sighting → Option (List AllowedRow) → List ℕ → ending.Outcome → Type 0
-IsTable trials last seen None text ends = IsSampleText trials last seen text ends
-IsTable trials last seen (Some allowed) text ends = IsWholeTable trials last seen allowed text ends
+abbrev pub IsTable : OutcomesRequest → Option FinalCondition → List Sighting → Option (List AllowedRow) → List ℕ → ending.Outcome → Type 0
+IsTable request last seen None text ends = IsSampleText request last seen text ends
+IsTable request last seen (Some allowed) text ends = IsWholeTable request last seen allowed text ends
 
 -- all rows of the script, if they are asked for
 abbrev pub AreAsked : Bool → ScriptValue → (window : ℕ) → Option (List AllowedRow) → Type 0

@@ -3,9 +3,10 @@
 
 mod histogram;
 mod outcome;
+mod outcomes_json;
 mod outcomes_report;
 mod run_report;
-mod sample_verdict;
+mod said;
 mod trials;
 
 pub use outcomes_report::{MAX_RUNS, OutcomesRequest, outcomes_of};

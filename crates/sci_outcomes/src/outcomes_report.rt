@@ -7,15 +7,17 @@ ghost use Rattle.sci_command.specs.Answer.{HasAnswered};
 ghost use Rattle.sci_allowed.specs.Allowed.{IsLitmus, IsTooBig};
 ghost use Rattle.sci_outcomes.specs.{Rows.{HasCounted}, declared.outcome.Sighting.{Sighting}};
 ghost use Rattle.sci_outcomes.specs.OutcomesAnswer.{AreAsked, IsOutcomesAnswer, IsOutcomesRefusal, IsTable, count_text, outcomes_text as outcomes_text_of};
-ghost use Rattle.sci_outcomes.specs.OutcomesAnswer.{row_text, seed_text, total_text, unseen_text, whole_text as whole_text_of, whole_total_text};
+ghost use Rattle.sci_outcomes.specs.OutcomesAnswer.{row_text, seed_text, total_text, trials_of, unseen_text, whole_text as whole_text_of};
+ghost use Rattle.sci_outcomes.specs.OutcomesAnswer.{sample_shown as sample_shown_of, whole_shown as whole_shown_of, whole_total_text};
 
 use crate::histogram::{Histogram, Row};
+use crate::outcomes_json::{AllRows, outcomes_json};
 use crate::run_report::refusal_of;
-use crate::sample_verdict::push_sample_verdict;
+use crate::said::{Said, ending_of, push_said, said_of, said_of_all};
 use crate::trials::{Trials, Turns, counted};
 use sci_allowed::{
-    AllowedRow, FinalCondition, Litmus, TOO_MANY_POSITIONS, push_outcome, push_verdict,
-    read_conditioned, sense_words,
+    AllowedRow, FinalCondition, Litmus, TOO_MANY_POSITIONS, push_outcome, read_conditioned,
+    sense_words,
 };
 use sci_command::{Answer, Answered, Note, Refusal, push_labelled};
 use sci_drive::Issuing;
@@ -51,6 +53,21 @@ pub struct OutcomesRequest {
     pub issuing: Issuing,
     /// Whether all other outcomes that a run can have are listed, too.
     pub all: bool,
+    /// Whether one JSON object is written, and not lines.
+    pub json: bool,
+}
+
+impl OutcomesRequest {
+    /// The runs that are asked for.
+    fn trials(self) -> Trials
+        ensures { result ≡ trials_of self }
+    {
+        Trials {
+            runs: self.runs.unwrap_or(RUNS),
+            turns: self.turns.unwrap_or(Turns::Drawn { seed: SEED }),
+            issuing: self.issuing,
+        }
+    }
 }
 
 /// What the runs of a script had, and all rows of the script, if they are asked for.
@@ -168,32 +185,79 @@ fn whole_text(
     Ok(text)
 }
 
-/// The table of what runs had, and what it says of the condition of the script, if it has one.
+/// What is written of the rows of runs, and of what they say of a condition.
+fn sample_shown(
+    alloc: Global,
+    request: OutcomesRequest,
+    rows: &[Row],
+    said: Option<Said>,
+) -> Result<Vec<u8>, AllocError>
+    ensures { IfOk result (λ text. text.items ≡ sample_shown_of request rows.now said) }
+{
+    let trials = request.trials();
+    if request.json {
+        let all = AllRows {
+            seen: rows,
+            unseen: &[],
+        };
+        return outcomes_json(alloc, trials, all, said);
+    }
+    let mut text = outcomes_text(alloc, trials, rows)?;
+    push_said(&mut text, said)?;
+    Ok(text)
+}
+
+/// What is written of the rows of runs, of those that no run had, and of what all of them say of a condition.
+fn whole_shown(
+    alloc: Global,
+    request: OutcomesRequest,
+    rows: AllRows,
+    said: Option<Said>,
+) -> Result<Vec<u8>, AllocError>
+    ensures { IfOk result (λ text. text.items
+        ≡ whole_shown_of request rows.entry.seen.now rows.entry.unseen.now said) }
+{
+    let trials = request.trials();
+    if request.json {
+        return outcomes_json(alloc, trials, rows, said);
+    }
+    let mut text = whole_text(alloc, trials, rows.seen, rows.unseen)?;
+    push_said(&mut text, said)?;
+    Ok(text)
+}
+
+/// The table of what runs had, and what is said of the condition of the script, if it has one.
 fn table(
     alloc: Global,
-    trials: Trials,
+    request: OutcomesRequest,
     last: &Option<FinalCondition>,
     sample: Sample,
 ) -> Result<Answer, AllocError>
     ensures { IfOk result (λ answer. (seen : List Sighting) → HasCounted sample.histogram seen →
-        IsTable trials last.now seen (option_map (λ rows. rows.items) sample.allowed) answer.text.items answer.outcome) }
+        IsTable request last.now seen (option_map (λ rows. rows.items) sample.allowed) answer.text.items answer.outcome) }
 {
     let Sample { histogram, allowed } = sample;
     match allowed {
         None => {
             let rows = histogram.rows(alloc)?;
-            let mut text = outcomes_text(alloc, trials, &rows)?;
-            let outcome = push_sample_verdict(&mut text, last, &rows)?;
-            Ok(Answer { text, outcome })
+            let said = said_of(last, &rows);
+            Ok(Answer {
+                text: sample_shown(alloc, request, &rows, said)?,
+                outcome: ending_of(said),
+            })
         }
         Some(allowed) => {
-            let mut verdict = Vec::new(alloc);
-            let outcome = push_verdict(&mut verdict, last, &allowed)?;
+            let said = said_of_all(last, &allowed);
             let unseen = histogram.unseen(alloc, allowed)?;
             let rows = histogram.rows(alloc)?;
-            let mut text = whole_text(alloc, trials, &rows, &unseen)?;
-            text.extend_from_slice(&verdict)?;
-            Ok(Answer { text, outcome })
+            let all = AllRows {
+                seen: &rows,
+                unseen: &unseen,
+            };
+            Ok(Answer {
+                text: whole_shown(alloc, request, all, said)?,
+                outcome: ending_of(said),
+            })
         }
     }
 }
@@ -240,7 +304,7 @@ fn asked_rows(
 ///
 /// If all outcomes are asked for, a line with count 0 follows for each other outcome that a run of the script can have, sorted,
 /// as `allowed` gives them, and the last lines say how many outcomes there are in all and how many were seen, and whether the
-/// condition is true of all of them.
+/// condition is true of all of them. With `json` the same is one JSON object.
 ///
 /// A script with a fault is refused, as are a reader that fails, too long an input and running out of memory, at line 0; a run
 /// of more than 500,000 events or 1,000,000,000 turns, as `too-many` at line 0; and so is a script of which some number of steps
@@ -256,19 +320,14 @@ pub fn outcomes_of<T: Threads + Sync, R: Read>(
         (IsOutcomesRefusal request) result }
 {
     let (litmus, last) = read_conditioned(alloc, reader)?;
-    let trials = Trials {
-        runs: request.runs.unwrap_or(RUNS),
-        turns: request.turns.unwrap_or(Turns::Drawn { seed: SEED }),
-        issuing: request.issuing,
-    };
     let allowed = match asked_rows(alloc, &litmus, request) {
         Ok(rows) => rows,
         Err(fault) => return Err(big_refusal(fault)),
     };
-    let histogram = match counted(rt, alloc, &litmus.script, trials) {
+    let histogram = match counted(rt, alloc, &litmus.script, request.trials()) {
         Ok(histogram) => histogram,
         Err(fault) => return Err(refusal_of(fault, GIVEN_UP)),
     };
-    let answer = table(alloc, trials, &last, Sample { histogram, allowed })?;
+    let answer = table(alloc, request, &last, Sample { histogram, allowed })?;
     Ok(answer)
 }

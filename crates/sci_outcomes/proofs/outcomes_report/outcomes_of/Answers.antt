@@ -1,10 +1,10 @@
 -- What is written of the runs is the answer, and too many positions are why the script is refused.
-use Rattle.std.proofs.Common.{All, ◌≡◌, ℕ, sym, ap, subst, ◌∙◌}
+use Rattle.std.proofs.Common.{All, subst}
 use Rattle.std.specs.Prelude.{option_map}
 use Rattle.sci_text.specs.Tap.{has_failed, tapped}
 use Rattle.sci_allowed.specs.{Allowed.{IsLitmus}, Outcome.{IsPlaceWithin, written_places}, declared.litmus.Litmus.{Litmus}}
 use Rattle.sci_outcomes.proofs.Answering.{answered_for, refused_for}
-use Rattle.sci_outcomes.specs.declared.trials.{Trials.{Trials}, Turns.{Turns}}
+use Rattle.sci_outcomes.specs.{declared.trials.Trials.{Trials}, Trials.{AreSeenOf}}
 use Rattle.sci_outcomes.proofs.outcomes_report.outcomes_of.Goals as goal
 
 -- the words that may be written are the machine's
@@ -28,12 +28,11 @@ returns g c =
     let request = c.args.request in
     let read = c.in_ok-litmus.ensures in
     let counted = c.in-Ok-counted.ensures.counted in
-    let trials = λ (runs : ℕ) (turns : Turns). let t : Trials = record { runs = runs; turns = turns; issuing = request.issuing } in t in
-    let same = ap (λ (n : ℕ). trials n c.unwrap_or-2.result) c.unwrap_or.ensures ∙ ap (trials _) c.unwrap_or-2.ensures in
+    let runs = subst (λ (t : Trials). AreSeenOf c.in_ok-litmus.litmus.script t counted.0) c.trials.ensures counted.1 in
     let answer = c.in_ok-answer.answer in (
       answered_for request _ _ (g.R.Read.remaining (tapped c.args.reader.now)) (has_failed c.read_conditioned.new.reader) read.unfailed read.text
           (places_within _ read.litmus)
-          (trials c.unwrap_or.result c.unwrap_or-2.result) (option_map (λ rows. rows.items) c.in-Ok.rows) counted.0 answer.text.items answer.outcome same
-          c.in-Ok.ensures.rows counted.1 (c.in_ok-answer.ensures counted.0 counted.2),
+          (option_map (λ rows. rows.items) c.in-Ok.rows) counted.0 answer.text.items answer.outcome c.in-Ok.ensures.rows runs
+          (c.in_ok-answer.ensures counted.0 counted.2),
       c.read_conditioned.ensures.again,
     )
