@@ -53,11 +53,12 @@ two_numbers name = record { name = name; argument = TwoNumbers }
 
 -- the options of each command
 abbrev pub options_of : Verb → List OptionRow
+options_of Explain = flag options.Json ∷ []
 options_of Order = flag options.BySerial ∷ flag options.Show ∷ flag options.Json ∷ []
 options_of Judge = flag options.Times ∷ flag options.Order ∷ number_from options.Limit 0 0xffff_ffff_ffff_ffff ∷ flag options.Log ∷ []
 options_of Run = number_from options.Seed 0 0xffff_ffff_ffff_ffff ∷ flag options.InOrder ∷ number_from options.Turns 0 0xffff_ffff_ffff_ffff ∷ []
 options_of Outcomes = number_from options.Runs 1 MAX_RUNS ∷ number_from options.Seed 0 0xffff_ffff_ffff_ffff ∷ flag options.Threads
-    ∷ flag options.InOrder ∷ flag options.AllOutcomes ∷ []
+    ∷ flag options.InOrder ∷ flag options.AllOutcomes ∷ flag options.Json ∷ []
 options_of Allowed = flag options.InOrder ∷ number_from options.Show 1 0xffff_ffff_ffff_ffff ∷ []
 options_of Trace = flag options.Json ∷ flag options.Strict ∷ place options.Line MAX_LINES ∷ []
 options_of Lists = place options.Line MAX_LINES ∷ []
@@ -98,6 +99,7 @@ outcomes_asked settings turns = commands.Outcomes (record {
   turns = turns;
   issuing = asked_issuing settings;
   all = is_given options.AllOutcomes settings;
+  json = is_given options.Json settings;
 })
 
 abbrev pub asked_node : List Setting → Option ℕ
@@ -126,7 +128,7 @@ command_of Order settings = Some (commands.Order (record {
   shows = is_given options.Show settings;
   json = is_given options.Json settings;
 }))
-command_of Explain settings = Some commands.Explain
+command_of Explain settings = Some (commands.Explain (is_given options.Json settings))
 command_of Judge settings = Some (commands.Judge (record {
   timed = is_given options.Times settings;
   ordered = is_given options.Order settings;

@@ -47,7 +47,7 @@ help_for (Some verb) = help_text verb
 -- `stats --transitions` counts is added to the counts so far.
 abbrev pub IsAnswerFor : (lines : List ℕ) → (so_far : Coverage) → (title : Option (List ℕ)) → Command → Option (List ℕ) → Bool → List ℕ → Outcome → Type 0
 IsAnswerFor lines so_far title (commands.Order request) = IsOrderAnswer request
-IsAnswerFor lines so_far title commands.Explain = IsExplainAnswer
+IsAnswerFor lines so_far title (commands.Explain json) = IsExplainAnswer json
 IsAnswerFor lines so_far title commands.Check = IsCheckAnswer
 IsAnswerFor lines so_far title (commands.Judge request) = IsJudgeAnswer request lines
 IsAnswerFor lines so_far title commands.Packets = IsPacketsAnswer

@@ -70,7 +70,7 @@ pub fn carried_out<T: Threads + Sync, R: Read, W: Write>(
 {
     match choice.command {
         Command::Order(request) => show(writer, order(alloc, request, reader)),
-        Command::Explain => show(writer, explain(alloc, reader)),
+        Command::Explain { json } => show(writer, explain(alloc, json, reader)),
         Command::Check => show(writer, check(alloc, reader)),
         Command::Judge(request) => show(
             writer,

@@ -28,7 +28,7 @@ pub enum Command {
     /// Write whether a log is sequentially consistent.
     Order(OrderRequest),
     /// Write what is wrong with a log.
-    Explain,
+    Explain { json: bool },
     /// Write which kind of text the input is, or why it is none.
     Check,
     /// Write whether a trace without versions is coherent.
@@ -106,7 +106,7 @@ impl Command {
     pub fn name(self) -> &'static str {
         match self {
             Command::Order(_) => Verb::Order.name(),
-            Command::Explain => Verb::Explain.name(),
+            Command::Explain { .. } => Verb::Explain.name(),
             Command::Check => Verb::Check.name(),
             Command::Judge(_) => Verb::Judge.name(),
             Command::Packets => Verb::Packets.name(),
@@ -207,7 +207,9 @@ fn command_of(verb: Verb, given: &Given) -> Option<Command>
             shows: given.has(OptionName::Show),
             json: given.has(OptionName::Json),
         }),
-        Verb::Explain => Command::Explain,
+        Verb::Explain => Command::Explain {
+            json: given.has(OptionName::Json),
+        },
         Verb::Judge => Command::Judge(JudgeRequest {
             timed: given.has(OptionName::Times),
             ordered: given.has(OptionName::Order),
@@ -224,6 +226,7 @@ fn command_of(verb: Verb, given: &Given) -> Option<Command>
             turns: turns_of(given)?,
             issuing: issuing_of(given),
             all: given.has(OptionName::AllOutcomes),
+            json: given.has(OptionName::Json),
         }),
         Verb::Allowed => Command::Allowed(AllowedRequest {
             issuing: issuing_of(given),

@@ -65,10 +65,12 @@ order makes the log sequentially consistent.
 
 /// What `explain --help` writes.
 pub const EXPLAIN: &str = "\
-usage: sciview explain [FILE]
+usage: sciview explain [--json] [FILE]
 
 Of each line of memory of a log that has a fault: the entry at fault, what one
 memory of one thread gives there, and the entries around it.
+
+  --json        as one JSON object, and not in words
 ";
 
 /// What `judge --help` writes.
@@ -107,7 +109,8 @@ each in a circle; a node has up to four operations pending.
 
 /// What `outcomes --help` writes.
 pub const OUTCOMES: &str = "\
-usage: sciview outcomes [--runs R] [--seed S | --threads] [--in-order] [--all] [FILE]
+usage: sciview outcomes [--runs R] [--seed S | --threads] [--in-order] [--all]
+                        [--json] [FILE]
 
 Of a script: how often each outcome of it comes in many runs: what each load and
 lock operation replied, the words at the end, how many runs gave it, the seed of
@@ -120,6 +123,7 @@ A condition in the script's last line is answered by Yes, No or Not seen.
   --in-order    a node has one operation pending, and not up to four
   --all         list each other outcome that a run can have, too, with count 0;
                 a condition is answered for all of them, by Yes or No
+  --json        as one JSON object, and not in lines
 ";
 
 /// What `allowed --help` writes.
@@ -264,10 +268,10 @@ impl Verb {
         }
     }
 
-    /// How the command is called, which is the first line of its help.
+    /// How the command is called, which is what its help says before the first empty line.
     pub fn usage(self) -> &'static str {
         let help = self.help();
-        match help.split_once('\n') {
+        match help.split_once("\n\n") {
             Some((usage, _)) => usage,
             None => help,
         }

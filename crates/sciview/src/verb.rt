@@ -196,7 +196,7 @@ impl Verb {
             Verb::Order => &[BY_SERIAL, SHOW, JSON],
             Verb::Judge => &[TIMES, ORDER, LIMIT, LOG],
             Verb::Run => &[SEED, IN_ORDER, TURNS],
-            Verb::Outcomes => &[RUNS, SEED, THREADS, IN_ORDER, ALL_OUTCOMES],
+            Verb::Outcomes => &[RUNS, SEED, THREADS, IN_ORDER, ALL_OUTCOMES, JSON],
             Verb::Allowed => &[IN_ORDER, SHOW_ROW],
             Verb::Trace => &[JSON, STRICT, LINE],
             Verb::Lists => &[LINE],
@@ -204,7 +204,8 @@ impl Verb {
             Verb::Chart => &[LINE, EVENTS],
             Verb::Page => &[LINE, EVENTS, TITLE],
             Verb::Random => &[DEAD],
-            Verb::Explain | Verb::Check | Verb::Packets => &[],
+            Verb::Explain => &[JSON],
+            Verb::Check | Verb::Packets => &[],
         }
     }
 

@@ -35,7 +35,8 @@ returns-in-Order-clause-answer g c =
 pub returns-in-Explain-clause-answer : goal.returns-in-Explain-clause-answer
 returns-in-Explain-clause-answer g c =
     let shown = c.show-in-Explain in
-    rw c.in-Explain.is (carried_out IsExplainAnswer (IsTold IsLogFault) c.explain.result shown.result.refusal (λ text is. is) c.explain.ensures
+    rw c.in-Explain.is
+    (carried_out (IsExplainAnswer c.in-Explain.json) (IsTold IsLogFault) c.explain.result shown.result.refusal (λ text is. is) c.explain.ensures
     shown.ensures.refusal shown.ensures.written shown.ensures.again)
 
 pub returns-in-Check-clause-answer : goal.returns-in-Check-clause-answer
