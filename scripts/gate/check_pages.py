@@ -11,7 +11,8 @@
 - no line of a definition or a proof is longer than 160 columns;
 - each edit and each plant can be applied: what it replaces stands once in its file;
 - the version is the same everywhere (version.py);
-- the tables of docs/PROTOCOL.md have the pairs of a state and what it meets that the code has (protocol_pairs.py).
+- the tables of docs/PROTOCOL.md have the pairs of a state and what it meets that the code has (protocol_pairs.py);
+- no pair of which docs/COMMANDS.md says that it never comes can come in a machine of three nodes (reachable_pairs.py).
 
 The last line is 'N passed, M failed', of pages."""
 
@@ -22,6 +23,7 @@ from fnmatch import fnmatch
 
 from crates import TOP, libraries, with_all_below
 from protocol_pairs import wrong_pairs
+from reachable_pairs import wrong_reasons
 from version import wrong_versions
 
 MOST_LINES = 60
@@ -157,7 +159,7 @@ def wrong_edit(path):
 def main():
     files = list(files_of_repository())
     code, crates = dict(code_of(files)), Sources(files)
-    wrong = {"version": list(wrong_versions()), "pairs": list(wrong_pairs())}
+    wrong = {"version": list(wrong_versions()), "pairs": [*wrong_pairs(), *wrong_reasons()]}
     wrong["width"] = [f"{path}: {it}" for path in files if path.endswith(".antt") for it in wide_lines(path)]
     wrong["edits"] = [f"{path}: {it}" for path in files if path.endswith(".edit") for it in wrong_edit(path)]
     for path in (it for it in files if it.endswith(".md")):

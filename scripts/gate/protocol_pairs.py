@@ -56,6 +56,19 @@ def pairs_of_code():
         return re.findall(r"^never (\S+)$", file.read().split("\n== ")[0], re.MULTILINE)
 
 
+def pairs_that_never_come():
+    """The pairs that docs/COMMANDS.md says no run comes to, from the table of what is met, the states, and why."""
+    with open(f"{TOP}/docs/COMMANDS.md", encoding="utf-8") as file:
+        rows = list(rows_behind(file.read(), "Some pairs no run comes to."))
+    code = [it.split(".") for it in pairs_of_code()]
+    for met, states, _why in rows:
+        how, *whats = re.findall(r"\w+", met)
+        for place, state, how_met, what in code:
+            named = state in re.findall(r"\w+", states)
+            if how_met == how and what in whats and named != states.startswith("all but"):
+                yield f"{place}.{state}.{how}.{what}"
+
+
 def wrong_pairs():
     """The pairs that the page has and the code doesn't, and the other way round."""
     page, code = set(pairs_of_page()), set(pairs_of_code())

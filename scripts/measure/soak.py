@@ -8,9 +8,11 @@ Each entry has to be of the operation of the script that its serial names, and e
 turns that are drawn from a seed is replayed, and its log is judged in the same way and by `sciview order`; `sciview
 outcomes` has to find what that log's loads and locks replied. Beside each script a schedule is drawn from all enabled events
 (`sciview random`), and its log judged. It prints a line every five seconds, and at the end which pairs of a state and what it
-met these schedules never came to (`sciview stats --transitions`), and `N runs, M operations, F failed`. A script that failed
-stays in a file, which the line of the failure names."""
+met these schedules and those of examples/ never came to (`sciview stats --transitions`), and `N runs, M operations, F failed`.
+Pairs that docs/COMMANDS.md says no run comes to are left out, and it is a failure if one came. A script that failed stays in a
+file, which the line of the failure names."""
 
+import glob
 import json
 import os
 import random
@@ -23,6 +25,7 @@ from collections import Counter
 TOP = os.path.dirname(os.path.dirname(os.path.dirname(os.path.abspath(__file__))))
 sys.path.append(f"{TOP}/scripts/gate")
 
+from protocol_pairs import pairs_that_never_come  # noqa: E402
 from thread_logs import wrong_log  # noqa: E402
 
 SCIMEM, SCIVIEW = (f"{TOP}/crates/{it}/out/{it}" for it in ("scimem", "sciview"))
@@ -112,6 +115,24 @@ def add_pairs(pairs, schedule):
         pairs[".".join(pair[it] for it in ("place", "state", "met", "what"))] += pair["count"]
 
 
+def add_examples(pairs):
+    """Adds those of the schedules of examples/, some of which go where runs hardly ever come."""
+    for path in sorted(glob.glob(f"{TOP}/examples/*.schedule")):
+        with open(path, "rb") as file:
+            add_pairs(pairs, file.read())
+
+
+def tell_pairs(pairs):
+    """Prints which pairs never came, and answers how many came that can't."""
+    said = set(pairs_that_never_come())
+    never = [it for it, count in pairs.items() if count == 0 and it not in said]
+    wrong = [it for it in pairs if pairs[it] and it in said]
+    print(f"pairs that can come, and never came, of {len(pairs) - len(said)}: {', '.join(never) or 'none'}")
+    if wrong:
+        print(f"pairs that came, though docs/COMMANDS.md says that none of them can: {', '.join(wrong)}")
+    return len(wrong)
+
+
 def drawn_fault(given, seed, in_order, pairs):
     """What was wrong with a run of the script in turns that are drawn from a seed, if something was."""
     words = ["--seed", str(seed), *(["--in-order"] if in_order else [])]
@@ -155,6 +176,7 @@ def main(words):
     begun = told = time.monotonic()
     runs = operations = failed = 0
     pairs = Counter()
+    add_examples(pairs)
     while time.monotonic() - begun < seconds:
         chance = random.Random(f"{seed} {runs}")
         given = script(chance)
@@ -168,8 +190,7 @@ def main(words):
         if time.monotonic() - told >= 5:
             told = time.monotonic()
             print(f"{told - begun:.0f} s: {runs:,} runs, {operations:,} operations, {failed} failed", flush=True)
-    never = [it for it, count in pairs.items() if count == 0]
-    print(f"pairs that never came, of {len(pairs)}: {', '.join(never) or 'none'}")
+    failed += tell_pairs(pairs)
     print(f"{runs} runs, {operations} operations, {failed} failed")
     return 1 if failed or not runs else 0
 
