@@ -8,7 +8,7 @@ NEED_CARGO = command -v cargo > /dev/null || { echo "cargo is missing: install R
 PROGRAMS = crates/scimem/out/scimem crates/sciview/out/sciview crates/sci_circle/out/sci_circle
 SOURCES = crates.txt HANDLES $(shell find crates -name out -prune -o -path '*_tests' -prune -o \( -name '*.rt' -o -name '*.antt' \) -print)
 
-.PHONY: try run test check cosim bindings fmt bench growth instructions fuzz soak faults install build dist library install-library plants cases examples charts pages clean
+.PHONY: try run test check cosim bindings fmt bench growth instructions fuzz soak faults install build dist dist-twice library install-library plants cases examples charts pages clean
 
 PREFIX = /usr/local
 
@@ -74,6 +74,12 @@ install-library: library
 dist:
 	@$(NEED_RT)
 	@scripts/make/dist.py
+
+# The same, and once more in a copy of the checkout in another folder: the two archives have to have the same bytes. It isn't part of
+# the gate.
+dist-twice:
+	@$(NEED_RT)
+	@scripts/make/dist_twice.py
 
 # Builds the C library, and runs the examples of docs/SYSTEMVERILOG.md and docs/SYSTEMC.md with it, if Verilator and SystemC are there.
 cosim: library
