@@ -22,6 +22,9 @@
 ** sci_machine_logs take at most 32 KB of stack; those that open, clone or replay 24 KB; sci_logs_order and sci_logs_order_kind 12 KB;
 ** all others 6 KB.
 **
+** THE PROCESSOR. The library that `make library` builds needs an x86-64 processor of level v2, with SSE4.2, and doesn't look for
+** one: an older processor ends the program by SIGILL. That of an archive by `make dist` needs any x86-64 processor.
+**
 ** STATUSES. Unless a function says otherwise, a call that answers another status than SCI_OK leaves the object and all that
 ** its other arguments lead to as they were. What is const stays the same in any case. Where more than one status would fit,
 ** they come in this order: SCI_MISUSE, the faults of a packet's bytes, SCI_RANGE, SCI_NOT_ENABLED, SCI_FULL, SCI_NO_MEMORY. The
