@@ -1,0 +1,9 @@
+pub mod Swaps
+pub mod Relatives
+pub mod Merges
+pub mod Pairs
+pub mod Reductions
+pub mod Joins
+pub mod Overs
+pub mod Verdicts
+pub mod Loops
