@@ -1,14 +1,14 @@
 -- Two windows that meet are one.
-use Rattle.std.proofs.Common.{◌≡◌, ℕ, ◌+◌, ◌<◌, ◌≤◌, Bool, List, [], ◌∷◌, ◌++◌, length, map, refl, sym, ap, subst, ◌∙◌, arith, inl, inr}
-use Rattle.std.proofs.lemmas.List.{get_or_past, Elements.{filter-append}, FromFn.{get_or-map-range_with_len}}
+use Rattle.std.proofs.Common.{◌≡◌, ℕ, ◌<◌, List, [], ◌∷◌, ◌++◌, map, refl, sym, ap, subst, ◌∙◌, arith, inl, inr}
+use Rattle.std.proofs.lemmas.List.{Elements.{filter-append}, FromFn.{get_or-map-range_with_len}}
 use Rattle.std.proofs.Math.ListN.{get_or-map}
 use Rattle.std.specs.List.{filter, AllByRecursion}
 use Rattle.sci_words.specs.{declared.{limits.TheConstants.{MAX_NODES}, stamped.Stamped.{Stamped}}, Stamped.{after}}
 use Rattle.sci_history.specs.{declared.entry.Entry.{Entry}, History.{IsHistory}, Memory.{stamped_at}, Seen.{IsAmong}}
 use Rattle.sci_history.specs.Placed.{log_of, is_of_node, is_on_line}
-use Rattle.sci_history.proofs.{Consequences.{among_whole}, Order.{all-append, all-filter}, Placement.{pairs-head, pairs-tail}}
-use Rattle.sci_windows.specs.Window.{AreIssuedBefore, HasHistoryFrom, LawfulFrom, counted_on, counting_on, joined}
-use Rattle.sci_windows.proofs.{Merges.{filter-mapped}, Pairs.{Rises, all_mapped, map_agrees, rises_append, rises_counted}}
+use Rattle.sci_history.proofs.{Consequences.{among_whole}, Order.{all-append}}
+use Rattle.sci_windows.specs.Window.{AreIssuedBefore, LawfulFrom, counted_on, counting_on, joined}
+use Rattle.sci_windows.proofs.{Merges.{filter-mapped}, Pairs.{Rises, all_mapped, rises_append, rises_counted}}
 
 history_append : (xs ys : List Entry) (old middle new : Stamped) → IsHistory xs old middle → IsHistory ys middle new → IsHistory (xs ++ ys) old new
 history_append [] ys old middle new h k = subst (λ (s : Stamped). IsHistory ys s new) h k

@@ -7,3 +7,7 @@ pub mod Joins
 pub mod Overs
 pub mod Verdicts
 pub mod Loops
+pub mod Turns
+pub mod Orders
+pub mod CyclesBack
+pub mod Founds

@@ -1,10 +1,9 @@
 -- Entries that differ in their words alone: what an audit finds of their versions, serials and places is the same.
-use Rattle.std.proofs.Common.{◌≡◌, ℕ, zero, suc, ◌+◌, ◌<◌, ◌≤◌, Bool, true, false, cond, not, ◌&&◌, List, [], ◌∷◌, ◌++◌, length, map, max, Option, Some, None, refl, sym, ap, subst, ◌∙◌, arith, inl, inr}
+use Rattle.std.proofs.Common.{◌≡◌, ℕ, zero, suc, ◌+◌, Bool, List, [], ◌∷◌, ◌++◌, length, map, max, Option, Some, None, refl, sym, ap, ◌∙◌, inl, inr}
 use Rattle.std.proofs.lemmas.{Bool.{cases_Bool}, List.{length-map, map-append, Sums.{length-filter}}}
-use Rattle.std.specs.{Prelude.{count_by, option_map}, List.{filter, list_any}}
-use Rattle.sci_words.specs.declared.{limits.TheConstants.{MAX_NODES}, stamped.Stamped.{Stamped}}
-use Rattle.sci_words.specs.{declared.operation.{Act.{Act}, Reply.{Reply}}, Operation.{makes_version}}
-use Rattle.sci_history.specs.{declared.entry.Entry.{Entry}, declared.verdict.FaultKind.{FaultKind}}
+use Rattle.std.specs.{Prelude.{option_map}, List.{filter, list_any}}
+use Rattle.sci_words.specs.declared.{limits.TheConstants.{MAX_NODES}}
+use Rattle.sci_history.specs.{declared.entry.Entry.{Entry}}
 use Rattle.sci_history.specs.Audit.{Names, breaks_order, first_disordered, first_failing, first_missing, first_twice, is_out_of_order, is_version_missing}
 use Rattle.sci_history.specs.Audit.{is_version_twice, last_entry}
 use Rattle.sci_history.specs.Placed.{above_serials, by_node_and_serial, by_version, in_order, in_serial_order, is_making, is_of_node, maker_count, makes, placed_entries, reads}
@@ -63,8 +62,11 @@ by_version_over words zero es = refl
 by_version_over words (suc version) es =
     let makers = by_node_and_serial (filter (makes version) es) in
     let loads = by_node_and_serial (filter (reads version) es) in
-    rw (by_version_over words version es, passed_over words (makes version) es (makes_over words version),
-        passed_over words (reads version) es (reads_over words version))
+    rw (
+      by_version_over words version es,
+      passed_over words (makes version) es (makes_over words version),
+      passed_over words (reads version) es (reads_over words version),
+    )
     (ap (λ (xs : List Entry). map (over words) (by_version version es) ++ xs) (sym (map-append (over words) makers loads))
     ∙ sym (map-append (over words) (by_version version es) (makers ++ loads)))
 

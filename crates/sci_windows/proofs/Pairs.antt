@@ -1,7 +1,7 @@
 -- Entries one after another, and what a map makes of them.
-use Rattle.std.proofs.Common.{◌≡◌, ℕ, zero, suc, ◌+◌, ◌*◌, ◌<◌, ◌≤◌, Bool, true, false, List, [], ◌∷◌, ◌++◌, length, map, get_or, refl, sym, ap, subst, ◌∙◌, arith, inl, inr}
+use Rattle.std.proofs.Common.{◌≡◌, ℕ, suc, ◌+◌, ◌*◌, ◌<◌, ◌≤◌, true, List, [], ◌∷◌, ◌++◌, length, map, get_or, refl, sym, ap, subst, ◌∙◌, arith, inl, inr}
 use Rattle.std.proofs.lemmas.Bool.{cases_Bool, eq-eqb, eqb-true}
-use Rattle.std.proofs.lemmas.List.{length-append, Elements.{All-from_recursion, filter-append}, Kept.{AllPairs-cons}}
+use Rattle.std.proofs.lemmas.List.{length-append, Elements.{All-from_recursion}, Kept.{AllPairs-cons}}
 use Rattle.std.specs.{Prelude.{AllPairs}, List.{filter, AllByRecursion, flat_map}}
 use Rattle.sci_words.specs.declared.limits.TheConstants.{MAX_NODES}
 use Rattle.sci_history.specs.{declared.entry.Entry.{Entry}, Placed.{is_of_node}}

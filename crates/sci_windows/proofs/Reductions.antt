@@ -1,17 +1,17 @@
 -- A window's logs are lawful from its first contents exactly if its relative logs are lawful.
-use Rattle.std.proofs.Common.{◌≡◌, ℕ, zero, suc, ◌+◌, ◌*◌, ◌<◌, ◌≤◌, Bool, true, List, [], ◌∷◌, length, map, replicate, refl, sym, ap, subst, ◌∙◌, arith}
-use Rattle.std.proofs.lemmas.Bool.{eqb-true, eq-eqb}
+use Rattle.std.proofs.Common.{◌≡◌, ℕ, zero, suc, ◌<◌, ◌≤◌, Bool, true, List, [], ◌∷◌, length, map, replicate, refl, sym, ap, subst, ◌∙◌, arith}
+use Rattle.std.proofs.lemmas.Bool.{eqb-true}
 use Rattle.std.proofs.lemmas.List.{length-map, Elements.{All-from_recursion, recursion_from_All}, Sums.{count_by-le-length, length-filter}}
 use Rattle.std.proofs.Math.ListN.{get_or-map}
-use Rattle.std.specs.{Prelude.{All, count_by}, List.{filter, AllByRecursion, flat_map}}
+use Rattle.std.specs.{Prelude.{All}, List.{filter, AllByRecursion, flat_map}}
 use Rattle.sci_words.specs.declared.{limits.TheConstants.{MAX_NODES, WORDS_PER_LINE}, stamped.Stamped.{Stamped}}
-use Rattle.sci_words.specs.Stamped.{zero_line, zero_stamped}
+use Rattle.sci_words.specs.Stamped.{zero_stamped}
 use Rattle.sci_history.specs.{declared.entry.Entry.{Entry}, History.{IsHistory, HasHistory}, Lawful.{IsLawfulLine, Lawful}, Memory.{stamped_at}}
 use Rattle.sci_history.specs.{Audit.{AreWithin, IsWithin}, Placed.{AreOwn, log_of, is_of_node, is_on_line, is_making, maker_count, on_line, placed}}
 use Rattle.sci_history.proofs.{Audits.{all-by_version, nodes_on_line}, Consequences.{placed_history}, Lawfulness.{lawful_line}}
 use Rattle.sci_history.proofs.{Order.{all-passes, all_weaker}, Runs.{same_stamped}}
-use Rattle.sci_windows.specs.Relative.{AreEarly, AreFew, AreLines, counted_from, relative_contents, relative_entry, relative_line, relative_logs, relative_stamped}
-use Rattle.sci_windows.specs.{Relative.{relative_to, swapped}, Window.{HasHistoryFrom, LawfulFrom}}
+use Rattle.sci_windows.specs.Relative.{AreEarly, AreFew, AreLines, relative_contents, relative_entry, relative_line, relative_logs, relative_stamped}
+use Rattle.sci_windows.specs.{Relative.{relative_to}, Window.{HasHistoryFrom, LawfulFrom}}
 use Rattle.sci_windows.proofs.Pairs.{Rises, all_mapped, all_from_mapped, rises_mapped, rises_from_mapped, all_by_nodes, map_agrees, few_in_all}
 use Rattle.sci_windows.proofs.Relatives.{to_relative, from_relative, same_contents, relative_at}
 use Rattle.sci_windows.proofs.{Merges.{filter-mapped, preimage}, Swaps.{counted_after, swap_first}}
@@ -43,7 +43,7 @@ within_relative first lines logs within node =
     (recursion_from_All (IsWithin lines) (log_of logs node) (within node))))
 
 -- entries on a line are all relative to its first contents
-on_one_line : (first : List Stamped) (line : ℕ) (es : List Entry) → AllByRecursion (λ e. e.op.line ≡ line) es
+pub on_one_line : (first : List Stamped) (line : ℕ) (es : List Entry) → AllByRecursion (λ e. e.op.line ≡ line) es
     → map (relative_entry first) es ≡ map (relative_to (stamped_at first line)) es
 on_one_line first line es on =
     map_agrees (relative_entry first) (relative_to (stamped_at first line)) es
@@ -66,7 +66,7 @@ pub relative_start_line : (words : List ℕ) → relative_line words words ≡ r
 relative_start_line [] = refl
 relative_start_line (w ∷ words) = ap (λ (x : ℕ). x ∷ relative_line words words) (swap_first w) ∙ ap (λ (xs : List ℕ). 0 ∷ xs) (relative_start_line words)
 
-relative_start : (first : Stamped) → length first.line ≡ WORDS_PER_LINE → relative_stamped first first ≡ zero_stamped
+pub relative_start : (first : Stamped) → length first.line ≡ WORDS_PER_LINE → relative_stamped first first ≡ zero_stamped
 relative_start first long =
     let none = counted_after first.version first.version (omega arith) in
     same_stamped (relative_stamped first first) zero_stamped (relative_start_line first.line ∙ ap (λ (n : ℕ). replicate n 0) long) (omega arith)
@@ -116,38 +116,24 @@ few_makers first logs line sixteen few =
     let many : length relative ≡ 16 = length-map logs (map (relative_entry first)) ∙ sixteen in
     let each : (node : ℕ) → length (log_of relative node) ≤ 4294967296 =
     λ node. let is : length (log_of relative node) ≡ length (log_of logs node) =
-        ap length (log_at first logs node) ∙ length-map (log_of logs node) (relative_entry first) in
-        let low = few node in omega arith in
+    ap length (log_at first logs node) ∙ length-map (log_of logs node) (relative_entry first) in
+    let low = few node in omega arith in
     let bound = few_in_all relative each in
     let makers = count_by-le-length is_making (on_line line relative) in
     let on = filtered_less (is_on_line line) all in
     omega arith
 
-pub from_lawful_line : (logs : List (List Entry)) (first last : List Stamped) (line : ℕ) → AreOwn logs → length logs ≡ MAX_NODES → AreFew logs
+-- a history of relative entries is one of the window
+pub history_back : (logs : List (List Entry)) (first last : List Stamped) (line : ℕ) (es : List Entry) → length logs ≡ MAX_NODES → AreFew logs
     → length first ≡ length last → AreLines first → AreLines last → AreEarly first
     → IsLawfulLine (relative_logs first logs) line (stamped_at (relative_contents first last) line)
-    → HasHistoryFrom logs line (stamped_at first line) (stamped_at last line)
-from_lawful_line logs first last line own sixteen few long lines last_lines early lawful =
-    let relative = relative_logs first logs in
-    let f = relative_entry first in
+    → IsHistory (map (relative_to (stamped_at first line)) es) zero_stamped (stamped_at (relative_contents first last) line)
+    → IsHistory es (stamped_at first line) (stamped_at last line)
+history_back logs first last line es sixteen few long lines last_lines early lawful run =
     let from = stamped_at first line in
     let end = stamped_at (relative_contents first last) line in
-    let own_here = own_relative first logs own in
-    let sixteen_here : length relative ≡ MAX_NODES = length-map logs (map f) ∙ sixteen in
-    let nodes : AllByRecursion (λ e. e.node < MAX_NODES) (placed relative line) =
-    all-by_version (λ e. e.node < MAX_NODES) (suc (maker_count (on_line line relative))) (on_line line relative) (nodes_on_line relative line own_here sixteen_here) in
-    let back = preimage f (λ e. refl) (placed relative line) (λ node. filter (is_on_line line) (log_of logs node)) nodes
-        (λ node lt. sym (lined first logs line node) ∙ sym (lawful.order node lt).order) in
-    let es = back.entries in
-    let own_nodes : AllByRecursion (λ e. e.node < MAX_NODES) es =
-    all_from_mapped f (λ e. e.node < MAX_NODES) (λ e. e.node < MAX_NODES) (λ e lt. lt) es
-    (subst (AllByRecursion (λ (e : Entry). e.node < MAX_NODES)) (sym back.same) nodes) in
-    let on = all_on_line logs line es own_nodes back.own in
-    let run : IsHistory (map f es) zero_stamped end =
-    subst (λ (xs : List Entry). IsHistory xs zero_stamped end) (sym back.same) (placed_history relative line end own_here sixteen_here lawful) in
     let begun : IsHistory (map (relative_to from) es) (relative_stamped from from) end =
-    subst (λ (s : Stamped). IsHistory (map (relative_to from) es) s end) (sym (relative_start from (lines line)))
-    (subst (λ (xs : List Entry). IsHistory xs zero_stamped end) (on_one_line first line es on) run) in
+    subst (λ (s : Stamped). IsHistory (map (relative_to from) es) s end) (sym (relative_start from (lines line))) run in
     let makers = few_makers first logs line sixteen few in
     let counted = lawful.contents.version in
     let low = early line in
@@ -156,9 +142,34 @@ from_lawful_line logs first last line own sixteen few long lines last_lines earl
     let version : (relative_stamped from (stamped_at last line)).version ≡ end.version = ap (λ (s : Stamped). s.version) (sym at_end) in
     let same : found.new ≡ stamped_at last line =
     same_contents from found.new (stamped_at last line) (found.same ∙ at_end) found.long (lines line ∙ sym (last_lines line)) found.low (omega arith) in
+    subst (IsHistory es from) same found.history
+
+pub from_lawful_line : (logs : List (List Entry)) (first last : List Stamped) (line : ℕ) → AreOwn logs → length logs ≡ MAX_NODES → AreFew logs
+    → length first ≡ length last → AreLines first → AreLines last → AreEarly first
+    → IsLawfulLine (relative_logs first logs) line (stamped_at (relative_contents first last) line)
+    → HasHistoryFrom logs line (stamped_at first line) (stamped_at last line)
+from_lawful_line logs first last line own sixteen few long lines last_lines early lawful =
+    let relative = relative_logs first logs in
+    let f = relative_entry first in
+    let end = stamped_at (relative_contents first last) line in
+    let own_here = own_relative first logs own in
+    let sixteen_here : length relative ≡ MAX_NODES = length-map logs (map f) ∙ sixteen in
+    let nodes : AllByRecursion (λ e. e.node < MAX_NODES) (placed relative line) =
+    all-by_version (λ e. e.node < MAX_NODES) (suc (maker_count (on_line line relative))) (on_line line relative)
+    (nodes_on_line relative line own_here sixteen_here) in
+    let back = preimage f (λ e. refl) (placed relative line) (λ node. filter (is_on_line line) (log_of logs node)) nodes
+    (λ node lt. sym (lined first logs line node) ∙ sym (lawful.order node lt).order) in
+    let es = back.entries in
+    let own_nodes : AllByRecursion (λ e. e.node < MAX_NODES) es =
+    all_from_mapped f (λ e. e.node < MAX_NODES) (λ e. e.node < MAX_NODES) (λ e lt. lt) es
+    (subst (AllByRecursion (λ (e : Entry). e.node < MAX_NODES)) (sym back.same) nodes) in
+    let on = all_on_line logs line es own_nodes back.own in
+    let run : IsHistory (map f es) zero_stamped end =
+    subst (λ (xs : List Entry). IsHistory xs zero_stamped end) (sym back.same) (placed_history relative line end own_here sixteen_here lawful) in
     record {
       entries = es;
-      history = subst (IsHistory es from) same found.history;
+      history = history_back logs first last line es sixteen few long lines last_lines early lawful
+          (subst (λ (xs : List Entry). IsHistory xs zero_stamped end) (on_one_line first line es on) run);
       nodes = own_nodes;
       logged = back.own;
       serials = λ node lt. rises_from_mapped f (λ e. refl) (filter (is_on_line line) (log_of logs node))

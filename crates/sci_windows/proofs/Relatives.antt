@@ -1,11 +1,10 @@
 -- A history in a window, and that of the same entries in a memory that begins with zeros.
-use Rattle.std.proofs.Common.{◌≡◌, ℕ, zero, suc, ◌+◌, ◌-◌, ◌<◌, ◌≤◌, Bool, List, [], ◌∷◌, length, map, refl, sym, ap, subst, ◌∙◌, arith, inl, inr}
+use Rattle.std.proofs.Common.{◌≡◌, ℕ, zero, suc, ◌+◌, ◌<◌, ◌≤◌, List, [], ◌∷◌, length, map, refl, sym, ap, subst, ◌∙◌, arith, inl, inr}
 use Rattle.std.proofs.lemmas.Bool.{cases_lt}
-use Rattle.std.specs.List.{filter, AllByRecursion}
-use Rattle.sci_words.specs.{declared.stamped.Stamped.{Stamped}, Stamped.{after, reply_of, zero_stamped}}
+use Rattle.sci_words.specs.{declared.stamped.Stamped.{Stamped}, Stamped.{after}}
 use Rattle.sci_history.specs.{declared.entry.Entry.{Entry}, History.{IsHistory}, Memory.{stamped_at}}
 use Rattle.sci_history.proofs.{Histories.{version-end, version-grows}, Runs.{same_stamped}}
-use Rattle.sci_windows.specs.Relative.{relative_to, relative_line, relative_stamped, relative_contents, counted_from}
+use Rattle.sci_windows.specs.Relative.{relative_to, relative_stamped, relative_contents, counted_from}
 use Rattle.sci_windows.proofs.Swaps.{right_step, back_step, after_step, long_after, counted_after, counted_before, relative_line_same}
 
 pub to_relative : (first : Stamped) (es : List Entry) (old new : Stamped) → IsHistory es old new → first.version ≤ old.version

@@ -1,11 +1,11 @@
 -- One step of a memory that begins with given words, and of one that begins with zeros.
-use Rattle.std.proofs.Common.{◌≡◌, ℕ, zero, suc, ◌+◌, ◌-◌, ◌<◌, ◌≤◌, true, false, List, [], ◌∷◌, length, get_or, set, length-set, refl, sym, ap, ◌∙◌, arith, inl, inr}
-use Rattle.std.proofs.lemmas.Bool.{cases_Bool, cases_eq, eq-eqb, ne_eqb, cases_lt, le-leb, lt-leb}
-use Rattle.sci_words.specs.declared.operation.{Act.{Act, TheVariants.{Load, Store, Lock}}, Op.{Op}, Reply.{Reply, TheVariants.{Stored, Got}}}
+use Rattle.std.proofs.Common.{◌≡◌, ℕ, zero, suc, ◌+◌, ◌-◌, ◌<◌, ◌≤◌, List, [], ◌∷◌, length, get_or, set, length-set, refl, sym, ap, ◌∙◌, arith, inl, inr}
+use Rattle.std.proofs.lemmas.Bool.{cases_Bool, cases_eq, eq-eqb, ne_eqb, le-leb, lt-leb}
+use Rattle.sci_words.specs.declared.operation.{Act.{Act, TheVariants.{Load, Store, Lock}}, Reply.{Reply, TheVariants.{Stored, Got}}}
 use Rattle.sci_words.specs.{Operation.{effect_of_act, makes_version}, Stamped.{after, line_after, reply_of}, declared.stamped.Stamped.{Stamped}}
 use Rattle.sci_history.specs.declared.entry.Entry.{Entry}
 use Rattle.sci_history.proofs.{Histories.{version-load, version-maker}, Runs.{same_stamped}}
-use Rattle.sci_windows.specs.Relative.{swapped, counted_from, relative_act, relative_op, relative_reply, relative_to, relative_line, relative_stamped}
+use Rattle.sci_windows.specs.Relative.{swapped, counted_from, relative_act, relative_reply, relative_to, relative_line, relative_stamped}
 
 -- ---- words that change places
 
@@ -97,7 +97,7 @@ relative_line_same (f ∷ first) (x ∷ a) [] long_a long_b e = absurd (omega ar
 relative_line_same (f ∷ first) (x ∷ a) (y ∷ b) long_a long_b e =
     let head : x ≡ y = swap_same f x y (heads (swapped f x) (swapped f y) (relative_line first a) (relative_line first b) e) in
     let tail : a ≡ b = relative_line_same first a b (omega arith) (omega arith)
-        (tails (swapped f x) (swapped f y) (relative_line first a) (relative_line first b) e) in
+    (tails (swapped f x) (swapped f y) (relative_line first a) (relative_line first b) e) in
     cc
 
 -- ---- steps
@@ -122,7 +122,7 @@ line_step first words e long right =
     let f = get_or first.line e.op.word 0 in
     let old = get_or words e.op.word 0 in
     ap (λ (x : ℕ). set (relative_line first.line words) e.op.word (effect_of_act (relative_act f e.op.act e.reply) x).0)
-        (relative_at first.line words e.op.word long)
+    (relative_at first.line words e.op.word long)
     ∙ ap (set (relative_line first.line words) e.op.word) (relative_leaves f old e.op.act e.reply right)
     ∙ relative_set first.line words e.op.word (effect_of_act e.op.act old).0 long
 

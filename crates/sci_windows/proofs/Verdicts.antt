@@ -1,9 +1,9 @@
 -- What an audit of a window's relative logs says is said of the window.
-use Rattle.std.proofs.Common.{◌≡◌, ℕ, zero, suc, ◌+◌, ◌<◌, ◌≤◌, Bool, true, false, cond, not, List, [], ◌∷◌, ◌++◌, ◌↔◌, length, map, replicate, Option, Some, None, refl, sym, ap, subst, ◌∙◌, arith, inl, inr}
-use Rattle.std.proofs.lemmas.{Bool.{cases_Bool, not-false, not-true, eqb-true}, List.{append_assoc, append-nil, map-append}}
-use Rattle.std.specs.{Prelude.{option_map}, List.{filter, AllByRecursion, flat_map}}
-use Rattle.sci_words.specs.declared.{limits.TheConstants.{MAX_NODES}, operation.{Op.{Op}, Reply.{Reply}}, stamped.Stamped.{Stamped}}
-use Rattle.sci_words.specs.Stamped.{line_after, reply_of, zero_line}
+use Rattle.std.proofs.Common.{◌≡◌, ℕ, Bool, true, false, cond, not, List, [], ◌∷◌, ◌++◌, ◌↔◌, length, map, replicate, Option, Some, None, refl, sym, ap, subst, ◌∙◌, arith, inl, inr}
+use Rattle.std.proofs.lemmas.{Bool.{cases_Bool, not-false, eqb-true}, List.{append_assoc, append-nil, map-append}}
+use Rattle.std.specs.{Prelude.{option_map}, List.{filter, flat_map}}
+use Rattle.sci_words.specs.declared.{limits.TheConstants.{MAX_NODES}, operation.{Op.{Op}}, stamped.Stamped.{Stamped}}
+use Rattle.sci_words.specs.Stamped.{line_after, reply_of, zero_stamped}
 use Rattle.sci_history.specs.{declared.entry.Entry.{Entry}, declared.verdict.FaultKind.{FaultKind}, declared.verdict.Verdict.{Verdict}}
 use Rattle.sci_history.specs.declared.verdict.FaultKind.TheVariants.{VersionTwice, VersionMissing, WrongReply, OutOfOrder, LastDiffers}
 use Rattle.sci_history.specs.declared.verdict.Verdict.TheVariants as verdicts
@@ -222,4 +222,39 @@ pub window_lawful : (logs : List (List Entry)) (first last : List Stamped) (P : 
 window_lawful logs first last P w both = (
   (λ p. from_lawful logs first last w.own w.sixteen w.few w.long w.first_lines w.last_lines w.early (both.0 p)),
   (λ h. both.1 (to_lawful logs first last w.sixteen w.long w.first_lines h)),
+)
+
+-- ---- windows that begin with zeros
+
+same_entry : (e : Entry) (version : ℕ) → version ≡ e.version → record e { version = version } ≡ e
+same_entry e version is = grind arith
+
+same_version : (e : Entry) → counted 0 e ≡ e
+same_version e = let is = counted_after 0 e.version (omega arith) in same_entry e (counted_from 0 e.version) (omega arith)
+
+counted_zero : (es : List Entry) → map (counted 0) es ≡ es
+counted_zero [] = refl
+counted_zero (e ∷ es) = ap (λ (x : Entry). x ∷ map (counted 0) es) (same_version e) ∙ ap (λ (xs : List Entry). e ∷ xs) (counted_zero es)
+
+from_zero : (es : List Entry) (last : Stamped) (kind : FaultKind) (named : Option (ℕ × ℕ)) → IsCountedFault es zero_stamped last kind named
+    → IsLineFault es last kind named
+from_zero es last VersionTwice named h = h
+from_zero es last VersionMissing named h = h
+from_zero es last WrongReply named h = h
+from_zero es last OutOfOrder named h = h
+from_zero es last LastDiffers named h = (h.0, h.1, h.2, h.3, h.4, λ same. let counts = same.1 in h.5 (same.0, omega arith))
+
+to_zero : (es : List Entry) (last : Stamped) (kind : FaultKind) (named : Option (ℕ × ℕ)) → IsLineFault es last kind named
+    → IsCountedFault es zero_stamped last kind named
+to_zero es last VersionTwice named h = h
+to_zero es last VersionMissing named h = h
+to_zero es last WrongReply named h = h
+to_zero es last OutOfOrder named h = h
+to_zero es last LastDiffers named h = (h.0, h.1, h.2, h.3, h.4, λ same. let counts = same.1 in h.5 (same.0, omega arith))
+
+pub zero_faults : (es : List Entry) (last : Stamped) (kind : FaultKind) (named : Option (ℕ × ℕ))
+    → IsLineFaultFrom es zero_stamped last kind named ↔ IsLineFault es last kind named
+zero_faults es last kind named = (
+  (λ h. from_zero es last kind named (subst (λ (xs : List Entry). IsCountedFault xs zero_stamped last kind named) (counted_zero es) h)),
+  (λ h. subst (λ (xs : List Entry). IsCountedFault xs zero_stamped last kind named) (sym (counted_zero es)) (to_zero es last kind named h)),
 )

@@ -1,3 +1,4 @@
 pub mod Fault
+pub mod Order
 pub mod Relative
 pub mod Window

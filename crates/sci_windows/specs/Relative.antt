@@ -1,5 +1,5 @@
 -- A window's entries as another memory has them, which begins with zero words at version 0: what an audit is given.
-use Rattle.std.specs.Prelude.{◌≡◌, ◌<◌, ◌≤◌, ◌+◌, ◌-◌, ◌^◌, ◌==◌, nat_le, if◌then◌else◌, ℕ, List, [], ◌∷◌, length, map, slice_index}
+use Rattle.std.specs.Prelude.{◌≡◌, ◌≤◌, ◌+◌, ◌-◌, ◌^◌, ◌==◌, nat_le, if◌then◌else◌, ℕ, List, [], ◌∷◌, length, map, slice_index}
 use Rattle.sci_words.specs.declared.{limits.TheConstants.{WORDS_PER_LINE}, stamped.Stamped.{Stamped}}
 use Rattle.sci_words.specs.declared.operation.{Act.{Act, TheVariants.{Load, Store, Lock}}, Op.{Op}, Reply.{Reply, TheVariants.{Stored, Got}}}
 use Rattle.sci_words.specs.declared.operation.LockOp.TheVariants.{CompareSwap}

@@ -1,5 +1,5 @@
 -- Windows of a run: logs that begin with given contents of each line.
-use Rattle.std.specs.Prelude.{◌≡◌, ◌<◌, ◌≤◌, ◌+◌, ◌++◌, ℕ, List, AllPairs, filter, map}
+use Rattle.std.specs.Prelude.{◌≡◌, ◌<◌, ◌+◌, ◌++◌, ℕ, List, AllPairs, filter, map}
 use Rattle.std.specs.List.{AllByRecursion, range_with_len}
 use Rattle.sci_words.specs.declared.{limits.TheConstants.{MAX_NODES}, stamped.Stamped.{Stamped}}
 use Rattle.sci_history.specs.{declared.entry.Entry.{Entry}, History.{IsHistory}, Memory.{stamped_at}, Seen.{IsAmong}}

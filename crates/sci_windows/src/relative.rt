@@ -8,7 +8,7 @@ ghost use Rattle.sci_windows.specs.Relative.{relative_entry as relative_entry_of
 ghost use Rattle.sci_windows.specs.Relative.{relative_reply as relative_reply_of, relative_stamped as relative_stamped_of, swapped as swapped_of};
 
 use sci_history::{Entry, Last, Logs};
-use sci_words::{Act, Line, LockOp, Op, Reply, Stamped, Word, WORDS_PER_LINE, effect};
+use sci_words::{Act, Line, LockOp, Op, Reply, Stamped, WORDS_PER_LINE, Word, effect};
 use std::alloc::{AllocError, Global};
 
 /// No log of a window has more entries.
@@ -145,7 +145,10 @@ fn relative_stamped(first: Stamped, stamped: Stamped) -> Stamped
     let _words = stamped.line.words();
     let mut line = stamped.line;
     for word in 0..WORDS_PER_LINE as u8 {
-        line = line.with(word, swapped(first.line.word(word), stamped.line.word(word)));
+        line = line.with(
+            word,
+            swapped(first.line.word(word), stamped.line.word(word)),
+        );
     }
     Stamped {
         line,

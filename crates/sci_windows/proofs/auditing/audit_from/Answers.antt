@@ -1,4 +1,3 @@
-use Rattle.std.proofs.Common.{◌≡◌, arith}
 use Rattle.sci_windows.proofs.{Loops.{audit_within, lawful_is, verdict_is}, Verdicts.{IsWindow}}
 use Rattle.sci_windows.proofs.auditing.audit_from.Goals.{After-array_drop-relative-inside}
 use Rattle.sci_windows.proofs.auditing.audit_from.Goals as goal

@@ -1,4 +1,4 @@
-use Rattle.std.proofs.Common.{ℕ, ◌≤◌, ◌<◌, length, refl, ap, arith}
+use Rattle.std.proofs.Common.{ℕ, ◌≤◌, length, refl, ap, arith}
 use Rattle.sci_history.specs.Placed.{log_of}
 use Rattle.sci_windows.proofs.Loops.{few_all, holds_next}
 use Rattle.sci_windows.proofs.relative.are_few.Goals as goal

@@ -1,4 +1,4 @@
-use Rattle.std.proofs.Common.{◌≡◌, ℕ, ◌<◌, List, length, get_or, length-set, ◌∙◌, ap, sym, arith}
+use Rattle.std.proofs.Common.{◌≡◌, ℕ, List, length, length-set, ◌∙◌, ap, sym, arith}
 use Rattle.sci_words.specs.{declared.{limits.TheConstants.{WORDS_PER_LINE}, stamped.Stamped.{Stamped}}, Stamped.{zero_stamped}}
 use Rattle.sci_history.specs.Memory.{stamped_at}
 use Rattle.sci_windows.specs.Relative.{relative_stamped}

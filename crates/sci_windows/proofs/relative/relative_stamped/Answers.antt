@@ -1,4 +1,4 @@
-use Rattle.std.proofs.Common.{◌≡◌, ℕ, ◌<◌, List, length, get_or, length-set, ◌∙◌, ap, arith}
+use Rattle.std.proofs.Common.{◌≡◌, ℕ, List, length, get_or, length-set, ◌∙◌, ap, arith}
 use Rattle.sci_history.proofs.Runs.{same_stamped}
 use Rattle.sci_windows.specs.Relative.{relative_stamped, swapped}
 use Rattle.sci_windows.proofs.Loops.{line_is, set_next}
