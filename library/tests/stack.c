@@ -73,6 +73,12 @@ static sci_status status;
     CALL(sci_logs_push, &empty, &entry)                                                                        \
     CALL(sci_logs_set_last, &empty, 0, &stamped)                                                               \
     CALL(sci_logs_last, &empty, 0, &stamped)                                                                   \
+    CALL(sci_logs_set_first, &empty, 0, &stamped)                                                              \
+    CALL(sci_logs_first, &empty, 0, &stamped)                                                                  \
+    CALL(sci_logs_audit, &empty, &verdict)                                                                     \
+    CALL(sci_logs_order, &empty, &number, entries, 64, &used)                                                  \
+    CALL(sci_logs_order_kind, &empty, &number)                                                                 \
+    CALL(sci_logs_go_on, &empty)                                                                               \
     CALL(sci_logs_size, &empty, &small, &lines)                                                                \
     CALL(sci_logs_count, &empty, 0, &used)                                                                     \
     CALL(sci_logs_explain, &empty, text, sizeof text, &length)                                                 \

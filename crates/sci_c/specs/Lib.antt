@@ -1,5 +1,6 @@
 -- What the C interface says.
 pub mod Asked
+pub mod Begun
 pub mod Calls
 pub mod Cloning
 pub mod Closing

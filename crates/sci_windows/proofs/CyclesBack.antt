@@ -1,6 +1,8 @@
 -- A cycle of a window's relative logs is one of the window.
-use Rattle.std.proofs.Common.{◌≡◌, ℕ, zero, suc, ◌+◌, ◌<◌, ◌≤◌, List, [], ◌∷◌, length, map, get_or, Option, Some, None, refl, sym, ap, subst, ◌∙◌, arith, inl, inr}
-use Rattle.std.proofs.lemmas.{Bool.{cases_lt, eq-eqb}, List.{get_or_past, length-map, Elements.{All-from_recursion}}, Option.{get_or_from_slice_get, slice_get-map, slice_get_within}}
+use Rattle.std.proofs.Common.{◌≡◌, ℕ, zero, suc, ◌+◌, ◌<◌, ◌≤◌, List, [], ◌∷◌, length, map, get_or, Option, Some, None, refl, sym, ap, subst, ◌∙◌, arith}
+use Rattle.std.proofs.Common.{inl, inr}
+use Rattle.std.proofs.lemmas.{Bool.{cases_lt, eq-eqb}, List.{get_or_past, length-map, Elements.{All-from_recursion}}}
+use Rattle.std.proofs.lemmas.{Option.{get_or_from_slice_get, slice_get-map, slice_get_within}}
 use Rattle.std.specs.{Prelude.{All, option_map, slice_get}, List.{filter, AllByRecursion}}
 use Rattle.sci_words.specs.declared.{limits.TheConstants.{MAX_NODES}, stamped.Stamped.{Stamped}}
 use Rattle.sci_history.specs.{declared.entry.Entry.{Entry}, declared.order_verdict.{Reason.{Reason}, Step.{Step}}}
@@ -158,7 +160,8 @@ abbrev AreIn : List (List Entry) → List Step → Type 0
 AreIn logs steps = AllByRecursion (IsInLog logs) steps
 
 chain_back : (logs : List (List Entry)) (first last : List Stamped) (steps : List Step) (end : Step) → length logs ≡ MAX_NODES → LawfulFrom logs first last
-    → AreIn (relative_logs first logs) steps → IsInLog (relative_logs first logs) end → IsChain steps end → IsChain (map (step_in logs) steps) (step_in logs end)
+    → AreIn (relative_logs first logs) steps → IsInLog (relative_logs first logs) end → IsChain steps end
+    → IsChain (map (step_in logs) steps) (step_in logs end)
 chain_back logs first last [] end sixteen lawful all there h = tt
 chain_back logs first last (x ∷ []) end sixteen lawful all there h =
     twin_comes first x.reason (step_in logs x) x (step_in logs end) end (twin_of logs first last x sixteen lawful all.0)

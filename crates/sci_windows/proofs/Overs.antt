@@ -6,7 +6,8 @@ use Rattle.sci_words.specs.declared.{limits.TheConstants.{MAX_NODES}}
 use Rattle.sci_history.specs.{declared.entry.Entry.{Entry}}
 use Rattle.sci_history.specs.Audit.{Names, breaks_order, first_disordered, first_failing, first_missing, first_twice, is_out_of_order, is_version_missing}
 use Rattle.sci_history.specs.Audit.{is_version_twice, last_entry}
-use Rattle.sci_history.specs.Placed.{above_serials, by_node_and_serial, by_version, in_order, in_serial_order, is_making, is_of_node, maker_count, makes, placed_entries, reads}
+use Rattle.sci_history.specs.Placed.{above_serials, by_node_and_serial, by_version, in_order, in_serial_order, is_making, is_of_node, maker_count, makes}
+use Rattle.sci_history.specs.Placed.{placed_entries, reads}
 use Rattle.sci_history.proofs.Sorting.{map-in_order}
 use Rattle.sci_windows.specs.Relative.{relative_op, relative_reply}
 use Rattle.sci_windows.proofs.{Merges.{filter-mapped}, Swaps.{relative_maker}}

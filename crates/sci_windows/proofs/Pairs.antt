@@ -19,11 +19,13 @@ no_rises : Rises []
 no_rises i j d lt below = absurd (omega arith)
 
 -- a map of which each serial follows from the one before
-pub all_mapped : (f : Entry → Entry) (P Q : Entry → Type 0) → ((e : Entry) → P e → Q (f e)) → (es : List Entry) → AllByRecursion P es → AllByRecursion Q (map f es)
+pub all_mapped : (f : Entry → Entry) (P Q : Entry → Type 0) → ((e : Entry) → P e → Q (f e)) → (es : List Entry) → AllByRecursion P es
+    → AllByRecursion Q (map f es)
 all_mapped f P Q leads [] h = tt
 all_mapped f P Q leads (e ∷ es) h = (leads e h.0, all_mapped f P Q leads es h.1)
 
-pub all_from_mapped : (f : Entry → Entry) (P Q : Entry → Type 0) → ((e : Entry) → Q (f e) → P e) → (es : List Entry) → AllByRecursion Q (map f es) → AllByRecursion P es
+pub all_from_mapped : (f : Entry → Entry) (P Q : Entry → Type 0) → ((e : Entry) → Q (f e) → P e) → (es : List Entry) → AllByRecursion Q (map f es)
+    → AllByRecursion P es
 all_from_mapped f P Q leads [] h = tt
 all_from_mapped f P Q leads (e ∷ es) h = (leads e h.0, all_from_mapped f P Q leads es h.1)
 

@@ -73,7 +73,7 @@ relative_start first long =
 
 -- ---- from the window to its relative logs
 
-relative_history : (logs : List (List Entry)) (first last : List Stamped) (line : ℕ) → length first ≡ length last → AreLines first
+pub relative_history : (logs : List (List Entry)) (first last : List Stamped) (line : ℕ) → length first ≡ length last → AreLines first
     → HasHistoryFrom logs line (stamped_at first line) (stamped_at last line)
     → HasHistory (relative_logs first logs) line (stamped_at (relative_contents first last) line)
 relative_history logs first last line long lines h =

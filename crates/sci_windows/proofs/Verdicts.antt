@@ -1,6 +1,6 @@
 -- What an audit of a window's relative logs says is said of the window.
 use Rattle.std.proofs.Common.{◌≡◌, ℕ, Bool, true, false, cond, not, List, [], ◌∷◌, ◌++◌, ◌↔◌, length, map, replicate, Option, Some, None, refl, sym, ap, subst, ◌∙◌, arith, inl, inr}
-use Rattle.std.proofs.lemmas.{Bool.{cases_Bool, not-false, eqb-true}, List.{append_assoc, append-nil, map-append}}
+use Rattle.std.proofs.lemmas.{Bool.{cases_Bool, not-false, eqb-true}, List.{append_assoc, append-nil, length-map, map-append}}
 use Rattle.std.specs.{Prelude.{option_map}, List.{filter, flat_map}}
 use Rattle.sci_words.specs.declared.{limits.TheConstants.{MAX_NODES}, operation.{Op.{Op}}, stamped.Stamped.{Stamped}}
 use Rattle.sci_words.specs.Stamped.{line_after, reply_of, zero_stamped}
@@ -10,12 +10,13 @@ use Rattle.sci_history.specs.declared.verdict.Verdict.TheVariants as verdicts
 use Rattle.sci_history.specs.Audit.{IsLineFault, IsVerdict, Names, first_disordered, first_failing, first_missing, first_twice, first_wrong, is_reply_wrong}
 use Rattle.sci_history.specs.Audit.{line_after_all, same_reply, words_after}
 use Rattle.sci_history.specs.{Lawful.{Lawful}, Memory.{stamped_at}, Placed.{AreOwn, is_on_line, maker_count, on_line, placed_entries}}
+use Rattle.sci_history.proofs.{Audits.{fault_or_none, no_fault}, Lawfulness.{lawful_line}}
 use Rattle.sci_history.proofs.{AuditRuns.{reply_is, reply_same, words_after-push}, Order.{all-passes, all_weaker}}
 use Rattle.sci_windows.specs.Relative.{AreEarly, AreFew, AreLines, counted_from, relative_contents, relative_entry, relative_line, relative_logs}
 use Rattle.sci_windows.specs.Relative.{relative_stamped, relative_to}
 use Rattle.sci_windows.specs.Fault.{Differ, IsCountedFault, IsLineFaultFrom, IsVerdictFrom, counted, first_wrong_from, is_reply_wrong_from, words_from}
 use Rattle.sci_windows.specs.Window.{LawfulFrom}
-use Rattle.sci_windows.proofs.{Merges.{filter-mapped}, Pairs.{map_agrees}, Reductions.{from_lawful, from_lawful_line, relative_start_line, to_lawful}}
+use Rattle.sci_windows.proofs.{Merges.{filter-mapped}, Pairs.{map_agrees}, Reductions.{from_lawful, from_lawful_line, own_relative, relative_history, relative_start_line, to_lawful}}
 use Rattle.sci_windows.proofs.Overs.{count_over, disordered_over, missing_over, names_over, none_over, over, placed_over, twice_over}
 use Rattle.sci_windows.proofs.{Relatives.{relative_at, relative_long}, Swaps.{back_step, counted_after, line_step, long_line_after, right_step}}
 
@@ -214,6 +215,12 @@ window_verdict logs first last (verdicts.Fault line kind at) w h =
     record {
       in_range = omega arith;
       below = λ other lt. from_lawful_line logs first last other w.own w.sixteen w.few w.long w.first_lines w.last_lines w.early (h.below other lt);
+      unlawful = λ history.
+          fault_or_none (on_line line (relative_logs first logs)) (stamped_at (relative_contents first last) line) kind at h.fault
+          (no_fault (relative_logs first logs) line (stamped_at (relative_contents first last) line) (own_relative first logs w.own)
+          (length-map logs (map (relative_entry first)) ∙ w.sixteen)
+          (lawful_line (relative_logs first logs) line (stamped_at (relative_contents first last) line)
+          (length-map logs (map (relative_entry first)) ∙ w.sixteen) (relative_history logs first last line w.long w.first_lines history)));
       fault = counted_fault entries from (stamped_at last line) kind at (w.first_lines line) fault;
     }
 

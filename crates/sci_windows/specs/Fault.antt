@@ -45,10 +45,11 @@ IsCountedFault entries first last LastDiffers named =
 abbrev pub IsLineFaultFrom : List Entry → (first last : Stamped) → FaultKind → Option (ℕ × ℕ) → Type 0
 IsLineFaultFrom entries first last kind named = IsCountedFault (map (counted first.version) entries) first last kind named
 
--- a fault of this line, if each line below is lawful
+-- a fault of this line, which has no history then, if each line below is lawful
 pub record IsFaultFrom (logs : List (List Entry)) (first last : List Stamped) (line : ℕ) (kind : FaultKind) (named : Option (ℕ × ℕ)) : Type 0 where
   pub in_range : line < length last
   pub below : (other : ℕ) → other < line → HasHistoryFrom logs other (stamped_at first other) (stamped_at last other)
+  pub unlawful : HasHistoryFrom logs line (stamped_at first line) (stamped_at last line) → ⊥
   pub fault : IsLineFaultFrom (on_line line logs) (stamped_at first line) (stamped_at last line) kind named
 
 -- what an audit of a window says: lawful, or the fault that comes first

@@ -380,6 +380,17 @@ unsafe extern "C" {
     ) -> sci_status;
     pub fn sci_logs_last(logs: *const sci_logs, line: u8, contents: *mut sci_stamped)
     -> sci_status;
+    pub fn sci_logs_set_first(
+        logs: *mut sci_logs,
+        line: u8,
+        contents: *const sci_stamped,
+    ) -> sci_status;
+    pub fn sci_logs_first(
+        logs: *const sci_logs,
+        line: u8,
+        contents: *mut sci_stamped,
+    ) -> sci_status;
+    pub fn sci_logs_go_on(logs: *mut sci_logs) -> sci_status;
     pub fn sci_logs_size(logs: *const sci_logs, nodes: *mut u8, lines: *mut u8) -> sci_status;
     pub fn sci_logs_count(logs: *const sci_logs, node: u8, count: *mut usize) -> sci_status;
     pub fn sci_logs_entry(
