@@ -11,7 +11,8 @@ use Rattle.sci_windows.specs.declared.window_order.WindowOrder.TheVariants as or
 use Rattle.sci_history.specs.declared.verdict.FaultKind.{FaultKind}
 use Rattle.sci_c.specs.Begun.{AreLawfulIn, IsOrderIn}
 
-pub lawful_zeros : (first : Option (List Stamped)) (logs : List (List Entry)) (last : List Stamped) → first ≡ None → AreLawfulIn first logs last → Lawful logs last
+pub lawful_zeros : (first : Option (List Stamped)) (logs : List (List Entry)) (last : List Stamped) → first ≡ None → AreLawfulIn first logs last
+    → Lawful logs last
 lawful_zeros first logs last is h = subst (λ (f : Option (List Stamped)). AreLawfulIn f logs last) is h
 
 pub lawful_begun : (first : Option (List Stamped)) (logs : List (List Entry)) (last from : List Stamped) → first ≡ Some from → AreLawfulIn first logs last

@@ -47,7 +47,8 @@ windows_meet a b first middle last before one two line =
       logged = λ node lt.
           joined_on a b line node lt
           ∙ (ap (λ (es : List Entry). es ++ filter (is_on_line line) (log_of b node)) (h.logged node lt)
-          ∙ (ap (λ (es : List Entry). filter (is_of_node node) h.entries ++ es) (k.logged node lt) ∙ sym (filter-append (is_of_node node) h.entries k.entries)));
+          ∙ (ap (λ (es : List Entry). filter (is_of_node node) h.entries ++ es) (k.logged node lt)
+          ∙ sym (filter-append (is_of_node node) h.entries k.entries)));
       serials = λ node lt. subst Rises (sym (joined_on a b line node lt))
           (rises_append (filter (is_on_line line) (log_of a node)) (filter (is_on_line line) (log_of b node)) (h.serials node lt) (k.serials node lt)
           (below a b line node before));

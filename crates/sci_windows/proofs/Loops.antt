@@ -84,7 +84,8 @@ pub verdict_is : {E : Type 0} (first last : List Stamped) (logs relative : List 
     → IfOk found (IsVerdict relative contents) → IfOk found (IsVerdictFrom logs first last)
 verdict_is first last logs relative contents (Ok verdict) w is are h =
     window_verdict logs first last verdict w
-    (subst (λ (cs : List Stamped). IsVerdict (relative_logs first logs) cs verdict) are (subst (λ (ls : List (List Entry)). IsVerdict ls contents verdict) is h))
+    (subst (λ (cs : List Stamped). IsVerdict (relative_logs first logs) cs verdict) are
+    (subst (λ (ls : List (List Entry)). IsVerdict ls contents verdict) is h))
 verdict_is first last logs relative contents (Err e) w is are h = h
 
 pub lawful_is : {E : Type 0} (first last : List Stamped) (logs relative : List (List Entry)) (contents : List Stamped) (found : Result Verdict E)

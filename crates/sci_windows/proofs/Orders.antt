@@ -63,7 +63,8 @@ filtered first line es =
     ∙ on_one_line first line (filter (is_on_line line) es) (on_line_all line es)
 
 pub to_order : (logs : List (List Entry)) (first last : List Stamped) (order : List Entry) → IsWindow logs first last
-    → IsSequentialOrderFrom logs first last order → IsSequentialOrder (relative_logs first logs) (relative_contents first last) (map (relative_entry first) order)
+    → IsSequentialOrderFrom logs first last order
+    → IsSequentialOrder (relative_logs first logs) (relative_contents first last) (map (relative_entry first) order)
 to_order logs first last order w is = record {
   logged = λ node.
       filter-mapped (relative_entry first) (is_of_node node) (λ e. refl) order

@@ -1,5 +1,6 @@
 -- What an audit of a window's relative logs says is said of the window.
-use Rattle.std.proofs.Common.{◌≡◌, ℕ, Bool, true, false, cond, not, List, [], ◌∷◌, ◌++◌, ◌↔◌, length, map, replicate, Option, Some, None, refl, sym, ap, subst, ◌∙◌, arith, inl, inr}
+use Rattle.std.proofs.Common.{◌≡◌, ℕ, Bool, true, false, cond, not, List, [], ◌∷◌, ◌++◌, ◌↔◌, length, map, replicate, Option, Some, None}
+use Rattle.std.proofs.Common.{refl, sym, ap, subst, ◌∙◌, arith, inl, inr}
 use Rattle.std.proofs.lemmas.{Bool.{cases_Bool, not-false, eqb-true}, List.{append_assoc, append-nil, length-map, map-append}}
 use Rattle.std.specs.{Prelude.{option_map}, List.{filter, flat_map}}
 use Rattle.sci_words.specs.declared.{limits.TheConstants.{MAX_NODES}, operation.{Op.{Op}}, stamped.Stamped.{Stamped}}
@@ -16,7 +17,8 @@ use Rattle.sci_windows.specs.Relative.{AreEarly, AreFew, AreLines, counted_from,
 use Rattle.sci_windows.specs.Relative.{relative_stamped, relative_to}
 use Rattle.sci_windows.specs.Fault.{Differ, IsCountedFault, IsLineFaultFrom, IsVerdictFrom, counted, first_wrong_from, is_reply_wrong_from, words_from}
 use Rattle.sci_windows.specs.Window.{LawfulFrom}
-use Rattle.sci_windows.proofs.{Merges.{filter-mapped}, Pairs.{map_agrees}, Reductions.{from_lawful, from_lawful_line, own_relative, relative_history, relative_start_line, to_lawful}}
+use Rattle.sci_windows.proofs.{Merges.{filter-mapped}, Pairs.{map_agrees}}
+use Rattle.sci_windows.proofs.Reductions.{from_lawful, from_lawful_line, own_relative, relative_history, relative_start_line, to_lawful}
 use Rattle.sci_windows.proofs.Overs.{count_over, disordered_over, missing_over, names_over, none_over, over, placed_over, twice_over}
 use Rattle.sci_windows.proofs.{Relatives.{relative_at, relative_long}, Swaps.{back_step, counted_after, line_step, long_line_after, right_step}}
 
@@ -80,7 +82,8 @@ test_wrong words before e alike fails =
     ]
 
 wrong_over : (words : List ℕ) (before es : List Entry) → AreAlike words before
-    → first_failing is_reply_wrong (map (over words) before) (map (over words) es) ≡ option_map (over words) (first_failing (is_reply_wrong_from words) before es)
+    → first_failing is_reply_wrong (map (over words) before) (map (over words) es)
+    ≡ option_map (over words) (first_failing (is_reply_wrong_from words) before es)
 wrong_over words before [] alike = refl
 wrong_over words before (e ∷ es) alike = elim (cases_Bool (is_reply_wrong_from words before e)) [
   | inl fails ↦ rw (test_wrong words before e alike fails, fails) refl

@@ -18,8 +18,8 @@ pub fn nodes_of(alloc: Global, entries: &[&Entry]) -> Result<Vec<u8>, AllocError
     entries.iter().map(|entry| entry.node).collect(alloc)
 }
 
-/// The entries of all logs, in the order in which their nodes stand. Requires that each node stands there once for each entry of
-/// its log.
+/// The entries of all logs, in the order in which their nodes stand. Requires that each node stands there once for each entry
+/// of its log.
 pub fn in_turn(alloc: Global, logs: &Logs, nodes: &[u8]) -> Result<Vec<Entry>, AllocError>
     requires known { All (λ node. node < MAX_NODES) nodes.now }
     requires each { (node : ℕ) → length (filter (λ other. other == node) nodes.now)

@@ -10,10 +10,10 @@ use crate::window_order::WindowOrder;
 use sci_history::{Last, Logs, OrderVerdict, sequential_order};
 use std::alloc::{AllocError, Global};
 
-/// Looks for one order of all entries of logs that begin with the first contents: one that keeps the order of each node's log, and
-/// that one memory of one thread explains, from the first contents to the last ones. If the window isn't lawful, the answer is the
-/// fault that `audit_from` reports; else an order, if there is one; else a cycle, as of `sci_history::sequential_order`. When it
-/// is refused and what it requires is as of `audit_from`.
+/// Looks for one order of all entries of logs that begin with the first contents: one that keeps the order of each node's
+/// log, and that one memory of one thread explains, from the first contents to the last ones. If the window isn't lawful, the
+/// answer is the fault that `audit_from` reports; else an order, if there is one; else a cycle, as of
+/// `sci_history::sequential_order`. When it is refused and what it requires is as of `audit_from`.
 pub fn order_from(
     alloc: Global,
     logs: &Logs,

@@ -51,4 +51,5 @@ loop-node-preserved c =
 pub returns-clause-own : goal.returns-clause-own
 returns-clause-own c =
     let end : c.loop-node.node-index ≡ length c.args.nodes.now = omega arith in
-    all_taken c.args.logs.now c.args.nodes.now c.loop-node.next c.loop-node.node-index c.loop-node.made.items (sym c.nodes-sixteen.ensures.nodes ∙ c.nodes-sixteen.ensures.sixteen) end c.requires.each c.loop-node.invariant
+    all_taken c.args.logs.now c.args.nodes.now c.loop-node.next c.loop-node.node-index c.loop-node.made.items
+    (sym c.nodes-sixteen.ensures.nodes ∙ c.nodes-sixteen.ensures.sixteen) end c.requires.each c.loop-node.invariant

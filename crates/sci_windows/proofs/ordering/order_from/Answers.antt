@@ -42,7 +42,8 @@ returns-in-Fault-clause-order c =
     × IsSequentiallyConsistent c.in_ok-relative.relative c.relative_contents-contents.result)) c.in-Fault.is c.in_ok-line.ensures.order in (
       λ none. absurd none,
       λ both. ordered.1 (ordered_relative c.args.logs.now c.in_ok-relative.relative c.args.first.now c.args.last.now c.relative_contents-contents.result
-          (window (goal.at.returns-in-Fault-clause-order c).After-sequential_order) c.in_ok-relative.ensures.logs c.relative_contents-contents.ensures.contents both),
+          (window (goal.at.returns-in-Fault-clause-order c).After-sequential_order) c.in_ok-relative.ensures.logs
+          c.relative_contents-contents.ensures.contents both),
     )
 
 pub in_turn-requires-clause-known : goal.in_turn-requires-clause-known
