@@ -19,7 +19,7 @@
 ** All else is looked at. Any number may be passed in any field, and what can't be done is answered by a status.
 **
 ** MEMORY AND STACK. A call takes memory only if SCI_NO_MEMORY is among its statuses. sci_logs_read, sci_logs_explain and
-** sci_machine_logs take at most 32 KB of stack; those that open, clone or replay 24 KB; sci_logs_audit, sci_logs_order and
+** sci_machine_logs take at most 32 KB of stack; those that open, clone or replay, and sci_node_start_log, 24 KB; sci_logs_audit, sci_logs_order and
 ** sci_logs_order_kind 20 KB; all others 6 KB.
 **
 ** STATUSES. Unless a function says otherwise, a call that answers another status than SCI_OK leaves the object and all that
@@ -610,7 +610,7 @@ sci_status sci_machine_logs(const sci_machine *machine, sci_logs *logs);
 ** most once: a request by sci_node_serve or sci_node_refuse, an answer by sci_node_accept, and any by sci_node_turn. Packets may come
 ** in any order. Nothing goes on about a line of a node whose packet is never given. A call that answers another status than SCI_OK has
 ** not taken the packet, nor has a turn that marks it with 0. At most min(lines, slots) answers are under way to a node, and nodes *
-** min(lines, slots) packets in all. No call but sci_node_open and sci_node_clone takes memory.
+** min(lines, slots) packets in all. No call but sci_node_open, sci_node_clone and sci_node_start_log takes memory.
 **
 ** What a node does next, and which requests it keeps for later, is its policy's to say: sci_node_turn does it in one call, and
 ** sci_node_next and sci_node_decide say it. A policy of one's own may do other events, and the logs are lawful with any. But one that
@@ -640,6 +640,17 @@ sci_status sci_node_close(sci_node *node);
 **   - SCI_MISUSE      node keeps no node, or copy isn't empty.
 **   - SCI_NO_MEMORY */
 sci_status sci_node_clone(const sci_node *node, sci_node *copy);
+
+/** Begins again with an empty log, at rest: serials go on from 0, and the node may issue limit operations. Each home that is here
+** knows what it knew, so versions go on, and the policy remembers what it remembered. All else is as in a new node. So a run goes on
+** after 65,536 operations of a node (sci_core::Node::new, and Node::serve for its homes, as if nodes had had the lines before).
+**
+**   - SCI_OK
+**   - SCI_RANGE       Not a limit of 1 to 65,536.
+**   - SCI_NOT_ENABLED An operation is pending, a line has an entry, or an answer waits. The node stays as it is.
+**   - SCI_NO_MEMORY
+**   - SCI_MISUSE      The object keeps no node. */
+sci_status sci_node_start_log(sci_node *node, uint32_t limit);
 
 /** Issues an operation, and gives its serial: the count of operations issued before (Node::issue).
 **

@@ -93,6 +93,7 @@ static int run(long refused) {
     MAKE(sci_machine_clone(&machine, &copy), copy);
     MAKE(sci_node_open(&node, 0, 2, 4, 2, 16), node);
     MAKE(sci_node_clone(&node, &other), other);
+    MAKE(sci_node_start_log(&other, 16), other);
     MAKE(sci_entry_write(&made, text, sizeof text, &used), machine);
     MAKE(sci_packet_write(&packet, text, sizeof text, &used), machine);
     MAKE(sci_machine_sharing(&machine, 0, list, sizeof list, &used), machine);

@@ -86,6 +86,7 @@ static void no_node(void *object) {
     memset(&home, 7, sizeof home);
     memset(&read, 7, sizeof read);
     EXPECT(sci_node_clone(as_node(object), &copy), SCI_MISUSE);
+    EXPECT(sci_node_start_log(as_node(object), 16), SCI_MISUSE);
     EXPECT(sci_node_turn(as_node(object), &read, 0, &from, 1, &read, 1, &used, &want), SCI_MISUSE);
     CHECK(copy.live == 0 && from == 7 && read.target == 0x0707 && used == 7);
     EXPECT(sci_node_begin_turn(as_node(object)), SCI_MISUSE);

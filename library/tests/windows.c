@@ -89,43 +89,22 @@ static void window(uint32_t operations) {
     }
 }
 
-/* The home of a line in a new node gets its contents, as if a node had read the line and written it back. */
-static void fill(uint8_t line, const sci_stamped *contents) {
-    const uint16_t home = line % NODES;
-    sci_packet packet = { home, SCI_CMD_MREAD, 0, 0, line, SCI_NO_NODE, 0, 0, 0, { 0 } };
-    for (int i = 0; i < 2; i++) {
-        uint8_t bytes[SCI_PACKET_BYTES];
-        size_t length;
-        EXPECT(sci_packet_encode(&packet, bytes, &length), SCI_OK);
-        EXPECT(sci_node_serve(&node[home], bytes, length), SCI_OK);
-        EXPECT(sci_node_take_answer(&node[home], bytes, &length), SCI_OK);
-        packet.command = SCI_CMD_WBACK;
-        packet.has_contents = 1;
-        packet.version = contents->version;
-        memcpy(packet.words, contents->words, sizeof packet.words);
-    }
-}
-
-/* A window is judged from its first contents to its last ones, and the next one begins there, with new nodes. */
+/* A window is judged from its first contents to its last ones, and the next one begins there. */
 static void judge(uint32_t operations) {
     sci_verdict verdict = { SCI_LAST_DIFFERS, 0, 0, 0, 0 };
-    sci_stamped contents[LINES];
+    sci_stamped contents;
     uint32_t kind = SCI_UNLAWFUL;
     for (uint8_t line = 0; line < LINES; line++) {
-        EXPECT(sci_node_home(&node[line % NODES], line, &contents[line]), SCI_OK);
-        EXPECT(sci_logs_set_last(&logs, line, &contents[line]), SCI_OK);
+        EXPECT(sci_node_home(&node[line % NODES], line, &contents), SCI_OK);
+        EXPECT(sci_logs_set_last(&logs, line, &contents), SCI_OK);
     }
     EXPECT(sci_logs_audit(&logs, &verdict), SCI_OK);
     CHECK(verdict.kind == SCI_LAWFUL);
     EXPECT(sci_logs_order_kind(&logs, &kind), SCI_OK);
     CHECK(kind == SCI_ORDER);
     EXPECT(sci_logs_go_on(&logs), SCI_OK);
-    for (uint8_t n = 0; n < NODES; n++) {
-        EXPECT(sci_node_close(&node[n]), SCI_OK);
-        EXPECT(sci_node_open(&node[n], n, NODES, LINES, SLOTS, operations), SCI_OK);
-    }
-    for (uint8_t line = 0; line < LINES; line++) {
-        fill(line, &contents[line]);
+    for (int n = 0; n < NODES; n++) {
+        EXPECT(sci_node_start_log(&node[n], operations), SCI_OK);
     }
 }
 
@@ -214,10 +193,66 @@ static void mistakes(void) {
     CHECK(found(other.version, 42, &other, &top, end) == SCI_LAWFUL);
 }
 
+/* Node 0 is given a request of node 1 about a line, and its answer is dropped. */
+static void give(sci_node *to, uint16_t command, uint8_t line, const sci_stamped *contents) {
+    sci_packet packet = { 0, command, 1, 0, line, SCI_NO_NODE, contents != NULL, 0, 0, { 0 } };
+    uint8_t bytes[SCI_PACKET_BYTES];
+    size_t length;
+    if (contents != NULL) {
+        packet.version = contents->version;
+        memcpy(packet.words, contents->words, sizeof packet.words);
+    }
+    EXPECT(sci_packet_encode(&packet, bytes, &length), SCI_OK);
+    EXPECT(sci_node_serve(to, bytes, length), SCI_OK);
+    EXPECT(sci_node_start_log(to, 3), SCI_NOT_ENABLED);
+    EXPECT(sci_node_take_answer(to, bytes, &length), SCI_OK);
+}
+
+/* A node that begins again knows of its homes what it knew, in each of their states, and its serials begin with 0. */
+static void started(void) {
+    enum { HOMES = 4 };
+    const sci_stamped back = { 9, { 1, 2, 3, 4, 5, 6, 7, 8 } };
+    sci_node home = SCI_INIT, other = SCI_INIT;
+    sci_home before[HOMES], after[HOMES];
+    uint32_t serial = 7, rests = 7;
+    memset(before, 0, sizeof before);
+    memset(after, 0, sizeof after);
+    EXPECT(sci_node_open(&home, 0, 2, 2 * HOMES, 2, 16), SCI_OK);
+    give(&home, SCI_CMD_MREAD, 0, NULL);
+    give(&home, SCI_CMD_FREAD, 2, NULL);
+    give(&home, SCI_CMD_MREAD, 4, NULL);
+    give(&home, SCI_CMD_WBACK, 4, &back);
+    for (uint8_t i = 0; i < HOMES; i++) {
+        EXPECT(sci_node_home_state(&home, (uint8_t)(2 * i), &before[i]), SCI_OK);
+    }
+    CHECK(before[0].state == SCI_GONE && before[1].state == SCI_FRESH && before[2].state == SCI_HOME && before[2].contents.version == 9);
+    EXPECT(sci_node_start_log(&home, 0), SCI_RANGE);
+    EXPECT(sci_node_start_log(&home, SCI_MAX_OPERATIONS + 1), SCI_RANGE);
+    EXPECT(sci_node_clone(&home, &other), SCI_OK);
+    EXPECT(sci_node_issue(&other, &store, &serial), SCI_OK);
+    EXPECT(sci_node_start_log(&other, 3), SCI_NOT_ENABLED);
+    EXPECT(sci_node_close(&other), SCI_OK);
+    EXPECT(sci_node_start_log(&home, 3), SCI_OK);
+    for (uint8_t i = 0; i < HOMES; i++) {
+        EXPECT(sci_node_home_state(&home, (uint8_t)(2 * i), &after[i]), SCI_OK);
+    }
+    CHECK(memcmp(before, after, sizeof before) == 0);
+    EXPECT(sci_node_is_at_rest(&home, &rests), SCI_OK);
+    CHECK(rests == 1);
+    for (uint8_t line = 0; line < 4; line++) {
+        sci_op op = store;
+        op.line = line;
+        EXPECT(sci_node_issue(&home, &op, &serial), line < 3 ? SCI_OK : SCI_FULL);
+        CHECK(serial == (line < 3 ? line : 2));
+    }
+    EXPECT(sci_node_close(&home), SCI_OK);
+}
+
 int main(int words, char **arguments) {
     const uint32_t operations = words > 1 ? (uint32_t)strtoul(arguments[1], NULL, 10) : 3000;
     const uint32_t in_a_window = words > 2 ? (uint32_t)strtoul(arguments[2], NULL, 10) : words > 1 ? SCI_MAX_OPERATIONS : 1000;
     mistakes();
+    started();
     run(operations, in_a_window);
     if (words > 1) {
         printf("%lu operations in windows of %u a node\n", performed, (unsigned)in_a_window);

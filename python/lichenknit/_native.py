@@ -112,6 +112,7 @@ FUNCTIONS = {
     "sci_node_open": (NODE, c_uint8, c_uint8, c_uint8, c_uint8, c_uint32),
     "sci_node_close": (NODE,),
     "sci_node_clone": (NODE, NODE),
+    "sci_node_start_log": (NODE, c_uint32),
     "sci_node_issue": (NODE, POINTER(sci_op), U32),
     "sci_node_perform": (NODE, c_uint8, POINTER(sci_entry)),
     "sci_node_ask": (NODE, c_uint8, c_uint8, PACKET_BYTES, SIZE),

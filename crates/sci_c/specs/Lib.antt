@@ -18,6 +18,7 @@ pub mod Order
 pub mod Packet
 pub mod Replaying
 pub mod Seeing
+pub mod Starting
 pub mod Taking
 pub mod Texts
 pub mod Turning

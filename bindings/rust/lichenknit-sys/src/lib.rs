@@ -321,6 +321,7 @@ unsafe extern "C" {
     ) -> sci_status;
     pub fn sci_node_close(node: *mut sci_node) -> sci_status;
     pub fn sci_node_clone(node: *const sci_node, copy: *mut sci_node) -> sci_status;
+    pub fn sci_node_start_log(node: *mut sci_node, limit: u32) -> sci_status;
     pub fn sci_node_issue(node: *mut sci_node, op: *const sci_op, serial: *mut u32) -> sci_status;
     pub fn sci_node_perform(node: *mut sci_node, line: u8, entry: *mut sci_entry) -> sci_status;
     pub fn sci_node_ask(
