@@ -19,7 +19,7 @@
 ** All else is looked at. Any number may be passed in any field, and what can't be done is answered by a status.
 **
 ** MEMORY AND STACK. A call takes memory only if SCI_NO_MEMORY is among its statuses. sci_logs_read, sci_logs_explain and
-** sci_machine_logs take at most 32 KB of stack; those that open, clone or replay, and sci_node_start_log, 24 KB; sci_logs_audit, sci_logs_order and
+** sci_machine_logs take at most 32 KB of stack; those that open, clone or replay 24 KB; sci_logs_audit, sci_logs_order and
 ** sci_logs_order_kind 20 KB; all others 6 KB.
 **
 ** STATUSES. Unless a function says otherwise, a call that answers another status than SCI_OK leaves the object and all that

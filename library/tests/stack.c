@@ -162,7 +162,7 @@ static size_t stated(const char *name) {
     } deep[] = {
         { "sci_logs_explain", 32 },  { "sci_logs_read", 32 },      { "sci_machine_logs", 32 }, { "sci_machine_open", 24 },
         { "sci_machine_clone", 24 }, { "sci_machine_replay", 24 }, { "sci_node_open", 24 },    { "sci_node_clone", 24 },
-        { "sci_node_start_log", 24 }, { "sci_logs_open", 24 },    { "sci_logs_audit", 20 },     { "sci_logs_order", 20 },   { "sci_logs_order_kind", 20 },
+        { "sci_logs_open", 24 },     { "sci_logs_audit", 20 },     { "sci_logs_order", 20 },   { "sci_logs_order_kind", 20 },
     };
     for (size_t i = 0; i < sizeof deep / sizeof *deep; i++) {
         if (strcmp(name, deep[i].name) == 0) {

@@ -1,5 +1,6 @@
 -- A new node whose homes are told, line by line, what those of another know.
-use Rattle.std.proofs.Common.{◌≡◌, ◌≢◌, ℕ, zero, suc, ◌+◌, ◌*◌, ◌/◌, ◌%◌, ◌<◌, ◌≤◌, List, length, get_or, set, length-set, replicate, refl, sym, ap, subst, ◌∙◌, arith, inl, inr, None}
+use Rattle.std.proofs.Common.{◌≡◌, ℕ, zero, suc, ◌+◌, ◌*◌, ◌/◌, ◌%◌, ◌<◌, ◌≤◌, length, get_or, set, length-set, replicate, refl, sym, ap, subst, ◌∙◌}
+use Rattle.std.proofs.Common.{arith, inl, inr}
 use Rattle.std.proofs.lemmas.{Bool.{cases_eq}, List.{get_or-set_other, get_or-set_same, length-replicate}}
 use Rattle.std.proofs.Math.Nat.{div-add-mod, div-lt_iff_lt-mul, mod-lt}
 use Rattle.sci_home.specs.{declared.state.HomeState.{HomeState}, Serving.{opening_home}}
@@ -55,7 +56,8 @@ place_low nodes line lines some lt =
     let product : (lines / nodes + 1) * nodes ≡ nodes * (lines / nodes) + nodes = grind arith in
     (div-lt_iff_lt-mul some).1 (omega arith)
 
-pub room_for : (node fresh : NodeOf) (limit line : ℕ) → 0 < node.cache.nodes → IsMade node limit fresh line → line < lines_of node → home_place fresh line < length fresh.homes
+pub room_for : (node fresh : NodeOf) (limit line : ℕ) → 0 < node.cache.nodes → IsMade node limit fresh line → line < lines_of node
+    → home_place fresh line < length fresh.homes
 room_for node fresh limit line some made lt =
     let nodes : fresh.cache.nodes ≡ node.cache.nodes = ap (λ (n : NodeOf). n.cache.nodes) made.is_fresh in
     let place : line / fresh.cache.nodes ≡ line / node.cache.nodes = ap (λ (k : ℕ). line / k) nodes in
@@ -86,7 +88,8 @@ made_next node fresh limit line state some made lt mine is =
       ];
       left = λ k above there.
           get_or-set_other fresh.homes place (k / fresh.cache.nodes) state opening_home
-          (λ same. other_place node.cache.nodes k line (there ∙ sym mine) (λ e. absurd (omega arith)) (places fresh.cache.nodes node.cache.nodes k line nodes same))
+          (λ same. other_place node.cache.nodes k line (there ∙ sym mine) (λ e. absurd (omega arith))
+          (places fresh.cache.nodes node.cache.nodes k line nodes same))
           ∙ made.left k (omega arith) there;
     }
 

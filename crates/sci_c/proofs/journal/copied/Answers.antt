@@ -1,4 +1,4 @@
-use Rattle.std.proofs.Common.{◌≡◌, ℕ, List, length, length-set, ap, ◌∙◌, arith}
+use Rattle.std.proofs.Common.{List, length, length-set, ap, ◌∙◌, arith}
 use Rattle.std.proofs.lemmas.List.{ext_get_or}
 use Rattle.sci_words.specs.{declared.stamped.Stamped.{Stamped}, Stamped.{zero_stamped}}
 use Rattle.sci_history.specs.Memory.{stamped_at}

@@ -1,8 +1,3 @@
-use Rattle.std.proofs.Common.{◌≡◌, List, subst}
-use Rattle.sci_words.specs.declared.stamped.Stamped.{Stamped}
-use Rattle.sci_history.specs.declared.entry.Entry.{Entry}
-use Rattle.sci_windows.specs.Order.{IsOrderFrom}
-use Rattle.sci_windows.specs.declared.window_order.WindowOrder.TheVariants as found
 use Rattle.sci_c.proofs.Begun.{faulty_begun, lawful_begun}
 use Rattle.sci_c.proofs.ordering.found_from.Goals as goal
 

@@ -1,4 +1,4 @@
-use Rattle.std.proofs.Common.{rules, ◌≡◌}
+use Rattle.std.proofs.Common.{rules}
 use Rattle.sci_c.proofs.Begun.{faulty_begun, lawful_begun}
 use Rattle.sci_c.proofs.ordering.kind_from.Goals as goal
 

@@ -1,4 +1,4 @@
-use Rattle.std.proofs.Common.{rules, ◌≡◌, sym, ◌∙◌}
+use Rattle.std.proofs.Common.{rules, sym, ◌∙◌}
 use Rattle.sci_c.proofs.{Begun.{lawful_zeros}, OrderFaults.{faulty_for}}
 use Rattle.sci_c.proofs.ordering.kind_from_zeros.Goals as goal
 

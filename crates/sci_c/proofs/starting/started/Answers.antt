@@ -1,4 +1,4 @@
-use Rattle.std.proofs.Common.{◌≡◌, ◌+◌, ◌<◌, refl, sym, subst, ◌∙◌, arith}
+use Rattle.std.proofs.Common.{◌+◌, refl, sym, subst, ◌∙◌, arith}
 use Rattle.sci_core.specs.{Node.{NodeOf}, Size.{size_of}}
 use Rattle.sci_c.proofs.HomesTold.{IsMade, homes_made, made_first, made_next, made_skip}
 use Rattle.sci_c.proofs.starting.started.Goals.{in-Some, in_default}

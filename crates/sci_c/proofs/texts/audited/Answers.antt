@@ -1,5 +1,4 @@
-use Rattle.std.proofs.Common.{◌≡◌, sym, ap, ◌∙◌}
-use Rattle.std.specs.Prelude.{Some, None, option_map}
+use Rattle.std.proofs.Common.{sym}
 use Rattle.sci_c.proofs.Begun.{audit_begun, audit_zeros}
 use Rattle.sci_c.proofs.texts.audited.Goals as goal
 

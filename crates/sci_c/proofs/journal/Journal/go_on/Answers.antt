@@ -1,4 +1,4 @@
-use Rattle.std.proofs.Common.{◌≡◌, sym, ap, subst}
+use Rattle.std.proofs.Common.{sym, ap, subst}
 use Rattle.sci_windows.specs.Relative.{AreEarly}
 use Rattle.sci_c.specs.Journal.{JournalOf}
 use Rattle.sci_c.proofs.journal.Journal.go_on.Goals as goal
