@@ -101,6 +101,15 @@ twin_of logs first last x sixteen lawful here =
       version = ap (λ (e : Entry). e.version) is ∙ version;
     }
 
+-- on one line the versions are as far apart
+versions_apart : (first : List Stamped) (a x b y : Step) → IsTwin first a x → IsTwin first b y → y.entry.op.line ≡ x.entry.op.line
+    → b.entry.version + x.entry.version ≡ a.entry.version + y.entry.version
+versions_apart first a x b y s t line =
+    let from = ap (λ (k : ℕ). (stamped_at first k).version) line in
+    let version_a = s.version in
+    let version_b = t.version in
+    omega arith
+
 twin_comes : (first : List Stamped) (reason : Reason) (a x b y : Step) → IsTwin first a x → IsTwin first b y → ComesAfter reason x y → ComesAfter reason a b
 twin_comes first Logged a x b y s t h =
     let place_a = s.place in
@@ -108,21 +117,15 @@ twin_comes first Logged a x b y s t h =
     let lt = h.1 in
     (t.node ∙ (h.0 ∙ sym s.node), omega arith)
 twin_comes first ReadsFrom a x b y s t h =
-    let from = ap (λ (k : ℕ). (stamped_at first k).version) h.0 in
-    let version_a = s.version in
-    let version_b = t.version in
+    let apart = versions_apart first a x b y s t h.0 in
     let same = h.3 in
     (t.line ∙ (h.0 ∙ sym s.line), t.making ∙ h.1, s.making ∙ h.2, omega arith)
 twin_comes first FromRead a x b y s t h =
-    let from = ap (λ (k : ℕ). (stamped_at first k).version) h.0 in
-    let version_a = s.version in
-    let version_b = t.version in
+    let apart = versions_apart first a x b y s t h.0 in
     let lt = h.3 in
     (t.line ∙ (h.0 ∙ sym s.line), t.making ∙ h.1, s.making ∙ h.2, omega arith)
 twin_comes first Coherence a x b y s t h =
-    let from = ap (λ (k : ℕ). (stamped_at first k).version) h.0 in
-    let version_a = s.version in
-    let version_b = t.version in
+    let apart = versions_apart first a x b y s t h.0 in
     let lt = h.3 in
     (t.line ∙ (h.0 ∙ sym s.line), t.making ∙ h.1, s.making ∙ h.2, omega arith)
 
@@ -134,23 +137,17 @@ twin_came first Logged a x b y s t h =
     (sym t.node ∙ (h.0 ∙ s.node), omega arith)
 twin_came first ReadsFrom a x b y s t h =
     let line : y.entry.op.line ≡ x.entry.op.line = sym t.line ∙ (h.0 ∙ s.line) in
-    let from = ap (λ (k : ℕ). (stamped_at first k).version) line in
-    let version_a = s.version in
-    let version_b = t.version in
+    let apart = versions_apart first a x b y s t line in
     let same = h.3 in
     (line, sym t.making ∙ h.1, sym s.making ∙ h.2, omega arith)
 twin_came first FromRead a x b y s t h =
     let line : y.entry.op.line ≡ x.entry.op.line = sym t.line ∙ (h.0 ∙ s.line) in
-    let from = ap (λ (k : ℕ). (stamped_at first k).version) line in
-    let version_a = s.version in
-    let version_b = t.version in
+    let apart = versions_apart first a x b y s t line in
     let lt = h.3 in
     (line, sym t.making ∙ h.1, sym s.making ∙ h.2, omega arith)
 twin_came first Coherence a x b y s t h =
     let line : y.entry.op.line ≡ x.entry.op.line = sym t.line ∙ (h.0 ∙ s.line) in
-    let from = ap (λ (k : ℕ). (stamped_at first k).version) line in
-    let version_a = s.version in
-    let version_b = t.version in
+    let apart = versions_apart first a x b y s t line in
     let lt = h.3 in
     (line, sym t.making ∙ h.1, sym s.making ∙ h.2, omega arith)
 
