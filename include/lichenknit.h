@@ -19,8 +19,8 @@
 ** All else is looked at. Any number may be passed in any field, and what can't be done is answered by a status.
 **
 ** MEMORY AND STACK. A call takes memory only if SCI_NO_MEMORY is among its statuses. sci_logs_read, sci_logs_explain and
-** sci_machine_logs take at most 32 KB of stack; those that open, clone or replay 24 KB; sci_logs_order and sci_logs_order_kind 12 KB;
-** all others 6 KB.
+** sci_machine_logs take at most 32 KB of stack; those that open, clone or replay 24 KB; sci_logs_audit, sci_logs_order and
+** sci_logs_order_kind 20 KB; all others 6 KB.
 **
 ** THE PROCESSOR. The library that `make library` builds needs an x86-64 processor of level v2, with SSE4.2, and doesn't look for
 ** one: an older processor ends the program by SIGILL. That of an archive by `make dist` needs any x86-64 processor.
@@ -613,7 +613,7 @@ sci_status sci_machine_logs(const sci_machine *machine, sci_logs *logs);
 ** most once: a request by sci_node_serve or sci_node_refuse, an answer by sci_node_accept, and any by sci_node_turn. Packets may come
 ** in any order. Nothing goes on about a line of a node whose packet is never given. A call that answers another status than SCI_OK has
 ** not taken the packet, nor has a turn that marks it with 0. At most min(lines, slots) answers are under way to a node, and nodes *
-** min(lines, slots) packets in all. No call but sci_node_open and sci_node_clone takes memory.
+** min(lines, slots) packets in all. No call but sci_node_open, sci_node_clone and sci_node_start_log takes memory.
 **
 ** What a node does next, and which requests it keeps for later, is its policy's to say: sci_node_turn does it in one call, and
 ** sci_node_next and sci_node_decide say it. A policy of one's own may do other events, and the logs are lawful with any. But one that
@@ -643,6 +643,17 @@ sci_status sci_node_close(sci_node *node);
 **   - SCI_MISUSE      node keeps no node, or copy isn't empty.
 **   - SCI_NO_MEMORY */
 sci_status sci_node_clone(const sci_node *node, sci_node *copy);
+
+/** Begins again with an empty log, at rest: serials go on from 0, and the node may issue limit operations. Each home that is here
+** knows what it knew, so versions go on, and the policy remembers what it remembered. All else is as in a new node. So a run goes on
+** after 65,536 operations of a node (sci_core::Node::new, and Node::serve for its homes, as if nodes had had the lines before).
+**
+**   - SCI_OK
+**   - SCI_RANGE       Not a limit of 1 to 65,536.
+**   - SCI_NOT_ENABLED An operation is pending, a line has an entry, or an answer waits. The node stays as it is.
+**   - SCI_NO_MEMORY
+**   - SCI_MISUSE      The object keeps no node. */
+sci_status sci_node_start_log(sci_node *node, uint32_t limit);
 
 /** Issues an operation, and gives its serial: the count of operations issued before (Node::issue).
 **
@@ -800,6 +811,10 @@ sci_status sci_node_is_at_rest(const sci_node *node, uint32_t *at_rest);
 
 /** @name Logs
 ** Those of all nodes, with the last contents of each line, of this machine or of any other.
+**
+** Logs can begin with given contents of each line: the logs of a window of a run, which goes on from there. Their versions go on from
+** those of the first contents. A run of any length is judged so, window by window: sci_logs_go_on begins the next one where this one
+** ends. Windows that are lawful one after the other are one lawful run. In each window a node's serials rise, and may begin with 0 again.
 ** @{ */
 
 /** Puts logs without entries into an empty object. Each line's last contents are zero words at version 0 (Logs::new and
@@ -837,6 +852,30 @@ sci_status sci_logs_set_last(sci_logs *logs, uint8_t line, const sci_stamped *co
 /** Reads the last contents of a line (Last::get). The statuses are those of sci_logs_set_last. */
 sci_status sci_logs_last(const sci_logs *logs, uint8_t line, sci_stamped *contents);
 
+/** Replaces the contents with which a line begins. Without this call, and without sci_logs_go_on, each line begins with zero words at
+** version 0 (Last::set).
+**
+**   - SCI_OK
+**   - SCI_RANGE       There is no such line, or the version is above 2^63.
+**   - SCI_NO_MEMORY
+**   - SCI_MISUSE      The object keeps no logs. */
+sci_status sci_logs_set_first(sci_logs *logs, uint8_t line, const sci_stamped *contents);
+
+/** Reads the contents with which a line begins (Last::get).
+**
+**   - SCI_OK
+**   - SCI_RANGE       There is no such line.
+**   - SCI_MISUSE      The object keeps no logs. */
+sci_status sci_logs_first(const sci_logs *logs, uint8_t line, sci_stamped *contents);
+
+/** Begins the next window: it drops all entries, and each line begins with its last contents, which stay.
+**
+**   - SCI_OK
+**   - SCI_RANGE       A version of the last contents is above 2^63.
+**   - SCI_NO_MEMORY
+**   - SCI_MISUSE      The object keeps no logs. */
+sci_status sci_logs_go_on(sci_logs *logs);
+
 /** Gives how many nodes and lines there are.
 **
 **   - SCI_OK
@@ -858,8 +897,10 @@ sci_status sci_logs_count(const sci_logs *logs, uint8_t node, size_t *count);
 **   - SCI_MISUSE      The object keeps no logs. */
 sci_status sci_logs_entry(const sci_logs *logs, uint8_t node, size_t place, sci_entry *entry);
 
-/** Audits the logs. kind is SCI_LAWFUL exactly if on each line one memory of one thread explains the logs and the last
-** contents. Else the verdict is the first fault of the lowest line that has one (sci_history::audit).
+/** Audits the logs. kind is SCI_LAWFUL exactly if on each line one memory of one thread, which begins with the first contents,
+** explains the logs and the last contents. Else the verdict is the first fault of the lowest line that has one. In a window a version
+** that isn't above that of the first contents is missing, as is one that is too high; a load may have that of the first contents
+** (sci_history::audit, sci_windows::audit_from).
 **
 **   - SCI_OK
 **   - SCI_NO_MEMORY
@@ -872,7 +913,7 @@ sci_status sci_logs_audit(const sci_logs *logs, sci_verdict *verdict);
 ** ends the text (sci_reports::ReadLog::explained).
 **
 **   - SCI_OK          text and used are written.
-**   - SCI_RANGE       The logs can't be a text: a serial is 65,536 or more.
+**   - SCI_RANGE       The logs can't be a text: a serial is 65,536 or more, or they begin with contents that were given.
 **   - SCI_FULL        It is longer than room. used says how long; text is as it was.
 **   - SCI_NO_MEMORY
 **   - SCI_MISUSE      The object keeps no logs. */
@@ -880,7 +921,7 @@ sci_status sci_logs_explain(const sci_logs *logs, uint8_t *text, size_t room, si
 
 /** Looks for one order of all entries that keeps the order of each node's log and that one memory of one thread explains, and
 ** writes it over the first entries, or a cycle of entries, each of which would have to come after the next, and the last after
-** the first. used is how many they are: all entries, or at most 32 (sci_history::sequential_order).
+** the first. used is how many they are: all entries, or at most 32 (sci_history::sequential_order, sci_windows::order_from).
 **
 **   - SCI_OK          kind, entries and used are written. used is 0 for SCI_UNLAWFUL.
 **   - SCI_FULL        There is room for less. used says for how many; kind and entries are as they were.
@@ -888,7 +929,7 @@ sci_status sci_logs_explain(const sci_logs *logs, uint8_t *text, size_t room, si
 **   - SCI_MISUSE      The object keeps no logs. */
 sci_status sci_logs_order(const sci_logs *logs, uint32_t *kind, sci_entry *entries, size_t room, size_t *used);
 
-/** Gives the kind alone that sci_logs_order would find, which needs no room (sci_history::sequential_order).
+/** Gives the kind alone that sci_logs_order would find, which needs no room (sci_history::sequential_order, sci_windows::order_from).
 **
 **   - SCI_OK
 **   - SCI_NO_MEMORY
@@ -907,6 +948,7 @@ sci_status sci_logs_read(sci_logs *logs, const uint8_t *text, size_t length, sci
 ** (sci_text::logs_text).
 **
 **   - SCI_OK          text and used are written.
+**   - SCI_RANGE       The logs can't be a text: they begin with contents that were given.
 **   - SCI_FULL        The text is longer than room. used says how long; text is as it was.
 **   - SCI_NO_MEMORY
 **   - SCI_MISUSE      The object keeps no logs. */

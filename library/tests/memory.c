@@ -48,7 +48,8 @@ static int run(long refused) {
     const sci_packet packet = { 0, SCI_CMD_MREAD, 1, 0, 0, SCI_NO_NODE, 0, 0, 0, { 0, 0, 0, 0, 0, 0, 0, 0 } };
     sci_machine machine = SCI_INIT, copy = SCI_INIT, again = SCI_INIT;
     sci_node node = SCI_INIT, other = SCI_INIT;
-    sci_logs logs = SCI_INIT, read = SCI_INIT;
+    const sci_stamped first = { 0, { 0, 0, 0, 7, 0, 0, 0, 0 } }, last = { 1, { 0, 0, 0, 42, 0, 0, 0, 0 } };
+    sci_logs logs = SCI_INIT, read = SCI_INIT, window = SCI_INIT;
     sci_verdict verdict = { 9, 9, 9, 9, 9 };
     sci_text_fault fault = { 0, 0, 0 };
     sci_dead dead = { 9, 9, 9 };
@@ -92,6 +93,7 @@ static int run(long refused) {
     MAKE(sci_machine_clone(&machine, &copy), copy);
     MAKE(sci_node_open(&node, 0, 2, 4, 2, 16), node);
     MAKE(sci_node_clone(&node, &other), other);
+    MAKE(sci_node_start_log(&other, 16), other);
     MAKE(sci_entry_write(&made, text, sizeof text, &used), machine);
     MAKE(sci_packet_write(&packet, text, sizeof text, &used), machine);
     MAKE(sci_machine_sharing(&machine, 0, list, sizeof list, &used), machine);
@@ -107,6 +109,14 @@ static int run(long refused) {
         const sci_entry entry = { 1, 0, 0, serial, store, 0, serial + 1 };
         MAKE(sci_logs_push(&read, &entry), read);
     }
+    MAKE(sci_logs_open(&window, 2, 1), window);
+    MAKE(sci_logs_set_first(&window, 0, &first), window);
+    MAKE(sci_logs_push(&window, &made), window);
+    MAKE(sci_logs_set_last(&window, 0, &last), window);
+    MAKE(sci_logs_audit(&window, &verdict), window);
+    MAKE(sci_logs_order(&window, &kind, entries, 4, &used), window);
+    MAKE(sci_logs_order_kind(&window, &kind), window);
+    MAKE(sci_logs_go_on(&window), window);
     left = -1;
     if (verdict.kind != SCI_LAWFUL || kind != SCI_ORDER || events == 0 || dead.count != 0) {
         exit(5);
@@ -114,7 +124,8 @@ static int run(long refused) {
     if (sci_machine_close(&again) || sci_node_close(&node) || sci_node_close(&other)) {
         exit(7);
     }
-    if (sci_machine_close(&machine) || sci_machine_close(&copy) || sci_logs_close(&logs) || sci_logs_close(&read) || live != 0) {
+    if (sci_machine_close(&machine) || sci_machine_close(&copy) || sci_logs_close(&logs) || sci_logs_close(&read) ||
+        sci_logs_close(&window) || live != 0) {
         printf("%ld blocks are left\n", live);
         exit(6);
     }

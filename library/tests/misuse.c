@@ -53,6 +53,9 @@ static void no_logs(void *object) {
     EXPECT(sci_logs_push(as_logs(object), &entry), SCI_MISUSE);
     EXPECT(sci_logs_set_last(as_logs(object), 0, &stamped), SCI_MISUSE);
     EXPECT(sci_logs_last(as_logs(object), 0, &stamped), SCI_MISUSE);
+    EXPECT(sci_logs_set_first(as_logs(object), 0, &stamped), SCI_MISUSE);
+    EXPECT(sci_logs_first(as_logs(object), 0, &stamped), SCI_MISUSE);
+    EXPECT(sci_logs_go_on(as_logs(object)), SCI_MISUSE);
     EXPECT(sci_logs_size(as_logs(object), &nodes, &lines), SCI_MISUSE);
     EXPECT(sci_logs_count(as_logs(object), 0, &count), SCI_MISUSE);
     EXPECT(sci_logs_entry(as_logs(object), 0, 0, &found), SCI_MISUSE);
@@ -83,6 +86,7 @@ static void no_node(void *object) {
     memset(&home, 7, sizeof home);
     memset(&read, 7, sizeof read);
     EXPECT(sci_node_clone(as_node(object), &copy), SCI_MISUSE);
+    EXPECT(sci_node_start_log(as_node(object), 16), SCI_MISUSE);
     EXPECT(sci_node_turn(as_node(object), &read, 0, &from, 1, &read, 1, &used, &want), SCI_MISUSE);
     CHECK(copy.live == 0 && from == 7 && read.target == 0x0707 && used == 7);
     EXPECT(sci_node_begin_turn(as_node(object)), SCI_MISUSE);
@@ -260,6 +264,45 @@ static void machines(void) {
     CHECK(machine.at == NULL && machine.live == 0);
     EXPECT(sci_machine_clone(&machine, &copy), SCI_MISUSE);
     no_machine(&machine);
+}
+
+/* Logs that begin with given contents can't be a text, and the next window has no entry. */
+static void begun(void) {
+    sci_logs kept = SCI_INIT;
+    sci_stamped stamped = { 7, { 7, 7, 7, 7, 7, 7, 7, 7 } };
+    sci_verdict verdict = { 7, 7, 7, 7, 7 };
+    uint8_t text[128] = { 7 };
+    size_t used = 7;
+    EXPECT(sci_logs_open(&kept, 2, 2), SCI_OK);
+    EXPECT(sci_logs_first(&kept, 2, &stamped), SCI_RANGE);
+    CHECK(stamped.version == 7);
+    EXPECT(sci_logs_first(&kept, 1, &stamped), SCI_OK);
+    CHECK(stamped.version == 0 && stamped.words[7] == 0);
+    stamped = (sci_stamped){ (UINT64_C(1) << 63) + 1, { 0, 0, 0, 42, 0, 0, 0, 0 } };
+    EXPECT(sci_logs_set_first(&kept, 1, &stamped), SCI_RANGE);
+    EXPECT(sci_logs_set_last(&kept, 1, &stamped), SCI_OK);
+    EXPECT(sci_logs_go_on(&kept), SCI_RANGE);
+    EXPECT(sci_logs_write(&kept, text, 0, &used), SCI_FULL);
+    used = 7;
+    stamped.version--;
+    EXPECT(sci_logs_set_first(&kept, 2, &stamped), SCI_RANGE);
+    EXPECT(sci_logs_set_first(&kept, 1, &stamped), SCI_OK);
+    EXPECT(sci_logs_write(&kept, text, sizeof text, &used), SCI_RANGE);
+    EXPECT(sci_logs_explain(&kept, text, sizeof text, &used), SCI_RANGE);
+    CHECK(used == 7 && text[0] == 7);
+    EXPECT(sci_logs_set_last(&kept, 1, &stamped), SCI_OK);
+    EXPECT(sci_logs_audit(&kept, &verdict), SCI_OK);
+    CHECK(verdict.kind == SCI_LAWFUL);
+    EXPECT(sci_logs_set_last(&kept, 0, &stamped), SCI_OK);
+    EXPECT(sci_logs_audit(&kept, &verdict), SCI_OK);
+    CHECK(verdict.kind == SCI_LAST_DIFFERS && verdict.line == 0);
+    EXPECT(sci_logs_push(&kept, &entry), SCI_OK);
+    EXPECT(sci_logs_go_on(&kept), SCI_OK);
+    EXPECT(sci_logs_count(&kept, 0, &used), SCI_OK);
+    EXPECT(sci_logs_first(&kept, 0, &stamped), SCI_OK);
+    EXPECT(sci_logs_audit(&kept, &verdict), SCI_OK);
+    CHECK(used == 0 && stamped.version == UINT64_C(1) << 63 && stamped.words[3] == 42 && verdict.kind == SCI_LAWFUL);
+    EXPECT(sci_logs_close(&kept), SCI_OK);
 }
 
 static void logs(void) {
@@ -478,6 +521,7 @@ int main(void) {
     packets();
     machines();
     logs();
+    begun();
     nodes();
     return failed;
 }

@@ -15,7 +15,9 @@ import subprocess
 import sys
 from collections import deque
 
-from lichenknit import Act, BadText, Event, EventKind, Lane, Logs, Machine, Node, NotEnabled, Op, OrderKind, Packet, Status, packets, size_text
+from lichenknit import (
+    Act, BadText, Contents, Event, EventKind, Lane, Logs, Machine, Node, NotEnabled, Op, OrderKind, Packet, Status, VerdictKind, packets, size_text,
+)
 
 EXAMPLES = os.path.join(os.path.dirname(os.path.abspath(__file__)), "..", "..", "examples")
 ASKS = ("mread", "fread", "cread", "claim", "clear", "purge", "roll", "wback", "setback")
@@ -131,6 +133,57 @@ def explain(tally, text):
     tally.same("what is wrong with a log", logs.explain().encode(), tally.ran("explain", logs.text().encode(), program=tally.sciview))
 
 
+def left(op, old):
+    """The word that an operation leaves."""
+    added, kept = (old + op.datum) % 2**64, old == op.arg
+    return {
+        Act.LOAD: old,
+        Act.STORE: op.datum,
+        Act.MASK_SWAP: (op.datum & op.arg) | (old & ~op.arg),
+        Act.COMPARE_SWAP: op.datum if kept else old,
+        Act.FETCH_ADD: added,
+        Act.BOUNDED_ADD: old if kept else added,
+        Act.WRAP_ADD: op.datum if kept else added,
+    }[op.act]
+
+
+def contents_after(entries, lines):
+    """The contents of each line after entries in one order, begun with zeros."""
+    words, versions = [[0] * 8 for _ in range(lines)], [0] * lines
+    for it in entries:
+        line = words[it.op.line]
+        line[it.op.word], versions[it.op.line] = left(it.op, line[it.op.word]), it.version
+    return [Contents(version, tuple(line)) for version, line in zip(versions, words)]
+
+
+def windows(tally, draw, order, size, last):
+    """One order of all entries is cut, and both parts are lawful windows. A mistake in the second is found there as in all entries
+    together."""
+    cut = draw.randrange(len(order) + 1)
+    window, whole = Logs(*size), Logs(*size)
+    window.extend(order[:cut])
+    for line, contents in enumerate(contents_after(order[:cut], size[1])):
+        window.set_last(line, contents)
+        whole.set_last(line, last[line])
+    tally.same("the first window", (window.audit().kind, window.order_kind()), (VerdictKind.LAWFUL, OrderKind.ORDER))
+    window.go_on()
+    rest = order[cut:]
+    if rest and draw.random() < 0.8:
+        at = draw.randrange(len(rest))
+        it = rest[at]
+        word = it.word if it.word is None or draw.random() < 0.5 else (it.word + 1) % 2**64
+        rest[at] = it._replace(word=word, version=it.version + draw.randrange(2))
+    window.extend(rest)
+    whole.extend(order[:cut] + rest)
+    for line in range(size[1]):
+        window.set_last(line, last[line])
+    tally.same("a window's verdict", window.audit(), whole.audit())
+    kind, found = window.order()
+    tally.same("a window's kind of order", (kind, window.order_kind()), (whole.order_kind(), kind))
+    if kind == OrderKind.ORDER:
+        tally.same("a window's order", sorted(found, key=place_of), sorted(rest, key=place_of))
+
+
 def changed(draw, text):
     """The text with another number, or with bytes that are gone or twice there."""
     number = draw.choice([it.span() for it in re.finditer(rb"\d+", text)])
@@ -174,6 +227,8 @@ def machine_run(tally, draw, calls):
         kind, order = logs.order()
         tally.same("an order", (kind, sorted(order, key=place_of)), (OrderKind.ORDER, sorted(entries, key=place_of)))
         tally.same("the kind of order", logs.order_kind(), kind)
+        for _ in range(8):
+            windows(tally, draw, list(order), size[:2], [logs.last(line) for line in range(size[1])])
         for node in range(size[0]):
             tally.same("the order of a node", [it for it in order if it.node == node], list(logs.of(node)))
         for _ in range(8):

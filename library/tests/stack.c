@@ -77,6 +77,12 @@ static sci_status status;
     CALL(sci_logs_count, &empty, 0, &used)                                                                     \
     CALL(sci_logs_explain, &empty, text, sizeof text, &length)                                                 \
     CALL(sci_logs_entry, &empty, 0, 0, &entry)                                                                 \
+    CALL(sci_logs_set_first, &empty, 0, &stamped)                                                              \
+    CALL(sci_logs_first, &empty, 0, &stamped)                                                                  \
+    CALL(sci_logs_audit, &empty, &verdict)                                                                     \
+    CALL(sci_logs_order, &empty, &number, entries, 64, &used)                                                  \
+    CALL(sci_logs_order_kind, &empty, &number)                                                                 \
+    CALL(sci_logs_go_on, &empty)                                                                               \
     CALL(sci_packet_encode, &packet, bytes, &length)                                                             \
     CALL(sci_packet_decode, bytes, length, &packet, &used)                                                     \
     CALL(sci_packet_to_words, &packet, words, &used)                                                           \
@@ -89,6 +95,7 @@ static sci_status status;
     CALL(sci_node_open, &node, 15, 16, 64, 8, 16)                                                              \
     CALL(sci_node_open, &home, 0, 16, 64, 8, 16)                                                               \
     CALL(sci_node_clone, &node, &other)                                                                        \
+    CALL(sci_node_start_log, &other, 16)                                                                       \
     CALL(sci_node_issue, &node, &store, &number)                                                               \
     CALL(sci_node_pending, &node, 0, &op, &number)                                                             \
     CALL(sci_node_turn, &other, came, 8, marks, 8, sent, 8 + SCI_TURN_ROOM, &used, &want)                        \
@@ -155,7 +162,7 @@ static size_t stated(const char *name) {
     } deep[] = {
         { "sci_logs_explain", 32 },  { "sci_logs_read", 32 },      { "sci_machine_logs", 32 }, { "sci_machine_open", 24 },
         { "sci_machine_clone", 24 }, { "sci_machine_replay", 24 }, { "sci_node_open", 24 },    { "sci_node_clone", 24 },
-        { "sci_logs_open", 24 },     { "sci_logs_order", 12 },     { "sci_logs_order_kind", 12 },
+        { "sci_logs_open", 24 },     { "sci_logs_audit", 20 },     { "sci_logs_order", 20 },   { "sci_logs_order_kind", 20 },
     };
     for (size_t i = 0; i < sizeof deep / sizeof *deep; i++) {
         if (strcmp(name, deep[i].name) == 0) {

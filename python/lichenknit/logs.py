@@ -116,6 +116,21 @@ class Logs(Owner):
         """Replaces the last contents of a line."""
         self._call("set_last", line, contents._as_c())
 
+    def first(self, line: int) -> Contents:
+        """The contents with which a line begins."""
+        contents = _native.sci_stamped()
+        self._call("first", line, contents)
+        return Contents._of(contents)
+
+    def set_first(self, line: int, contents: Contents) -> None:
+        """Replaces the contents with which a line begins, which are zero words at version 0 if they were not given. So these are the
+        logs of a window of a longer run."""
+        self._call("set_first", line, contents._as_c())
+
+    def go_on(self) -> None:
+        """Begins the next window: it drops all entries, and each line begins with its last contents."""
+        self._call("go_on")
+
     def of(self, node: int) -> Log:
         """The log of a node."""
         nodes, _ = self.size

@@ -35,6 +35,11 @@ class Node(Owner):
     def __deepcopy__(self, memo: object) -> Node:
         return self.clone()
 
+    def start_log(self, limit: int) -> None:
+        """Begins again with an empty log, at rest: serials go on from 0, and the node may issue that many operations. Its homes know what
+        they knew."""
+        self._call("start_log", limit)
+
     def issue(self, op: Op) -> int:
         """Issues an operation, and gives its serial. It raises Full if the node has issued all that it may."""
         serial = c_uint32()

@@ -181,7 +181,7 @@ def check_programs(tally, cc, room):
     memory = "-Wl,--wrap=malloc,--wrap=realloc,--wrap=free"
     cxx = next((it for it in (os.environ.get("CXX"), "c++", "g++", "clang++") if it and shutil.which(it)), None)
     tally.run("the header as C11", [cc, *C, *flags, "-fsyntax-only", "-x", "c", HEADER])
-    made = [(cc, C, f"library/tests/{name}.c", [memory] if name == "memory" else []) for name in ("layout", "misuse", "texts", "turns", "memory")]
+    made = [(cc, C, f"library/tests/{name}.c", [memory] if name == "memory" else []) for name in ("layout", "misuse", "texts", "turns", "windows", "memory")]
     made += [(cc, C, f"examples/c/{name}.c", []) for name in ("first", "two_nodes", "any_order", "lock_step", "turns", "record")]
     if cxx:
         tally.run("the header as C++17", [cxx, *CXX, *flags, "-fsyntax-only", "-x", "c++", HEADER])

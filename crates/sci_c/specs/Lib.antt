@@ -1,5 +1,6 @@
 -- What the C interface says.
 pub mod Asked
+pub mod Begun
 pub mod Calls
 pub mod Cloning
 pub mod Closing
@@ -17,6 +18,7 @@ pub mod Order
 pub mod Packet
 pub mod Replaying
 pub mod Seeing
+pub mod Starting
 pub mod Taking
 pub mod Texts
 pub mod Turning

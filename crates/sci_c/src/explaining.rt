@@ -1,6 +1,6 @@
 //! What is wrong with logs, in words.
 
-ghost use Rattle.std.specs.Prelude.{◌≡◌, ◌≢◌, ◌⊎◌, ◌∷◌, []};
+ghost use Rattle.std.specs.Prelude.{◌≡◌, ◌≢◌, ◌⊎◌, ◌∷◌, [], IsSome};
 ghost use Rattle.sci_text.specs.{LogValue.{AreLogs}, declared.fault.TextFaultKind.TheVariants.{Memory}};
 ghost use Rattle.sci_c_values.specs.declared.status.TheConstants.{SCI_FULL, SCI_NO_MEMORY, SCI_OK, SCI_RANGE};
 ghost use Rattle.sci_c.specs.{Calls.{IsLook}, Explaining.{IsExplainedOver, IsLongerExplanation}, Kinds.{On, logs_in}};
@@ -28,11 +28,15 @@ fn status_of_unread(kind: TextFaultKind) -> u32
 fn explain(alloc: Global, journal: &Journal, text: &mut [u8], used: &mut usize) -> u32
     ensures written { result ≡ SCI_OK → IsExplainedOver text.old text.new used.new journal.now }
     ensures full { result ≡ SCI_FULL → IsLongerExplanation text.old used.new journal.now }
-    ensures range { result ≡ SCI_RANGE → AreLogs journal.now.nodes journal.now.logs journal.now.last → ⊥ }
+    ensures range { result ≡ SCI_RANGE → IsSome journal.now.first
+        ⊎ (AreLogs journal.now.nodes journal.now.logs journal.now.last → ⊥) }
     ensures status { (result ≡ SCI_OK) ⊎ ((result ≡ SCI_FULL) ⊎ ((result ≡ SCI_RANGE) ⊎ (result ≡ SCI_NO_MEMORY))) }
     ensures same { result ≢ SCI_OK → text.new ≡ text.old }
     ensures same_used { result ≢ SCI_OK → result ≢ SCI_FULL → used.new ≡ used.old }
 {
+    if journal.first().is_some() {
+        return SCI_RANGE;
+    }
     no_log_fault();
     let Ok(made) = logs_text(alloc, journal.nodes(), journal.logs(), journal.last()) else {
         return SCI_NO_MEMORY;
@@ -58,7 +62,7 @@ pub extern "C" fn sci_logs_explain(
     ensures written { result ≡ SCI_OK → On logs_in object.old.value (IsExplainedOver text.old text.new used.new) }
     ensures full { result ≡ SCI_FULL → On logs_in object.old.value (IsLongerExplanation text.old used.new) }
     ensures range { result ≡ SCI_RANGE → On logs_in object.old.value
-        (λ journal. AreLogs journal.nodes journal.logs journal.last → ⊥) }
+        (λ journal. IsSome journal.first ⊎ (AreLogs journal.nodes journal.logs journal.last → ⊥)) }
     ensures same { result ≢ SCI_OK → text.new ≡ text.old }
     ensures same_used { result ≢ SCI_OK → result ≢ SCI_FULL → used.new ≡ used.old }
     ensures kept { IsLook logs_in (SCI_NO_MEMORY ∷ SCI_RANGE ∷ SCI_FULL ∷ []) object.old.value result object.new.value }

@@ -1,36 +1,69 @@
-//! Logs with last contents.
+//! Logs with first and last contents.
+
+ghost use Rattle.std.specs.Prelude.{◌≡◌, ◌↔◌, IsTrue};
+ghost use Rattle.sci_windows.specs.Relative.{AreEarly};
 
 use sci_c_values::{SCI_FULL, SCI_NO_MEMORY, SCI_OK, SciEntry};
 use sci_history::{Entry, Last, Logs, PushFault};
-use sci_words::{Stamped, WORDS_PER_LINE};
-use std::alloc::Global;
+use sci_words::{Line, Stamped, WORDS_PER_LINE};
+use std::alloc::{AllocError, Global};
 use std::marker::Model;
 
-/// The logs of a machine of some nodes, and its last contents. Each entry is on one of its lines, and on a word of it.
+/// No version of first contents is above this, so that no window comes to the end of the versions.
+pub(crate) const MAX_FIRST_VERSION: u64 = 1 << 63;
+
+/// The logs of a machine of some nodes, the contents with which they begin, if they were given, and its last contents. Each entry
+/// is on one of its lines, and on a word of it.
 #[derive(Drop)]
 pub struct Journal {
     nodes: u8,
     logs: Logs,
+    first: Option<Box<Last, Global>>,
     last: Last,
 }
 
+/// Whether no version of contents is above that of first contents.
+fn are_early(contents: &Last) -> bool
+    ensures { IsTrue result ↔ AreEarly contents.now }
+{
+    for line in 0..contents.lines() {
+        if contents.get(line).version > MAX_FIRST_VERSION {
+            return false;
+        }
+    }
+    true
+}
+
+/// The same contents.
+fn copied(contents: &Last) -> Last
+    ensures { result ≡ contents.now }
+{
+    let mut copy = Last::zero(contents.lines());
+    for line in 0..contents.lines() {
+        copy.set(line, contents.get(line));
+    }
+    copy
+}
+
 impl Model for Journal {
+    ghost use Rattle.std.specs.Prelude.{option_map};
     ghost use Rattle.sci_c.specs.Journal.{JournalOf, IsJournal};
 
     ghost Value = { JournalOf };
 
-    ghost view = { λ journal. record { nodes = journal.nodes; logs = journal.logs; last = journal.last } };
+    ghost view = { λ journal. record { nodes = journal.nodes; logs = journal.logs; first = option_map (λ first. first.value) journal.first; last = journal.last } };
 
-    ghost invariant = { λ journal. IsJournal (record { nodes = journal.nodes; logs = journal.logs; last = journal.last }) };
+    ghost invariant = { λ journal. IsJournal (record { nodes = journal.nodes; logs = journal.logs; first = option_map (λ first. first.value) journal.first; last = journal.last }) };
 }
 
 impl Journal {
-    ghost use Rattle.std.specs.Prelude.{◌≡◌, ◌≢◌, ◌<◌, ◌≤◌, ◌↔◌, ◌⊎◌, IsTrue, length};
+    ghost use Rattle.std.specs.Prelude.{◌≡◌, ◌≢◌, ◌^◌, ◌<◌, ◌≤◌, ◌↔◌, ◌⊎◌, IsTrue, IfOk, OnOk, OnErr, true, false, length, option_map};
     ghost use Rattle.sci_words.specs.declared.limits.TheConstants.{MAX_NODES, MAX_OPERATIONS};
-    ghost use Rattle.sci_history.specs.{Audit.{AreWithin, IsWithin}, Placed.{log_of}};
+    ghost use Rattle.sci_history.specs.{Audit.{AreWithin, IsWithin}, Memory.{stamped_at}, Placed.{log_of}};
     ghost use Rattle.sci_text.specs.LogValue.{IsSize};
     ghost use Rattle.sci_c_values.specs.declared.status.TheConstants.{SCI_FULL, SCI_NO_MEMORY, SCI_OK};
-    ghost use Rattle.sci_c.specs.Journal.{FitsJournal, empty_journal, journal_of, with_entry, with_last};
+    ghost use Rattle.sci_windows.specs.Relative.{AreEarly};
+    ghost use Rattle.sci_c.specs.Journal.{FitsJournal, IsBeginning, empty_journal, first_of, journal_of, next_window, with_entry, with_first, with_last};
 
     /// Logs without entries, and zero words at version 0. Requires that there are 1 to 16 nodes and 1 to 64 lines.
     pub(crate) fn new(alloc: Global, nodes: u8, lines: u8) -> Journal
@@ -40,6 +73,7 @@ impl Journal {
         Journal {
             nodes,
             logs: Logs::new(alloc),
+            first: None,
             last: Last::zero(lines),
         }
     }
@@ -51,7 +85,12 @@ impl Journal {
         requires within { AreWithin (length last) logs }
         ensures { result ≡ journal_of nodes logs last }
     {
-        Journal { nodes, logs, last }
+        Journal {
+            nodes,
+            logs,
+            first: None,
+            last,
+        }
     }
 
     /// How many nodes the machine has.
@@ -67,6 +106,17 @@ impl Journal {
         ensures within { AreWithin (length self.now.last) self.now.logs }
     {
         &self.logs
+    }
+
+    /// The contents with which the logs begin, or None if they were not given: zero words at version 0.
+    pub(crate) fn first(&self) -> Option<&Last>
+        ensures first { option_map (λ first. first.now) result ≡ self.now.first }
+        ensures begins { IsBeginning (length self.now.last) self.now.first }
+    {
+        match &self.first {
+            Some(first) => Some(first),
+            None => None,
+        }
     }
 
     /// The last contents.
@@ -109,5 +159,60 @@ impl Journal {
         ensures { self.new ≡ with_last self.old line contents }
     {
         self.last.set(line, contents);
+    }
+
+    /// The contents with which a line begins. Requires that there is such a line.
+    pub(crate) fn first_contents(&self, line: u8) -> Stamped
+        requires { line < length self.now.last }
+        ensures { result ≡ stamped_at (first_of self.now) line }
+    {
+        match &self.first {
+            Some(first) => first.get(line),
+            None => Stamped {
+                line: Line::zero(),
+                version: 0,
+            },
+        }
+    }
+
+    /// Replaces the contents with which a line begins. Refused, unchanged, if memory is. Requires that there is such a line, and that
+    /// the version isn't above 2^63.
+    pub(crate) fn set_first(
+        &mut self,
+        alloc: Global,
+        line: u8,
+        contents: Stamped,
+    ) -> Result<(), AllocError>
+        requires line { line < length self.old.last }
+        requires early { contents.version ≤ 2 ^ 63 }
+        ensures done { OnOk result (self.new ≡ with_first self.old line contents) }
+        ensures same { OnErr result (self.new ≡ self.old) }
+    {
+        match &mut self.first {
+            Some(first) => first.set(line, contents),
+            None => {
+                let mut first = Box::new(alloc, Last::zero(self.last.lines()))?;
+                first.set(line, contents);
+                self.first = Some(first);
+            }
+        }
+        Ok(())
+    }
+
+    /// Drops all entries, and begins with the last contents. False, unchanged, if a version of theirs is above 2^63. Refused,
+    /// unchanged, if memory is.
+    pub(crate) fn go_on(&mut self, alloc: Global) -> Result<bool, AllocError>
+        ensures done { IfOk result (λ done. done ≡ true → self.new ≡ next_window self.old) }
+        ensures late { IfOk result (λ done. done ≡ false → AreEarly self.old.last → ⊥) }
+        ensures not { IfOk result (λ done. done ≡ false → self.new ≡ self.old) }
+        ensures same { OnErr result (self.new ≡ self.old) }
+    {
+        if !are_early(&self.last) {
+            return Ok(false);
+        }
+        let first = Box::new(alloc, copied(&self.last))?;
+        self.first = Some(first);
+        self.logs = Logs::new(alloc);
+        Ok(true)
     }
 }

@@ -20,6 +20,7 @@ mod packet;
 mod replaying;
 mod room;
 mod seeing;
+mod starting;
 mod taking;
 mod texts;
 mod thing;

@@ -1,4 +1,4 @@
-//! Logs with last contents.
+//! Logs with first and last contents.
 
 ghost use denote.RawPtr.{null_ptr};
 ghost use Rattle.std.specs.Prelude.{◌≡◌, ◌≢◌, ◌<◌, ◌≤◌, ◌⊎◌, ◌∷◌, [], Some, length};
@@ -7,16 +7,17 @@ ghost use Rattle.sci_history.specs.Placed.{log_of};
 ghost use Rattle.sci_text.specs.LogValue.{IsSize};
 ghost use Rattle.sci_c_values.specs.declared.status.TheConstants.{SCI_FULL, SCI_NO_MEMORY, SCI_OK, SCI_RANGE};
 ghost use Rattle.sci_c_values.specs.{Entry.{SaysEntry}, Saying.{SaysNone}};
-ghost use Rattle.sci_c.specs.{Calls.{IsChange, IsLook}, Closing.{IsClosed, IsOpened}, Journal.{FitsJournal, empty_journal}};
-ghost use Rattle.sci_c.specs.{Kinds.{Goes, On, logs_in}, Logs.{IsEntryAt, IsFull, IsLastOf, IsLastSet, IsPushed}};
+ghost use Rattle.sci_c.specs.{Calls.{IsChange, IsLook}, Closing.{IsClosed, IsOpened}, Journal.{FitsJournal, empty_journal, next_window}};
+ghost use Rattle.sci_c.specs.{Kinds.{Goes, On, logs_in}, Logs.{IsEntryAt, IsFirstOf, IsFirstSet, IsFull, IsLastOf, IsLastSet, IsNoFirst, IsPushed}};
+ghost use Rattle.sci_windows.specs.Relative.{AreEarly};
 
 use crate::closing::{closed, opened};
 use crate::handle::SciObject;
-use crate::journal::Journal;
+use crate::journal::{Journal, MAX_FIRST_VERSION};
 use crate::thing::Thing;
 use sci_c_values::{
-    SCI_MISUSE, SCI_OK, SCI_RANGE, SciEntry, SciStamped, entry_in, entry_out, stamped_in,
-    stamped_out,
+    SCI_MISUSE, SCI_NO_MEMORY, SCI_OK, SCI_RANGE, SciEntry, SciStamped, entry_in, entry_out,
+    stamped_in, stamped_out,
 };
 use sci_words::{MAX_LINES, MAX_NODES};
 use std::alloc::Global;
@@ -89,6 +90,68 @@ pub extern "C" fn sci_logs_set_last(object: &mut SciObject, line: u8, contents: 
     }
     journal.set_last(line, stamped_in(contents));
     SCI_OK
+}
+
+/// Replaces the contents with which a line begins.
+#[unsafe(no_mangle)]
+pub extern "C" fn sci_logs_set_first(
+    alloc: Global,
+    object: &mut SciObject,
+    line: u8,
+    contents: &SciStamped,
+) -> u32
+    ensures done { result ≡ SCI_OK → Goes logs_in object.old.value object.new.value (IsFirstSet line contents.now) }
+    ensures range { result ≡ SCI_RANGE → On logs_in object.old.value (IsNoFirst line contents.now) }
+    ensures memory { result ≡ SCI_NO_MEMORY → On logs_in object.old.value
+        (λ journal. IsNoFirst line contents.now journal → ⊥) }
+    ensures change { IsChange logs_in (SCI_RANGE ∷ SCI_NO_MEMORY ∷ []) object.old.value result object.new.value }
+{
+    let Some(journal) = object.logs() else {
+        return SCI_MISUSE;
+    };
+    if line >= journal.last().lines() || contents.version > MAX_FIRST_VERSION {
+        return SCI_RANGE;
+    }
+    match journal.set_first(alloc, line, stamped_in(contents)) {
+        Ok(()) => SCI_OK,
+        Err(_) => SCI_NO_MEMORY,
+    }
+}
+
+/// Reads the contents with which a line begins.
+#[unsafe(no_mangle)]
+pub extern "C" fn sci_logs_first(object: &mut SciObject, line: u8, contents: &mut SciStamped) -> u32
+    ensures found { result ≡ SCI_OK → On logs_in object.old.value (IsFirstOf line contents.new) }
+    ensures range { result ≡ SCI_RANGE → On logs_in object.old.value (λ journal. length journal.last ≤ line) }
+    ensures same { result ≢ SCI_OK → contents.new ≡ contents.old }
+    ensures kept { IsLook logs_in (SCI_RANGE ∷ []) object.old.value result object.new.value }
+{
+    let Some(journal) = object.logs() else {
+        return SCI_MISUSE;
+    };
+    if line >= journal.last().lines() {
+        return SCI_RANGE;
+    }
+    *contents = stamped_out(&journal.first_contents(line));
+    SCI_OK
+}
+
+/// Drops all entries, and begins with the last contents.
+#[unsafe(no_mangle)]
+pub extern "C" fn sci_logs_go_on(alloc: Global, object: &mut SciObject) -> u32
+    ensures done { result ≡ SCI_OK → Goes logs_in object.old.value object.new.value
+        (λ before after. after ≡ next_window before) }
+    ensures range { result ≡ SCI_RANGE → On logs_in object.old.value (λ journal. AreEarly journal.last → ⊥) }
+    ensures change { IsChange logs_in (SCI_RANGE ∷ SCI_NO_MEMORY ∷ []) object.old.value result object.new.value }
+{
+    let Some(journal) = object.logs() else {
+        return SCI_MISUSE;
+    };
+    match journal.go_on(alloc) {
+        Ok(true) => SCI_OK,
+        Ok(false) => SCI_RANGE,
+        Err(_) => SCI_NO_MEMORY,
+    }
 }
 
 /// Reads the last contents of a line.

@@ -1,15 +1,18 @@
 //! One order of all entries of logs.
 
-ghost use Rattle.std.specs.Prelude.{◌≡◌, ◌≢◌, ◌<◌, ◌⊎◌, ◌∷◌, [], IfOk, length, map};
+ghost use Rattle.std.specs.Prelude.{◌≡◌, ◌≢◌, ◌<◌, ◌⊎◌, ◌↔◌, ◌∷◌, [], IfOk, None, Some, length, map};
 ghost use Rattle.sci_c_values.specs.declared.status.TheConstants.{SCI_FULL, SCI_MISUSE, SCI_NO_MEMORY, SCI_OK};
 ghost use Rattle.sci_c.specs.{Calls.{IsLook}, declared.ordering.TheConstants.{CYCLE, ORDER, UNLAWFUL}, Kinds.{On, logs_in}};
-ghost use Rattle.sci_c.specs.{Order.{IsOrderKind, IsOrdering, ref_struct, step_struct}, Written.{StandOver}};
+ghost use Rattle.sci_c_values.specs.Entry.{entry_struct};
+ghost use Rattle.sci_c.specs.{Begun.{AreLawful, AreOrdered}, Journal.{IsBeginning}, Written.{StandOver}};
+ghost use Rattle.sci_c.specs.Order.{HasOrder, IsFoundOrder, IsOrderKind, IsOrdering, ref_struct, step_struct};
 
 use crate::handle::SciObject;
 use crate::journal::Journal;
 use crate::room::put_over;
 use sci_c_values::{SCI_MISUSE, SCI_NO_MEMORY, SCI_OK, SciEntry, entry_out};
-use sci_history::{Entry, OrderVerdict, Step, sequential_order};
+use sci_history::{Entry, Last, OrderVerdict, Step, sequential_order};
+use sci_windows::{WindowOrder, order_from};
 use std::alloc::{AllocError, Global};
 
 /// There is an order.
@@ -21,9 +24,27 @@ const CYCLE: u32 = 1;
 /// The logs are not lawful.
 const UNLAWFUL: u32 = 2;
 
-/// The structs of entries.
+/// What a look for an order finds.
+#[derive(Drop)]
+pub enum FoundOrder {
+    /// The logs aren't lawful.
+    Unlawful,
+    /// All entries, in one order.
+    Order(Vec<SciEntry>),
+    /// The entries of a cycle.
+    Cycle(Vec<SciEntry>),
+}
+
+/// The structs of entries behind references.
 fn structs_of(alloc: Global, order: &[&Entry]) -> Result<Vec<SciEntry>, AllocError>
     ensures { IfOk result (λ made. made.items ≡ map ref_struct order.now) }
+{
+    order.iter().map(|entry| entry_out(entry)).collect(alloc)
+}
+
+/// The structs of entries.
+fn entry_structs(alloc: Global, order: &[Entry]) -> Result<Vec<SciEntry>, AllocError>
+    ensures { IfOk result (λ made. made.items ≡ map entry_struct order.now) }
 {
     order.iter().map(|entry| entry_out(entry)).collect(alloc)
 }
@@ -36,6 +57,48 @@ fn cycle_structs(alloc: Global, steps: &[Step]) -> Result<Vec<SciEntry>, AllocEr
         .iter()
         .map(|step| entry_out(&step.entry))
         .collect(alloc)
+}
+
+/// What a look for an order finds in logs that begin with zeros.
+fn found_from_zeros(alloc: Global, journal: &Journal) -> Result<FoundOrder, AllocError>
+    requires { journal.now.first ≡ None }
+    ensures found { IfOk result (IsFoundOrder journal.now) }
+    ensures order { IfOk result (λ found. HasOrder found ↔ (AreLawful journal.now × AreOrdered journal.now)) }
+{
+    let logs = journal.logs();
+    // Asked, so that the prover knows that there are sixteen logs, each with its own node's entries.
+    let _sixteen = logs.nodes();
+    match sequential_order(alloc, logs, journal.last())? {
+        OrderVerdict::Fault { .. } => Ok(FoundOrder::Unlawful),
+        OrderVerdict::Order(order) => {
+            let made = structs_of(alloc, &order)?;
+            Ok(FoundOrder::Order(made))
+        }
+        OrderVerdict::Cycle(steps) => {
+            let made = cycle_structs(alloc, &steps)?;
+            Ok(FoundOrder::Cycle(made))
+        }
+    }
+}
+
+/// What a look for an order finds in logs that begin with contents that were given.
+fn found_from(alloc: Global, journal: &Journal, first: &Last) -> Result<FoundOrder, AllocError>
+    requires first { journal.now.first ≡ Some first.now }
+    requires begins { IsBeginning (length journal.now.last) journal.now.first }
+    ensures found { IfOk result (IsFoundOrder journal.now) }
+    ensures order { IfOk result (λ found. HasOrder found ↔ (AreLawful journal.now × AreOrdered journal.now)) }
+{
+    match order_from(alloc, journal.logs(), first, journal.last())? {
+        WindowOrder::Fault { .. } => Ok(FoundOrder::Unlawful),
+        WindowOrder::Order(order) => {
+            let made = entry_structs(alloc, &order)?;
+            Ok(FoundOrder::Order(made))
+        }
+        WindowOrder::Cycle(steps) => {
+            let made = cycle_structs(alloc, &steps)?;
+            Ok(FoundOrder::Cycle(made))
+        }
+    }
 }
 
 /// Writes entries over the first ones, if there is room, with the kind of answer, and how many there are.
@@ -61,6 +124,17 @@ fn put(
     status
 }
 
+/// What a look for an order finds.
+fn found_in(alloc: Global, journal: &Journal) -> Result<FoundOrder, AllocError>
+    ensures found { IfOk result (IsFoundOrder journal.now) }
+    ensures order { IfOk result (λ found. HasOrder found ↔ (AreLawful journal.now × AreOrdered journal.now)) }
+{
+    match journal.first() {
+        Some(first) => found_from(alloc, journal, first),
+        None => found_from_zeros(alloc, journal),
+    }
+}
+
 /// Looks for one order of all entries.
 fn found_order(
     alloc: Global,
@@ -75,25 +149,17 @@ fn found_order(
     ensures same_kind { result ≢ SCI_OK → kind.new ≡ kind.old }
     ensures same_used { result ≡ SCI_NO_MEMORY → used.new ≡ used.old }
 {
-    let logs = journal.logs();
-    // Asked, so that the prover knows that there are sixteen logs, each with its own node's entries.
-    let _sixteen = logs.nodes();
-    match sequential_order(alloc, logs, journal.last()) {
-        Ok(OrderVerdict::Order(order)) => match structs_of(alloc, &order) {
-            Ok(made) => put(ORDER, &made, kind, entries, used),
-            Err(_) => SCI_NO_MEMORY,
-        },
-        Ok(OrderVerdict::Cycle(steps)) => match cycle_structs(alloc, &steps) {
-            Ok(made) => put(CYCLE, &made, kind, entries, used),
-            Err(_) => SCI_NO_MEMORY,
-        },
-        Ok(OrderVerdict::Fault { .. }) => put(UNLAWFUL, &[], kind, entries, used),
+    match found_in(alloc, journal) {
+        Ok(FoundOrder::Order(made)) => put(ORDER, &made, kind, entries, used),
+        Ok(FoundOrder::Cycle(made)) => put(CYCLE, &made, kind, entries, used),
+        Ok(FoundOrder::Unlawful) => put(UNLAWFUL, &[], kind, entries, used),
         Err(_) => SCI_NO_MEMORY,
     }
 }
 
-/// Looks for one order of all entries, and gives the number of what it finds.
-fn found_kind(alloc: Global, journal: &Journal) -> Result<u32, AllocError>
+/// The number of what a look for an order finds in logs that begin with zeros.
+fn kind_from_zeros(alloc: Global, journal: &Journal) -> Result<u32, AllocError>
+    requires { journal.now.first ≡ None }
     ensures { IfOk result (λ kind. IsOrderKind kind journal.now) }
 {
     let logs = journal.logs();
@@ -104,6 +170,29 @@ fn found_kind(alloc: Global, journal: &Journal) -> Result<u32, AllocError>
         OrderVerdict::Order(_order) => Ok(ORDER),
         OrderVerdict::Cycle(_steps) => Ok(CYCLE),
         OrderVerdict::Fault { .. } => Ok(UNLAWFUL),
+    }
+}
+
+/// The same in logs that begin with contents that were given.
+fn kind_from(alloc: Global, journal: &Journal, first: &Last) -> Result<u32, AllocError>
+    requires first { journal.now.first ≡ Some first.now }
+    requires begins { IsBeginning (length journal.now.last) journal.now.first }
+    ensures { IfOk result (λ kind. IsOrderKind kind journal.now) }
+{
+    match order_from(alloc, journal.logs(), first, journal.last())? {
+        WindowOrder::Order(_order) => Ok(ORDER),
+        WindowOrder::Cycle(_steps) => Ok(CYCLE),
+        WindowOrder::Fault { .. } => Ok(UNLAWFUL),
+    }
+}
+
+/// Looks for one order of all entries, and gives the number of what it finds.
+fn found_kind(alloc: Global, journal: &Journal) -> Result<u32, AllocError>
+    ensures { IfOk result (λ kind. IsOrderKind kind journal.now) }
+{
+    match journal.first() {
+        Some(first) => kind_from(alloc, journal, first),
+        None => kind_from_zeros(alloc, journal),
     }
 }
 

@@ -1,9 +1,9 @@
 //! Audits of logs, and logs as text.
 
-ghost use Rattle.std.specs.Prelude.{◌≡◌, ◌≢◌, ◌⊎◌, ◌↔◌, ◌∷◌, [], IsSome};
-ghost use Rattle.sci_history.specs.Lawful.{Lawful};
-ghost use Rattle.sci_c_values.specs.declared.status.TheConstants.{SCI_FULL, SCI_MISUSE, SCI_NO_MEMORY, SCI_OK, SCI_TEXT};
-ghost use Rattle.sci_c.specs.{Calls.{IsLook}, Kinds.{On, logs_in}, Logs.{AreRead, AreTooLong, AreWritten, IsFound}, Texts.{IsTextFault}};
+ghost use Rattle.std.specs.Prelude.{◌≡◌, ◌≢◌, ◌⊎◌, ◌↔◌, ◌∷◌, [], IfOk, IsSome};
+ghost use Rattle.sci_c_values.specs.declared.status.TheConstants.{SCI_FULL, SCI_MISUSE, SCI_NO_MEMORY, SCI_OK, SCI_RANGE, SCI_TEXT};
+ghost use Rattle.sci_c.specs.{Begun.{AreLawful, IsVerdictOf}, Calls.{IsLook}, Kinds.{On, logs_in}};
+ghost use Rattle.sci_c.specs.{Logs.{AreRead, AreTooLong, AreWritten, IsFound}, Texts.{IsTextFault}};
 ghost use Rattle.sci_text.specs.{LogFault.{IsLogFault}, declared.fault.TextFaultKind.TheVariants.{Memory}};
 ghost use Rattle.sci_c_values.specs.Verdict.{text_fault_struct};
 
@@ -13,12 +13,13 @@ use crate::journal::Journal;
 use crate::room::put_over;
 use crate::thing::Thing;
 use sci_c_values::{
-    SCI_MISUSE, SCI_NO_MEMORY, SCI_OK, SCI_TEXT, SciTextFault, SciVerdict, text_fault_out,
-    verdict_out,
+    SCI_MISUSE, SCI_NO_MEMORY, SCI_OK, SCI_RANGE, SCI_TEXT, SciTextFault, SciVerdict,
+    text_fault_out, verdict_out,
 };
-use sci_history::audit;
+use sci_history::{Verdict, audit};
 use sci_text::{TextFault, TextFaultKind, logs_of, logs_text};
-use std::alloc::Global;
+use sci_windows::audit_from;
+use std::alloc::{AllocError, Global};
 
 /// The status of a text that was refused. Its fault is written, unless memory was refused.
 pub(crate) fn status_of_text(refused: TextFault, fault: &mut SciTextFault) -> u32
@@ -37,6 +38,17 @@ pub(crate) fn status_of_text(refused: TextFault, fault: &mut SciTextFault) -> u3
     }
 }
 
+/// Audits logs from the contents with which they begin.
+fn audited(alloc: Global, journal: &Journal) -> Result<Verdict, AllocError>
+    ensures verdict { IfOk result (IsVerdictOf journal.now) }
+    ensures lawful { IfOk result (λ verdict. (verdict ≡ Verdict.Lawful) ↔ AreLawful journal.now) }
+{
+    match journal.first() {
+        Some(first) => audit_from(alloc, journal.logs(), first, journal.last()),
+        None => audit(alloc, journal.logs(), journal.last()),
+    }
+}
+
 /// Audits logs against their last contents.
 #[unsafe(no_mangle)]
 pub extern "C" fn sci_logs_audit(
@@ -46,14 +58,14 @@ pub extern "C" fn sci_logs_audit(
 ) -> u32
     ensures found { result ≡ SCI_OK → On logs_in object.old.value (IsFound verdict.new) }
     ensures lawful { result ≡ SCI_OK → On logs_in object.old.value
-        (λ journal. (verdict.new.kind ≡ 0) ↔ Lawful journal.logs journal.last) }
+        (λ journal. (verdict.new.kind ≡ 0) ↔ AreLawful journal) }
     ensures same { result ≢ SCI_OK → verdict.new ≡ verdict.old }
     ensures kept { IsLook logs_in (SCI_NO_MEMORY ∷ []) object.old.value result object.new.value }
 {
     let Some(journal) = object.logs() else {
         return SCI_MISUSE;
     };
-    match audit(alloc, journal.logs(), journal.last()) {
+    match audited(alloc, journal) {
         Ok(found) => {
             *verdict = verdict_out(&found);
             SCI_OK
@@ -100,11 +112,15 @@ pub extern "C" fn sci_logs_write(
     ensures full { result ≡ SCI_FULL → On logs_in object.old.value (AreTooLong text.old used.new) }
     ensures same { result ≢ SCI_OK → text.new ≡ text.old }
     ensures same_used { result ≢ SCI_OK → result ≢ SCI_FULL → used.new ≡ used.old }
-    ensures kept { IsLook logs_in (SCI_NO_MEMORY ∷ SCI_FULL ∷ []) object.old.value result object.new.value }
+    ensures range { result ≡ SCI_RANGE → On logs_in object.old.value (λ journal. IsSome journal.first) }
+    ensures kept { IsLook logs_in (SCI_NO_MEMORY ∷ SCI_RANGE ∷ SCI_FULL ∷ []) object.old.value result object.new.value }
 {
     let Some(journal) = object.logs() else {
         return SCI_MISUSE;
     };
+    if journal.first().is_some() {
+        return SCI_RANGE;
+    }
     match logs_text(alloc, journal.nodes(), journal.logs(), journal.last()) {
         Ok(made) => put_over(&made, text, used),
         Err(_) => SCI_NO_MEMORY,

@@ -321,6 +321,7 @@ unsafe extern "C" {
     ) -> sci_status;
     pub fn sci_node_close(node: *mut sci_node) -> sci_status;
     pub fn sci_node_clone(node: *const sci_node, copy: *mut sci_node) -> sci_status;
+    pub fn sci_node_start_log(node: *mut sci_node, limit: u32) -> sci_status;
     pub fn sci_node_issue(node: *mut sci_node, op: *const sci_op, serial: *mut u32) -> sci_status;
     pub fn sci_node_perform(node: *mut sci_node, line: u8, entry: *mut sci_entry) -> sci_status;
     pub fn sci_node_ask(
@@ -380,6 +381,17 @@ unsafe extern "C" {
     ) -> sci_status;
     pub fn sci_logs_last(logs: *const sci_logs, line: u8, contents: *mut sci_stamped)
     -> sci_status;
+    pub fn sci_logs_set_first(
+        logs: *mut sci_logs,
+        line: u8,
+        contents: *const sci_stamped,
+    ) -> sci_status;
+    pub fn sci_logs_first(
+        logs: *const sci_logs,
+        line: u8,
+        contents: *mut sci_stamped,
+    ) -> sci_status;
+    pub fn sci_logs_go_on(logs: *mut sci_logs) -> sci_status;
     pub fn sci_logs_size(logs: *const sci_logs, nodes: *mut u8, lines: *mut u8) -> sci_status;
     pub fn sci_logs_count(logs: *const sci_logs, node: u8, count: *mut usize) -> sci_status;
     pub fn sci_logs_entry(

@@ -64,6 +64,23 @@ impl Logs {
             .map(|contents| Contents::of(&contents))
     }
 
+    /// Replaces the contents with which a line begins, which are zero words at version 0 if they were not given. So these are the logs
+    /// of a window of a longer run.
+    pub fn set_first(&mut self, line: u8, contents: Contents) -> Result<()> {
+        checked(unsafe { sys::sci_logs_set_first(&mut self.raw, line, &contents.raw()) })
+    }
+
+    /// The contents with which a line begins.
+    pub fn first(&self, line: u8) -> Result<Contents> {
+        written(|contents| unsafe { sys::sci_logs_first(&self.raw, line, contents) })
+            .map(|contents| Contents::of(&contents))
+    }
+
+    /// Begins the next window: it drops all entries, and each line begins with its last contents.
+    pub fn go_on(&mut self) -> Result<()> {
+        checked(unsafe { sys::sci_logs_go_on(&mut self.raw) })
+    }
+
     /// How many nodes and lines there are.
     pub fn size(&self) -> (u8, u8) {
         let mut lines = 0;

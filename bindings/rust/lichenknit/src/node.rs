@@ -38,6 +38,12 @@ impl Node {
         Ok(copy)
     }
 
+    /// Begins again with an empty log, at rest: serials go on from 0, and the node may issue `limit` operations. Its homes know what they
+    /// knew. [`Error::NotEnabled`] if the node isn't at rest.
+    pub fn start_log(&mut self, limit: u32) -> Result<()> {
+        checked(unsafe { sys::sci_node_start_log(&mut self.raw, limit) })
+    }
+
     /// Issues an operation, and gives its serial. [`Error::Full`] if the node has issued all that it may.
     pub fn issue(&mut self, op: Op) -> Result<u32> {
         let raw = op.raw();

@@ -69,6 +69,32 @@ fn orders_and_cycles_are_found() {
 }
 
 #[test]
+fn windows_go_on_where_the_last_one_ended() {
+    let add = Entry {
+        node: 1,
+        serial: 0,
+        op: Op { act: Act::FetchAdd(1), line: 0, word: 3 },
+        word: Some(0),
+        version: 1,
+    };
+    let contents = |version| Contents { version, words: [0, 0, 0, version, 0, 0, 0, 0] };
+    let mut logs = Logs::new(2, 1).unwrap();
+    for version in 0..4 {
+        assert_eq!(logs.first(0).unwrap(), contents(version));
+        logs.push(&Entry { word: Some(version), version: version + 1, ..add }).unwrap();
+        logs.set_last(0, contents(version + 1)).unwrap();
+        assert!(logs.audit().unwrap().is_lawful() && logs.has_order().unwrap());
+        logs.go_on().unwrap();
+        assert_eq!(logs.iter().count(), 0);
+    }
+    assert_eq!(logs.text(), Err(Error::OutOfRange));
+    logs.push(&Entry { word: Some(4), version: 5, ..add }).unwrap();
+    logs.set_last(0, contents(5)).unwrap();
+    logs.set_first(0, contents(3)).unwrap();
+    assert_eq!(logs.audit().unwrap().kind, VerdictKind::VersionMissing);
+}
+
+#[test]
 fn many_calls_keep_nothing() {
     let used = |_| {
         std::fs::read_to_string("/proc/self/statm")

@@ -1,0 +1,13 @@
+pub mod Swaps
+pub mod Relatives
+pub mod Merges
+pub mod Pairs
+pub mod Reductions
+pub mod Joins
+pub mod Overs
+pub mod Verdicts
+pub mod Loops
+pub mod Turns
+pub mod Orders
+pub mod CyclesBack
+pub mod Founds

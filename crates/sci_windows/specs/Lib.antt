@@ -1,0 +1,4 @@
+pub mod Fault
+pub mod Order
+pub mod Relative
+pub mod Window
