@@ -148,14 +148,15 @@ takes_so n j nodes turns from lane old new f t other so takes =
 
 -- ---- up to four times, and for each node
 
-up_to_so : (k : ℕ) (Step Ends : Stage → Stage → Type 0) (P : Stage → Type 0) → ((a b : Stage) → P a → Step a b → P b) → ((a b : Stage) → P a → Ends a b → P b)
+pub up_to_so : (k : ℕ) (Step Ends : Stage → Stage → Type 0) (P : Stage → Type 0) → ((a b : Stage) → P a → Step a b → P b) → ((a b : Stage) → P a → Ends a b
+    → P b)
     → (old new : Stage) → P old → UpTo k Step Ends old new → P new
 up_to_so zero Step Ends P steps ends old new so same = subst P same so
 up_to_so (suc k) Step Ends P steps ends old new so (inl last) = ends old new so last
 up_to_so (suc k) Step Ends P steps ends old new so (inr rest) =
     up_to_so k Step Ends P steps ends rest.0 new (steps old rest.0 so rest.1) rest.2
 
-in_turn_so : (Step : ℕ → Stage → Stage → Type 0) (P : Stage → Type 0) → ((from : ℕ) (a b : Stage) → P a → Step from a b → P b) → (froms : List ℕ)
+pub in_turn_so : (Step : ℕ → Stage → Stage → Type 0) (P : Stage → Type 0) → ((from : ℕ) (a b : Stage) → P a → Step from a b → P b) → (froms : List ℕ)
     → (old new : Stage) → P old → InTurn Step froms old new → P new
 in_turn_so Step P steps [] old new so same = subst P same so
 in_turn_so Step P steps (from ∷ froms) old new so rest = in_turn_so Step P steps froms rest.0 new (steps from old rest.0 so rest.1) rest.2

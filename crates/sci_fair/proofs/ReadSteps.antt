@@ -73,7 +73,7 @@ front_asks core from n letter rest reached f t is =
 decided_refuse : (d : Decision) (from n : ℕ) → decided_event d from n ≡ Some (event.Refuse from n) → d ≡ decision.Refuse
 decided_refuse d from n is = search rules
 
-refuses_it : (policy : PolicyOf) (node : NodeOf) (from n : ℕ) (letter : Letter) (waiting : Bool)
+pub refuses_it : (policy : PolicyOf) (node : NodeOf) (from n : ℕ) (letter : Letter) (waiting : Bool)
     → (if waiting then None else decided_event (decided policy node letter) from n) ≡ Some (event.Refuse from n) → decided policy node letter ≡ decision.Refuse
 refuses_it policy node from n letter true is = cc
 refuses_it policy node from n letter false is = decided_refuse (decided policy node letter) from n is
@@ -85,7 +85,7 @@ refused_if keep refuse is = search rules
 cread_bit : (cread rest : Bool) → (cread && rest) ≡ true → cread ≡ true
 cread_bit cread rest is = search rules
 
-refuses_cread : (policy : PolicyOf) (node : NodeOf) (letter : Letter) → decided policy node letter ≡ decision.Refuse → is_cread letter.body ≡ true
+pub refuses_cread : (policy : PolicyOf) (node : NodeOf) (letter : Letter) → decided policy node letter ≡ decision.Refuse → is_cread letter.body ≡ true
 refuses_cread policy node letter is = cread_bit (is_cread letter.body) _ (refused_if (kept_by policy node letter) (refused_by policy node letter) is)
 
 module _ (core new : Core) (n : ℕ) (reached : IsReached core) (some : n < core.size.nodes) (fit : ReadsFit core) where
@@ -136,7 +136,7 @@ module _ (core new : Core) (n : ℕ) (reached : IsReached core) (some : n < core
       (ap (λ (c : Core). c.lanes) (sym made))
 
 -- the answer that waited is the one that is sent
-replied_sent : (node : NodeOf) (o : Option Letter) (sent : NodeOf × Letter) → node.waiting ≡ o → option_map
+pub replied_sent : (node : NodeOf) (o : Option Letter) (sent : NodeOf × Letter) → node.waiting ≡ o → option_map
     (λ answer. (record node { waiting = None }, answer)) o ≡ Some sent
     → node.waiting ≡ Some sent.1
 replied_sent node None sent waits is = cc
@@ -216,7 +216,7 @@ drained_reads core drained = record {
 }
 
 -- a machine that opens is drained
-opening_waits : (size : Size) (n : ℕ) → (node_at (opening size) n).waiting ≡ None
+pub opening_waits : (size : Size) (n : ℕ) → (node_at (opening size) n).waiting ≡ None
 opening_waits size n = elim (cases_lt n size.nodes) [
   | inl lt ↦ ap (λ (part : NodeOf). part.waiting) (node_opened size n lt)
   | inr past ↦
@@ -234,7 +234,7 @@ pub changed_out : (core new : Core) (n : ℕ) (o : Option NodeOf) → step_by co
 changed_out core new n None is = cc
 changed_out core new n (Some next) is = (next, refl, cc)
 
-performed_out : (core new : Core) (n : ℕ) (o : Option (NodeOf × Entry)) → step_by core n (performs o) ≡ Some new
+pub performed_out : (core new : Core) (n : ℕ) (o : Option (NodeOf × Entry)) → step_by core n (performs o) ≡ Some new
     → (done : NodeOf × Entry) × (o ≡ Some done) × (with_node core n done.0 ≡ new)
 performed_out core new n None is = cc
 performed_out core new n (Some done) is = (done, refl, cc)

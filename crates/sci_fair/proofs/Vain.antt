@@ -6,7 +6,7 @@ use Rattle.std.specs.Prelude.{count_by, IfSome, nat_lt}
 use Rattle.sci_core.specs.declared.lane.LaneKind.TheVariants.{Answers}
 use Rattle.sci_core.specs.{Core.{Core, lane_of, node_at}, Node.{NodeOf, pending_on}, Reached.{IsReached}}
 use Rattle.sci_policy.specs.declared.{policy.TheConstants.{PATIENCE}, want.Want.{Want, TheVariants.{Perform, Ask}}}
-use Rattle.sci_policy.specs.Policy.{PolicyOf, noted, ticked, turned}
+use Rattle.sci_policy.specs.Policy.{PolicyOf, next_policy, next_wanted, noted, ticked, turned}
 use Rattle.sci_turn.specs.{Idle.{IsIdleTurn, WasSo}, Moves.{taken_next}, Posts.{PostOf, post_at}}
 use Rattle.sci_turn.proofs.AlonePosts.{still_alone}
 use Rattle.sci_fair.specs.{Lanes.{AreOpen}, Stuck.{FindsNothing}, Vain.{AreInVain}}
@@ -33,7 +33,7 @@ idle_at n core before after idle let_go = record {
 
 -- ---- the turns are counted
 
-noted_turns : (policy : PolicyOf) (want : Option Want) → (noted policy want).turns ≡ policy.turns
+pub noted_turns : (policy : PolicyOf) (want : Option Want) → (noted policy want).turns ≡ policy.turns
 noted_turns policy None = refl
 noted_turns policy (Some (Perform line)) = refl
 noted_turns policy (Some (Ask line kind.Purge)) = refl
@@ -43,8 +43,11 @@ either_turns : (one two : PolicyOf) (b : Bool) → one.turns ≡ two.turns → (
 either_turns one two true same = same
 either_turns one two false same = refl
 
-ticked_turns : (policy : PolicyOf) (node : NodeOf) → (ticked policy node).turns ≡ policy.turns
+pub ticked_turns : (policy : PolicyOf) (node : NodeOf) → (ticked policy node).turns ≡ policy.turns
 ticked_turns policy node = either_turns _ _ (nat_lt (policy.patience + 1) PATIENCE) refl
+
+pub next_turns : (policy : PolicyOf) (node : NodeOf) → (next_policy policy node).turns ≡ policy.turns
+next_turns policy node = noted_turns (ticked policy node) (next_wanted policy node) ∙ ticked_turns policy node
 
 counted : (n : ℕ) (core : Core) (before after : PolicyOf) → IsIdleTurn before (post_at n core) after (post_at n core) → after.turns ≡ (before.turns + 1) % 64
 counted n core before after idle = grind (arith, noted_turns, ticked_turns)
@@ -59,10 +62,10 @@ count_one n m order same =
 count_other : (n m : ℕ) (order : List ℕ) → m ≢ n → count_by (λ k. k == n) (m ∷ order) ≡ count_by (λ k. k == n) order
 count_other n m order other = grind (arith, cases_Bool, eqb-true, sum_by-cons)
 
-one_more : (t need : ℕ) → (t + suc need + 1) % 64 ≡ 0 → ((t + 1) % 64 + need + 1) % 64 ≡ 0
+pub one_more : (t need : ℕ) → (t + suc need + 1) % 64 ≡ 0 → ((t + 1) % 64 + need + 1) % 64 ≡ 0
 one_more t need due = omega arith
 
-first_need : (t : ℕ) → (t + (63 - t % 64) + 1) % 64 ≡ 0
+pub first_need : (t : ℕ) → (t + (63 - t % 64) + 1) % 64 ≡ 0
 first_need t = omega arith
 
 -- node n needs this many more turns until it lets requests go

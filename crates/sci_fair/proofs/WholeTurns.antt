@@ -38,13 +38,13 @@ abbrev is_below : CacheState → Bool
 is_below (Below f b c) = true
 is_below _ = false
 
-excepted_load : (work : Option Bool) (old new : CacheState) → is_excepted work old new ≡ true → work ≡ Some false
+pub excepted_load : (work : Option Bool) (old new : CacheState) → is_excepted work old new ≡ true → work ≡ Some false
 excepted_load work old new is = search rules
 
-excepted_below : (work : Option Bool) (old new : CacheState) → is_excepted work old new ≡ true → is_below old ≡ true
+pub excepted_below : (work : Option Bool) (old new : CacheState) → is_excepted work old new ≡ true → is_below old ≡ true
 excepted_below work old new is = search rules
 
-excepted_out : (work : Option Bool) (old new : CacheState) → is_excepted work old new ≡ true → new ≡ Out
+pub excepted_out : (work : Option Bool) (old new : CacheState) → is_excepted work old new ≡ true → new ≡ Out
 excepted_out work old new is = search rules
 
 below_stays : (state : CacheState) → is_below state ≡ true → state ≡ Out → ⊥
@@ -63,22 +63,21 @@ below_accepts state answer below = search rules
 asks_out : (state : CacheState) (k : AskKind) → IfSome (asking state k) (λ (asked : Asked). asked.next ≡ Out → ⊥)
 asks_out state k = search rules
 
--- a load that follows, and can't be performed, is on a line with a rank that is no lower than that of a line with no entry
-follows_high : (state : CacheState) → follows state ≡ true → can_perform (Some false) state ≡ false → nat_le (rank (Some false) Out)
-    (rank (Some false) state) ≡ true
+-- a load that follows, and can't be performed, is on a line with a rank above that of a line with no entry
+follows_high : (state : CacheState) → follows state ≡ true → can_perform (Some false) state ≡ false → nat_le 6 (rank (Some false) state) ≡ true
 follows_high state is cannot = search rules
 
 -- ---- how a line that is Below comes to be Out
 
 -- the front of a lane of requests asks node n to leave the list of a line
-record IsPurged (core : Core) (n line : ℕ) : Type 0 where
-  from : ℕ
-  sender : from < core.size.nodes
-  letter : Letter
-  rest : List Letter
-  front : lane_of core Requests from n ≡ letter ∷ rest
-  about : letter.line ≡ line
-  purge : letter.body ≡ Purge
+pub record IsPurged (core : Core) (n line : ℕ) : Type 0 where
+  pub from : ℕ
+  pub sender : from < core.size.nodes
+  pub letter : Letter
+  pub rest : List Letter
+  pub front : lane_of core Requests from n ≡ letter ∷ rest
+  pub about : letter.line ≡ line
+  pub purge : letter.body ≡ Purge
 
 -- only the line that has changed
 line_out : (node : NodeOf) (at : ℕ) (part : LineState) (k : ℕ) → is_below (state_on node k) ≡ true → (line_of (with_line node.cache at part) k).state ≡ Out
@@ -118,7 +117,7 @@ asked_out node at k sent line told below out =
     let there = line_out node at (line_asked (line_of node.cache at) told.asked) line below (ap (λ (part : NodeOf). state_on part line) told.next ∙ out) in
     of_some (λ (a : Asked). a.next ≡ Out → ⊥) (asking (state_on node at) k) told.asked told.asks (asks_out (state_on node at) k) there.1
 
-purged_by : (core new : Core) (n : ℕ) (before after : PolicyOf) (e : Event) → IsReached core → n < core.size.nodes → IsOwn n before core e after
+pub purged_by : (core new : Core) (n : ℕ) (before after : PolicyOf) (e : Event) → IsReached core → n < core.size.nodes → IsOwn n before core e after
     → stepping core e ≡ Some new → (line : ℕ) → is_below (state_on (node_at core n) line) ≡ true → state_on (node_at new n) line ≡ Out → IsPurged core n line
 purged_by core new n before after (event.Serve from i) reached some own steps line below out =
     let node = node_at core n in
@@ -163,16 +162,17 @@ purged_by core new n before after (event.Perform i at) reached some own steps li
 
 -- ---- a packet that is under way is among its line's
 
-among_left : {X : Type 0} (x : X) (xs ys : List X) → IsAmong x xs → IsAmong x (xs ++ ys)
+pub among_left : {X : Type 0} (x : X) (xs ys : List X) → IsAmong x xs → IsAmong x (xs ++ ys)
 among_left x [] ys among = elim among [ ]
 among_left x (y ∷ xs) ys (inl same) = inl same
 among_left x (y ∷ xs) ys (inr among) = inr (among_left x xs ys among)
 
-among_right : {X : Type 0} (x : X) (xs ys : List X) → IsAmong x ys → IsAmong x (xs ++ ys)
+pub among_right : {X : Type 0} (x : X) (xs ys : List X) → IsAmong x ys → IsAmong x (xs ++ ys)
 among_right x [] ys among = among
 among_right x (y ∷ xs) ys among = inr (among_right x xs ys among)
 
-among_flat : {X Y : Type 0} (f : X → List Y) (xs : List X) (i : ℕ) (d : X) (y : Y) → i < length xs → IsAmong y (f (get_or xs i d)) → IsAmong y (flat_map f xs)
+pub among_flat : {X Y : Type 0} (f : X → List Y) (xs : List X) (i : ℕ) (d : X) (y : Y) → i < length xs → IsAmong y (f (get_or xs i d))
+    → IsAmong y (flat_map f xs)
 among_flat f [] i d y below among = absurd (omega (arith, below))
 among_flat f (x ∷ xs) zero d y below among = among_left y (f x) (flat_map f xs) among
 among_flat f (x ∷ xs) (suc i) d y below among = among_right y (f x) (flat_map f xs) (among_flat f xs i d y (omega (arith, below)) among)
@@ -183,17 +183,17 @@ among_if x y true xs keeps (inr among) = inr among
 among_if x y false xs keeps (inl same) = let clash : false ≡ true = keeps same in cc
 among_if x y false xs keeps (inr among) = among
 
-among_kept : {X : Type 0} (p : X → Bool) (x : X) (xs : List X) → p x ≡ true → IsAmong x xs → IsAmong x (filter p xs)
+pub among_kept : {X : Type 0} (p : X → Bool) (x : X) (xs : List X) → p x ≡ true → IsAmong x xs → IsAmong x (filter p xs)
 among_kept p x [] keeps among = elim among [ ]
 among_kept p x (y ∷ xs) keeps (inl same) = among_if x y (p y) (filter p xs) (λ is. ap p (sym is) ∙ keeps) (inl same)
 among_kept p x (y ∷ xs) keeps (inr among) = among_if x y (p y) (filter p xs) (λ is. ap p (sym is) ∙ keeps) (inr (among_kept p x xs keeps among))
 
 -- what waits has one packet under way
-record IsSole (home : ℕ) (line : LineState) (packets : List Letter) (letter : Letter) : Type 0 where
-  one : packets ≡ letter ∷ []
-  awaited : IsAwaited home line letter
+pub record IsSole (home : ℕ) (line : LineState) (packets : List Letter) (letter : Letter) : Type 0 where
+  pub one : packets ≡ letter ∷ []
+  pub awaited : IsAwaited home line letter
 
-sole : (home : ℕ) (line : LineState) (packets : List Letter) (letter : Letter) → HasItsPackets home line packets → IsAmong letter packets
+pub sole : (home : ℕ) (line : LineState) (packets : List Letter) (letter : Letter) → HasItsPackets home line packets → IsAmong letter packets
     → IsSole home line packets letter
 sole home line [] letter has among = elim among [ ]
 sole home line (x ∷ []) letter has (inl same) = record {
@@ -203,12 +203,12 @@ sole home line (x ∷ []) letter has (inl same) = record {
 sole home line (x ∷ []) letter has (inr among) = elim among [ ]
 sole home line (x ∷ y ∷ packets) letter has among = elim has [ ]
 
-sent_purge : (home : ℕ) (state : CacheState) (letter : Letter) → IsSentIn home state letter → letter.body ≡ Purge → (c : Stamped) ×
+pub sent_purge : (home : ℕ) (state : CacheState) (letter : Letter) → IsSentIn home state letter → letter.body ≡ Purge → (c : Stamped) ×
     (state ≡ Purging letter.target c)
 sent_purge home (Purging q c) letter sent purge = (c, ap (λ (k : ℕ). Purging k c) (sym sent.1))
 sent_purge home state letter sent purge = absurd (grind arith)
 
-request_alone : (letter : Letter) → is_request letter.body ≡ true → answer_in (letter ∷ []) ≡ None
+pub request_alone : (letter : Letter) → is_request letter.body ≡ true → answer_in (letter ∷ []) ≡ None
 request_alone letter asks = ap (λ (b : Bool). cond b None (Some letter.body)) asks
 
 -- ---- lanes of requests to the node only lose their fronts
@@ -218,7 +218,7 @@ askers_apart nodes j n to f t below other = λ same.
     other (sym (place_from nodes Requests j n f t) ∙ (ap (λ (p : ℕ). p / nodes % nodes) same ∙ place_from nodes Requests n to t below))
 
 -- what a lane has lost
-abbrev HasLost : List Letter → List Letter → Type 0
+abbrev pub HasLost : List Letter → List Letter → Type 0
 HasLost old new = (taken : List Letter) × (old ≡ taken ++ new)
 
 spared_lost : (old new : Core) (j n : ℕ) → Spared old new (lane_place old.size.nodes Requests j n) → HasLost (lane_of old Requests j n)
@@ -226,7 +226,7 @@ spared_lost : (old new : Core) (j n : ℕ) → Spared old new (lane_place old.si
 spared_lost old new j n spared =
     ([], sym (ap (λ (z : Size). lane_at new (lane_place z.nodes Requests j n)) spared.size ∙ spared.lane))
 
-front_lost : (core new : Core) (j n : ℕ) (next : NodeOf) (letter : Letter) (rest : List Letter) → IsReached core → j < core.size.nodes → n < core.size.nodes
+pub front_lost : (core new : Core) (j n : ℕ) (next : NodeOf) (letter : Letter) (rest : List Letter) → IsReached core → j < core.size.nodes → n < core.size.nodes
     → lane_of core Requests j n ≡ letter ∷ rest → with_lane (with_node core n next) (lane_place core.size.nodes Requests j n) rest ≡ new
     → HasLost (lane_of core Requests j n) (lane_of new Requests j n)
 front_lost core new j n next letter rest reached f t front made =
@@ -276,7 +276,7 @@ module _ (core new : Core) (n j : ℕ) (reached : IsReached core) (some : n < co
 -- ---- so far in a turn
 
 -- no rank of a node's line is above what it was
-abbrev IsLower : Option Bool → CacheState → CacheState → Type 0
+abbrev pub IsLower : Option Bool → CacheState → CacheState → Type 0
 IsLower work old new = nat_le (rank work new) (rank work old) ≡ true
 
 lower_then : (work : Option Bool) (a b c : CacheState) → IsLower work a b → IsLower work b c → IsLower work a c
@@ -285,21 +285,21 @@ lower_then work a b c one two =
     let lower = leb-true (rank work c) (rank work b) two in
     le-leb (rank work c) (rank work a) (omega (arith, low, lower))
 
-lower_itself : (work : Option Bool) (a : CacheState) → IsLower work a a
+pub lower_itself : (work : Option Bool) (a : CacheState) → IsLower work a a
 lower_itself work a = le-leb (rank work a) (rank work a) (omega arith)
 
 -- a turn of node n has come this far
-record HasTurned (n : ℕ) (old core : Core) : Type 0 where
-  reached : IsReached core
-  fit : ReadsFit core
-  size : core.size ≡ old.size
-  others : (m : ℕ) → m ≢ n → node_at core m ≡ node_at old m
-  work : (line : ℕ) → pending_on (node_at core n) line ≡ pending_on (node_at old n) line
-  lower : (line : ℕ) → IsLower (work_on (node_at old n) line) (state_on (node_at old n) line) (state_on (node_at core n) line)
-  lost : (j : ℕ) → j < old.size.nodes → j ≢ n → HasLost (lane_of old Requests j n) (lane_of core Requests j n)
+pub record HasTurned (n : ℕ) (old core : Core) : Type 0 where
+  pub reached : IsReached core
+  pub fit : ReadsFit core
+  pub size : core.size ≡ old.size
+  pub others : (m : ℕ) → m ≢ n → node_at core m ≡ node_at old m
+  pub work : (line : ℕ) → pending_on (node_at core n) line ≡ pending_on (node_at old n) line
+  pub lower : (line : ℕ) → IsLower (work_on (node_at old n) line) (state_on (node_at old n) line) (state_on (node_at core n) line)
+  pub lost : (j : ℕ) → j < old.size.nodes → j ≢ n → HasLost (lane_of old Requests j n) (lane_of core Requests j n)
 
 -- the request of a node's ask is among its packets
-lane_among : (core : Core) (k n line : ℕ) (taken rest : List Letter) (letter : Letter) → IsReached core → k < core.size.nodes → n < core.size.nodes
+pub lane_among : (core : Core) (k n line : ℕ) (taken rest : List Letter) (letter : Letter) → IsReached core → k < core.size.nodes → n < core.size.nodes
     → lane_of core Requests k n ≡ taken ++ letter ∷ rest → is_about k line letter ≡ true → IsAmong letter (packets_of core k line)
 lane_among core k n line taken rest letter reached f t lane about =
     let place = lane_place core.size.nodes Requests k n in
@@ -309,10 +309,10 @@ lane_among core k n line taken rest letter reached f t lane about =
     (among_flat (λ (l : List Letter). l) core.lanes place [] letter (lane_below core Requests k n (reached_well core reached) f t) here))
 
 -- a load that is purged in the turn was on a line that followed when the turn began
-purged_high : (n : ℕ) (old core : Core) (line : ℕ) → IsReached old → n < old.size.nodes → HasTurned n old core → is_below
+pub purged_high : (n : ℕ) (old core : Core) (line : ℕ) → IsReached old → n < old.size.nodes → HasTurned n old core → is_below
     (state_on (node_at core n) line) ≡ true
     → (purged : IsPurged core n line) → CannotPerform (node_at old n) → work_on (node_at old n) line ≡ Some false
-    → IsLower (Some false) (state_on (node_at old n) line) Out
+    → nat_le 6 (rank (Some false) (state_on (node_at old n) line)) ≡ true
 purged_high n old core line reached some turned below purged cannot load =
     let k = purged.from in
     let letter = purged.letter in
@@ -350,7 +350,7 @@ purged_high n old core line reached some turned below purged cannot load =
     ]
 
 -- the rank doesn't rise, or a load is purged
-lower_or : (b : Bool) (excepted : Bool) → (b || excepted) ≡ true → (b ≡ true) ⊎ (excepted ≡ true)
+pub lower_or : (b : Bool) (excepted : Bool) → (b || excepted) ≡ true → (b ≡ true) ⊎ (excepted ≡ true)
 lower_or true excepted is = inl refl
 lower_or false excepted is = inr is
 
@@ -375,11 +375,13 @@ module _ (n : ℕ) (old : Core) (reached : IsReached old) (some : n < old.size.n
             sym work ∙ excepted_load (work_on (node_at core n) line) (state_on (node_at core n) line) then_ excepted in
             let purged = purged_by core new n before after e turned.reached here own steps line below out in
             let high = purged_high n old core line reached some turned below purged cannot load in
+            let six = leb-true 6 (rank (Some false) (state_on (node_at old n) line)) high in
             subst (λ (w : Option Bool). IsLower w (state_on (node_at old n) line) then_) (sym load)
-            (subst (IsLower (Some false) (state_on (node_at old n) line)) (sym out) high)
+            (subst (IsLower (Some false) (state_on (node_at old n) line)) (sym out)
+            (le-leb 4 (rank (Some false) (state_on (node_at old n) line)) (omega (arith, six))))
       ]
 
-  turns_on : (core new : Core) (before after : PolicyOf) (e : Event) → HasTurned n old core → IsOwn n before core e after → stepping core e ≡ Some new
+  pub turns_on : (core new : Core) (before after : PolicyOf) (e : Event) → HasTurned n old core → IsOwn n before core e after → stepping core e ≡ Some new
       → HasTurned n old new
   turns_on core new before after e turned own steps =
       let here : n < core.size.nodes = subst (λ (z : Size). n < z.nodes) (sym turned.size) some in
@@ -401,7 +403,7 @@ module _ (n : ℕ) (old : Core) (reached : IsReached old) (some : n < old.size.n
             );
       }
 
-  leads_turned : (core new : Core) (before after : PolicyOf) (more : List Event) → HasTurned n old core → AllByRecursion (λ e. node_of e ≡ n) more
+  pub leads_turned : (core new : Core) (before after : PolicyOf) (more : List Event) → HasTurned n old core → AllByRecursion (λ e. node_of e ≡ n) more
       → Leads n before core more after new → HasTurned n old new
   leads_turned core new before after [] turned own leads = subst (HasTurned n old) leads.1 turned
   leads_turned core new before after (e ∷ more) turned own leads = elim leads.3 [

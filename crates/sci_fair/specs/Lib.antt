@@ -5,3 +5,6 @@ pub mod Vain
 pub mod Rank
 pub mod Reads
 pub mod Changes
+pub mod Between
+pub mod Steady
+pub mod Retries

@@ -2,4 +2,5 @@
 #![tactic(auto)]
 
 pub mod rank;
+pub mod steady;
 pub mod turns;

@@ -8,6 +8,7 @@ ghost use Rattle.sci_core.specs.{Draining.{IsDrained}, Node.{pending_on}, Reache
 ghost use Rattle.sci_policy.specs.declared.{policy.TheConstants.{PATIENCE}, progress.Progress.{Progress}};
 ghost use Rattle.sci_policy.specs.Policy.{PolicyOf, turned};
 ghost use Rattle.sci_turn.specs.{Moves.{IsOwn}, Posts.{PostOf, post_at}, Whole.{IsWholeTurn}};
+ghost use Rattle.sci_fair.specs.Between.{AreShort, IsBetweenTurns};
 ghost use Rattle.sci_fair.specs.{Lanes.{AreOpen, IsWork}, Looks.{HasLooked}, Reads.{ReadsFit}, Stuck.{IsStuck}, Vain.{AreInVain}};
 
 use sci_policy::PATIENCE;
@@ -63,4 +64,18 @@ pub fn turns_are_not_in_vain_for_ever()
         → IsReached core → AreOpen core → AreInVain core order before after
         → ((n : ℕ) → n < core.size.nodes → PATIENCE ≤ count_by (λ m. m == n) order)
         → (n line : ℕ) → n < core.size.nodes → pending_on (node_at core n) line ≡ None }
+{}
+
+/// In a machine that works by whole turns, and none of whose lanes takes more than four packets, no answer waits between turns.
+/// A turn accepts all answers first, and one node's requests to another and the answers to them are never more than four. So each
+/// answer that a turn makes goes out at once. So it is in a machine that opens, and in one where nothing is under way. And it stays
+/// so with each whole turn that leaves no lane longer than four, each Issue and each Perform.
+pub fn answers_never_wait()
+    ensures first { (size : Size) → IsBetweenTurns (opening size) }
+    ensures drained { (core : Core) → IsDrained core → IsBetweenTurns core }
+    ensures turns { (n : ℕ) (before after : PolicyOf) (old new : Core) (progress : Progress)
+        → IsReached old → n < old.size.nodes → IsBetweenTurns old
+        → IsWholeTurn before (post_at n old) after (post_at n new) progress → AreShort new → IsBetweenTurns new }
+    ensures works { (core new : Core) (e : Event) → IsReached core → IsBetweenTurns core
+        → IsWork e → stepping core e ≡ Some new → IsBetweenTurns new }
 {}

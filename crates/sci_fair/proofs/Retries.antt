@@ -1,0 +1,194 @@
+-- What isn't tried again and again: a line that awaits the answer to a read, or to its Setback, or that was purged while it rolled, gets
+-- another rank when its answer comes; and so does the line that a Purge reaches. So in steady turns there is none of them for long.
+use Rattle.std.proofs.Common.{◌≡◌, ◌<◌, ◌%◌, ◌==◌, ◌⊎◌, ℕ, Bool, true, false, arith, List, [], ◌∷◌}
+use Rattle.std.proofs.Common.{Option, Some, None, refl, sym, ap, subst, ◌∙◌, inl, inr, rules, get_or-set_same}
+use Rattle.std.proofs.lemmas.Bool.{cases_eq}
+use Rattle.std.specs.Prelude.{IfSome, is_some, slice_get}
+use Rattle.sci_history.specs.Seen.{IsAmong}
+use Rattle.sci_words.specs.declared.event.{AskKind.{AskKind}, Event.{Event}}
+use Rattle.sci_packets.specs.{declared.body.Body.{Body, TheVariants.{Purge}}, Table.{is_request}}
+use Rattle.sci_home.specs.Serving.{is_for_home}
+use Rattle.sci_cache.specs.{State.{CacheState, waits}, Accepting.{accepting}, Asking.{asking}, Serving.{serving}}
+use Rattle.sci_cache.specs.{Line.{LineState, line_in, untouched}, Cache.{Letter, line_of}}
+use Rattle.sci_core.specs.declared.lane.LaneKind.TheVariants.{Requests}
+use Rattle.sci_core.specs.{Core.{Core, lane_of, lane_place, node_at}, Node.{NodeOf, lines_of, node_serving}, Size.{Size}}
+use Rattle.sci_core.specs.{Shape.{follows, state_at}, Sharing.{answer_in, answer_to, is_about, packets_of}}
+use Rattle.sci_core.proofs.{Basics.Options.{of_some}, Step.{NodeSides.{At_home, In_cache, ServedAs, serve_as}, Places.{place_to}}}
+use Rattle.sci_core.proofs.{Tidy.TidyRuns.{reached_tidy}, WellFormed.WellFormedSteps.{reached_well}}
+use Rattle.sci_policy.specs.{Lines.{state_on}, Policy.{PolicyOf, is_cread, turned}}
+use Rattle.sci_turn.specs.Moves.{taking_event}
+use Rattle.sci_fair.specs.{Rank.{rank, work_on}, Steady.{AreSteadyTurns, HasWindows, Working, WorksByTurns}}
+use Rattle.sci_fair.specs.Retries.{is_tried_once}
+use Rattle.sci_fair.proofs.{Awaiting.{accepted_idle, same_rank}, Followers.{purge_finds}, LaneTurns.{among_stands}}
+use Rattle.sci_fair.proofs.{ReadSteps.{refuses_cread, refuses_it}, Requests.{AnswerTurn, Stands_on, answer_within, request_taken, three_before}}
+use Rattle.sci_fair.proofs.Requests.{size_along}
+use Rattle.sci_fair.proofs.{StateSteps.{By_accept, By_ask, By_serve, StateStep, Stays, serve_one, state_step}, Steadied.{IsSteady, Steadily}}
+use Rattle.sci_fair.proofs.{SteadyTurns.{Held, steady_turn}, Whereabouts.{in_lane, lane_packets, stands}, WholeTurns.{request_alone, sent_purge, sole}}
+use Rattle.sci_words.specs.declared.event.Event.TheVariants as event
+
+-- ---- the tables
+
+once_waits : (s : CacheState) → is_tried_once s ≡ true → waits s ≡ true
+once_waits s is = search rules
+
+once_accepts : (work : Option Bool) (s : CacheState) (a : Body) → is_tried_once s ≡ true
+    → IfSome (accepting s a) (λ t. (rank work t == rank work s) ≡ true → is_tried_once t ≡ true)
+once_accepts work s a is = search rules
+
+once_serves : (work : Option Bool) (s : CacheState) (m : ℕ) (r : Body) → is_tried_once s ≡ true
+    → IfSome (serving s m r) (λ (served : CacheState × Body). (rank work served.0 == rank work s) ≡ true → is_tried_once served.0 ≡ true)
+once_serves work s m r is = search rules
+
+once_asks : (s : CacheState) (k : AskKind) → is_tried_once s ≡ true → asking s k ≡ None
+once_asks s k is = search rules
+
+purged_rank : (work : Option Bool) (s : CacheState) (m : ℕ) → follows s ≡ true
+    → IfSome (serving s m Purge) (λ (served : CacheState × Body). (rank work served.0 == rank work s) ≡ false)
+purged_rank work s m is = search rules
+
+-- ---- such a line stays as it is
+
+abbrev IsOnce : ℕ → ℕ → Core → Type 0
+IsOnce n line x = is_tried_once (state_on (node_at x n) line) ≡ true
+
+step_once : (e : Event) (line : ℕ) (work : Option Bool) (s t : CacheState) → StateStep e line s t → (rank work t == rank work s) ≡ true
+    → is_tried_once s ≡ true → is_tried_once t ≡ true
+step_once e line work s t (Stays same) keeps is = subst (λ (r : CacheState). is_tried_once r ≡ true) (sym same) is
+step_once e line work s t (By_accept kind a accepts) keeps is =
+    of_some (λ (r : CacheState). (rank work r == rank work s) ≡ true → is_tried_once r ≡ true) (accepting s a) t accepts (once_accepts work s a is) keeps
+step_once e line work s t (By_serve kind m r b serves) keeps is =
+    of_some (λ (served : CacheState × Body). (rank work served.0 == rank work s) ≡ true → is_tried_once served.0 ≡ true) (serving s m r) (t, b) serves
+    (once_serves work s m r is) keeps
+step_once e line work s t (By_ask kind k asked asks next) keeps is =
+    absurd (let clash : None ≡ Some asked = sym (once_asks s k is) ∙ asks in cc)
+
+once_all : (n line : ℕ) (p : PolicyOf) (x : Core) (events : List Event) (q : PolicyOf) (y : Core) → Steadily n p x events q y → IsOnce n line x
+    → IsOnce n line y
+once_all n line p x [] q y steady is = subst (IsOnce n line) steady.1 is
+once_all n line p x (e ∷ events) q y steady is =
+    let mid = steady.1 in
+    once_all n line steady.0 mid events q y steady.3
+    (step_once e line (work_on (node_at x n) line) (state_on (node_at x n) line) (state_on (node_at mid n) line)
+    (state_step n p x steady.0 mid line e steady.2) (same_rank n p x e steady.0 mid line steady.2) is)
+
+once_turn : (i n line : ℕ) (old new : Working) → (held : Held i old new) → IsOnce n line old.core → IsOnce n line new.core
+once_turn i n line old new held is = elim (cases_eq n i) [
+  | inr other ↦ subst (λ (part : NodeOf). is_tried_once (state_on part line) ≡ true) (sym (held.trace.asked.since.others n other)) is
+  | inl same ↦
+      let t = held.trace in
+      let begun : IsOnce i line old.core = subst (λ (m : ℕ). IsOnce m line old.core) same is in
+      let first = once_all i line (turned (old.policies i)) old.core t.e1 t.p1 t.c1 held.accepts begun in
+      let second = once_all i line t.p1 t.c1 t.e2 t.p2 t.c2 held.takes first in
+      let third = once_all i line t.p2 t.c2 t.e3 t.p3 new.core held.asks second in
+      subst (λ (m : ℕ). IsOnce m line new.core) (sym same) third
+]
+
+once_along : (n line : ℕ) (order : List ℕ) (first last : Working) → WorksByTurns first.core → AreSteadyTurns order first last → IsOnce n line first.core
+    → IsOnce n line last.core
+once_along n line [] first last good turns is = subst (λ (w : Working). IsOnce n line w.core) turns is
+once_along n line (i ∷ order) first last good turns is =
+    let held = steady_turn i first turns.0 good turns.1 in
+    once_along n line order turns.0 last held.good turns.2 (once_turn i n line first turns.0 held is)
+
+own_once : (n line i : ℕ) (old new : Working) → (done : AnswerTurn n line i old new) → n < old.core.size.nodes → line < old.core.size.lines
+    → IsOnce n line old.core → ⊥
+own_once n line i old new done some inside is =
+    let held : Held n old new = subst (λ (m : ℕ). Held m old new) done.server done.held in
+    let t = held.trace in
+    let first = once_all n line (turned (old.policies n)) old.core t.e1 t.p1 t.c1 held.accepts is in
+    let idle = accepted_idle n done.answered.from line old new done.answered.letter done.good held some inside done.answered.sender done.answered.answers
+    done.answered.about done.answered.among in
+    let clash : true ≡ false = sym (once_waits (state_on (node_at t.c1 n) line) first) ∙ idle in cc
+
+-- but its answer comes, and then it doesn't wait
+pub never_once : (n line : ℕ) (order : List ℕ) (first last : Working) → WorksByTurns first.core → n < first.core.size.nodes → line < first.core.size.lines
+    → AreSteadyTurns order first last → HasWindows first.core.size.nodes 281 order → is_tried_once (state_on (node_at first.core n) line) ≡ true → ⊥
+never_once n line order first last good some inside turns windows is =
+    let c = answer_within n line 0 order first last good some inside (once_waits (state_on (node_at first.core n) line) is) turns windows in
+    let size = size_along c.before first c.old good c.leads in
+    let n0 : n < c.old.core.size.nodes = subst (λ (z : Size). n < z.nodes) (sym size) some in
+    let l0 : line < c.old.core.size.lines = subst (λ (z : Size). line < z.lines) (sym size) inside in
+    let there = once_along n line c.before first c.old good c.leads is in
+    own_once n line c.node c.old c.new c.done n0 l0 there
+
+-- ---- a Purge is served, and the line that it reaches gets another rank
+
+purge_plain : (b : Body) → b ≡ Purge → is_cread b ≡ false
+purge_plain b is = ap is_cread is
+
+served_purge : (n : ℕ) (p : PolicyOf) (x : Core) (e : Event) (q : PolicyOf) (y : Core) (request : Letter) → IsSteady n p x e q y
+    → request.line < x.size.lines → request.body ≡ Purge → follows (state_on (node_at x n) request.line) ≡ true → (next : NodeOf) → node_at y n ≡ next
+    → ServedAs (node_at x n) request next → ⊥
+served_purge n p x e q y request st inside purge follow next now (At_home served home is made) =
+    let clash : false ≡ true = ap is_for_home (sym purge) ∙ home in cc
+served_purge n p x e q y request st inside purge follow next now (In_cache served is made) =
+    let node = node_at x n in
+    let line = request.line in
+    let work = work_on node line in
+    let s = state_on node line in
+    let below : line < lines_of node = subst (λ (k : ℕ). line < k) (sym ((reached_well x st.reached).each_part n st.some).each) inside in
+    let there : state_on next line ≡ served.0 =
+    ap (λ (part : NodeOf). state_on part line) (sym made)
+    ∙ ap (λ (l : LineState). l.state) (get_or-set_same node.cache.lines line (line_in (line_of node.cache line) served.0) untouched below) in
+    let t : state_on (node_at y n) line ≡ served.0 = ap (λ (part : NodeOf). state_on part line) now ∙ there in
+    let serves : serving s request.source Purge ≡ Some served = subst (λ (b : Body). serving s request.source b ≡ Some served) purge is in
+    let other = of_some (λ (r : CacheState × Body). (rank work r.0 == rank work s) ≡ false) (serving s request.source Purge) served serves
+    (purged_rank work s request.source follow) in
+    let keeps = same_rank n p x e q y line st in
+    let clash : true ≡ false = sym keeps ∙ (ap (λ (r : CacheState). rank work r == rank work s) t ∙ other) in cc
+
+-- an event that takes it serves it
+takes_purge : (n to : ℕ) (p : PolicyOf) (x : Core) (e : Event) (q : PolicyOf) (y : Core) (request : Letter) (rest : List Letter) → IsSteady to p x e q y
+    → lane_of x Requests n to ≡ request ∷ rest → (e ≡ event.Serve n to) ⊎ (e ≡ event.Refuse n to) → request.line < x.size.lines → request.body ≡ Purge
+    → follows (state_on (node_at x to) request.line) ≡ true → ⊥
+takes_purge n to p x e q y request rest st lane (inr refuse) inside purge follow =
+    let own = subst (λ (o : Event). IsSteady to p x o q y) refuse st in
+    let node = node_at x to in
+    let decides : taking_event p node n to (Some request) ≡ Some (event.Refuse n to) =
+    subst (λ (l : List Letter). taking_event p node n to (slice_get l 0) ≡ Some (event.Refuse n to)) lane own.own.decides.0 in
+    let cread = refuses_cread p node request (refuses_it p node n to request (is_some node.waiting) decides) in
+    let clash : true ≡ false = sym cread ∙ purge_plain request.body purge in cc
+takes_purge n to p x e q y request rest st lane (inl serve) inside purge follow =
+    let own = subst (λ (o : Event). IsSteady to p x o q y) serve st in
+    let node = node_at x to in
+    let one = serve_one to p x q y n to own in
+    let same : one.front.letter ≡ request = (let both : one.front.letter ∷ one.front.rest ≡ request ∷ rest = sym one.front.front ∙ lane in cc) in
+    let takes : node_serving node request ≡ Some one.front.next = subst (λ (l : Letter). node_serving node l ≡ Some one.front.next) same one.front.takes in
+    served_purge to p x (event.Serve n to) q y request own inside purge follow one.front.next one.node
+    (of_some (ServedAs node request) (node_serving node request) one.front.next takes (serve_as node request))
+
+-- in steady turns no Purge is in a lane for long
+pub never_purge : (n to : ℕ) (letter : Letter) (order : List ℕ) (first last : Working) → WorksByTurns first.core → n < first.core.size.nodes
+    → to < first.core.size.nodes → letter.line < first.core.size.lines → is_request letter.body ≡ true → is_about n letter.line letter ≡ true
+    → letter.body ≡ Purge → IsAmong letter (lane_of first.core Requests n to) → AreSteadyTurns order first last
+    → HasWindows first.core.size.nodes 280 order → ⊥
+never_purge n to letter order first last good some t inside asks about purge among turns windows =
+    let nodes = first.core.size.nodes in
+    let at = stands letter (lane_of first.core Requests n to) among in
+    let short = good.between.short (lane_place nodes Requests n to) in
+    let stood : Stands_on first.core n to letter 3 = record {
+      after = at.after;
+      at = record {
+        before = at.before;
+        lane = at.whole;
+        few = three_before at.before at.after letter (lane_of first.core Requests n to) at.whole short;
+      };
+    } in
+    let c = request_taken 3 3 nodes n to 0 letter order first last (omega arith) good refl some t stood turns windows in
+    let took = c.done.took in
+    let x = took.x in
+    let size : x.size ≡ first.core.size = sym took.size ∙ (c.done.held.trace.taken.so.since.size ∙ size_along c.before first c.old good c.leads) in
+    let n0 : n < x.size.nodes = subst (λ (z : Size). n < z.nodes) (sym size) some in
+    let t0 : to < x.size.nodes = subst (λ (z : Size). to < z.nodes) (sym size) t in
+    let l0 : letter.line < x.size.lines = subst (λ (z : Size). letter.line < z.lines) (sym size) inside in
+    let there = among_stands letter (lane_of x Requests n to) [] took.rest took.lane in
+    let packet = lane_packets x Requests n to n letter.line letter took.steady.reached n0 t0 about there in
+    let alone = sole (letter.line % x.size.nodes) (line_of (node_at x n).cache letter.line) (packets_of x n letter.line) letter
+    (reached_tidy x took.steady.reached n letter.line n0 l0) packet in
+    let state = sent_purge (letter.line % x.size.nodes) (state_on (node_at x n) letter.line) letter (alone.awaited.sent asks) purge in
+    let is = in_lane x (lane_place x.size.nodes Requests n to) letter took.steady.reached there in
+    let target : letter.target ≡ to = is.to ∙ place_to x.size.nodes Requests n to t0 in
+    let none : answer_to x n letter.line ≡ None = ap answer_in alone.one ∙ request_alone letter asks in
+    let follow = purge_finds x letter.line n letter.target state.0 took.steady.reached l0 state.1 none in
+    takes_purge n to took.p x took.e took.q took.y letter took.rest took.steady took.lane took.takes l0 purge
+    (subst (λ (m : ℕ). follows (state_at x letter.line m) ≡ true) target follow)

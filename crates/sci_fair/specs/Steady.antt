@@ -1,0 +1,53 @@
+-- Whole turns of a machine's nodes that change no rank: what they try fails, and they try it again.
+use Rattle.std.specs.Prelude.{◌≡◌, ◌≢◌, ◌<◌, ℕ, zero, suc, List, [], ◌∷◌, ◌++◌}
+use Rattle.sci_history.specs.Seen.{IsAmong}
+use Rattle.sci_core.specs.{Core.{Core, node_at}, Reached.{IsReached}}
+use Rattle.sci_policy.specs.{declared.progress.Progress.{Progress}, Policy.{PolicyOf}}
+use Rattle.sci_turn.specs.{Posts.{post_at}, Whole.{IsWholeTurn}}
+use Rattle.sci_fair.specs.{Between.{AreShort, IsBetweenTurns}, Changes.{rank_at}, Lanes.{AreOpen}, Rank.{CannotPerform}, Reads.{ReadsFit}}
+
+-- a machine that works by turns, between two of them: from here on each of its turns is one of those that laws speak of
+pub record WorksByTurns (core : Core) : Type 0 where
+  pub reached : IsReached core
+  pub fit : ReadsFit core
+  pub opened : AreOpen core
+  pub between : IsBetweenTurns core
+
+-- a machine, and what the policy of each of its nodes remembers
+pub record Working : Type 0 where
+  pub core : Core
+  pub policies : ℕ → PolicyOf
+
+-- A whole turn of node n, which has the machine for itself and can perform nothing. No lane has more packets than it has cells, and
+-- each line of each node has the rank that it had.
+pub record IsSteadyTurn (n : ℕ) (old new : Working) : Type 0 where
+  pub some : n < old.core.size.nodes
+  pub cannot : CannotPerform (node_at old.core n)
+  pub progress : Progress
+  pub whole : IsWholeTurn (old.policies n) (post_at n old.core) (new.policies n) (post_at n new.core) progress
+  pub others : (m : ℕ) → m ≢ n → new.policies m ≡ old.policies m
+  pub short : AreShort new.core
+  pub same : (m line : ℕ) → rank_at new.core m line ≡ rank_at old.core m line
+
+-- such turns of these nodes, one after another
+abbrev pub AreSteadyTurns : List ℕ → Working → Working → Type 0
+AreSteadyTurns [] old new = old ≡ new
+AreSteadyTurns (n ∷ order) old new = (mid : Working) × IsSteadyTurn n old mid × AreSteadyTurns order mid new
+
+-- an order has this many windows, one after another, in each of which each node comes
+abbrev pub HasWindows : ℕ → ℕ → List ℕ → Type 0
+HasWindows nodes zero order = Unit {0}
+HasWindows nodes (suc count) order =
+    (window rest : List ℕ) × (order ≡ window ++ rest) × ((n : ℕ) → n < nodes → IsAmong n window) × HasWindows nodes count rest
+
+-- among these turns comes one of node n, of which this is true
+pub record HasTurn (n : ℕ) (P : Working → Working → Type 0) (order : List ℕ) (first last : Working) : Type 0 where
+  pub before : List ℕ
+  pub after : List ℕ
+  pub whole : order ≡ before ++ n ∷ after
+  pub old : Working
+  pub new : Working
+  pub leads : AreSteadyTurns before first old
+  pub turn : IsSteadyTurn n old new
+  pub later : AreSteadyTurns after new last
+  pub so : P old new
