@@ -8,7 +8,7 @@ NEED_CARGO = command -v cargo > /dev/null || { echo "cargo is missing: install R
 PROGRAMS = crates/scimem/out/scimem crates/sciview/out/sciview crates/sci_circle/out/sci_circle
 SOURCES = crates.txt HANDLES $(shell find crates -name out -prune -o -path '*_tests' -prune -o \( -name '*.rt' -o -name '*.antt' \) -print)
 
-.PHONY: try run test check cosim bindings fmt bench growth instructions fuzz soak faults install build dist dist-twice library install-library plants cases examples charts pages clean
+.PHONY: try run test check cosim bindings fmt bench growth instructions fuzz soak faults adversaries install build dist dist-twice library install-library plants cases examples charts pages clean
 
 PREFIX = /usr/local
 
@@ -129,6 +129,13 @@ faults:
 # make soak SECONDS=600 SEED=2. It isn't part of the gate.
 soak: build
 	@scripts/measure/soak.py $(or $(SECONDS),60) $(or $(SEED),1)
+
+# Builds the C library, and lets nodes take ten million turns in orders that adversaries choose: make adversaries TURNS=10000000
+# SEED=2. It isn't part of the gate, which takes fewer.
+adversaries: library
+	@mkdir -p out/adversaries
+	@$(CC) -std=c11 -O2 -Iinclude library/tests/adversaries.c out/library/liblichenknit.a -o out/adversaries/adversaries
+	@out/adversaries/adversaries $(or $(TURNS),10000000) $(or $(SEED),1)
 
 # Builds both programs, gives scimem hostile inputs for some seconds, and for as long each small traces to sciview judge and small
 # scripts to sciview allowed and outcomes, whose answers are checked by trying all orders; then 1,000 of its own runs without their

@@ -26,6 +26,7 @@ from header import HEADER, declared, enum, header, number_of, read, structs  # n
 from tally import Tally  # noqa: E402
 
 CALLS = "200000"
+TESTS = ("layout", "misuse", "texts", "turns", "windows", "adversaries", "memory")
 C = ["-std=c11", "-Wall", "-Wextra", "-Wpedantic", "-Werror", "-O2"]
 CXX = ["-std=c++17", "-Wall", "-Wextra", "-Wpedantic", "-Werror", "-O2"]
 # What stands in the header and not in the crates.
@@ -181,7 +182,7 @@ def check_programs(tally, cc, room):
     memory = "-Wl,--wrap=malloc,--wrap=realloc,--wrap=free"
     cxx = next((it for it in (os.environ.get("CXX"), "c++", "g++", "clang++") if it and shutil.which(it)), None)
     tally.run("the header as C11", [cc, *C, *flags, "-fsyntax-only", "-x", "c", HEADER])
-    made = [(cc, C, f"library/tests/{name}.c", [memory] if name == "memory" else []) for name in ("layout", "misuse", "texts", "turns", "windows", "memory")]
+    made = [(cc, C, f"library/tests/{name}.c", [memory] if name == "memory" else []) for name in TESTS]
     made += [(cc, C, f"examples/c/{name}.c", []) for name in ("first", "two_nodes", "any_order", "lock_step", "turns", "record")]
     if cxx:
         tally.run("the header as C++17", [cxx, *CXX, *flags, "-fsyntax-only", "-x", "c++", HEADER])
