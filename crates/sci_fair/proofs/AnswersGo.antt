@@ -14,12 +14,10 @@ use Rattle.sci_core.proofs.Basics.Options.{of_some}
 use Rattle.sci_core.proofs.Step.NodeSides.{AcceptedAs, At_home, In_cache, RefusedAs, ServedAs, accept_as, refuse_as, reply_as, serve_as}
 use Rattle.sci_core.proofs.Step.Places.{place_from}
 use Rattle.sci_core.proofs.WellFormed.WellFormedSteps.{reached_stepping, reached_well, size_either}
-use Rattle.sci_policy.specs.declared.progress.Progress.{Progress}
-use Rattle.sci_policy.specs.Policy.{PolicyOf, turned}
 use Rattle.sci_policy.proofs.{Targets.{asked_target, waiting_target}}
-use Rattle.sci_turn.specs.{Posts.{IsMade, nodes_in, post_at}, Moves.{Stage, stage}}
-use Rattle.sci_turn.specs.Whole.{Accepts, AcceptsFrom, Asks, AsksNoMore, FindsNoAnswer, FindsNoRequest, InTurn, IsWholeTurn, MakesNone, Replies}
-use Rattle.sci_turn.specs.Whole.{Takes, TakesFrom, UpTo, no_progress}
+use Rattle.sci_turn.specs.{Posts.{IsMade}, Moves.{Stage}}
+use Rattle.sci_turn.specs.Whole.{Accepts, AcceptsFrom, FindsNoAnswer, InTurn, MakesNone, Replies}
+use Rattle.sci_turn.specs.Whole.{UpTo}
 use Rattle.sci_turn.proofs.{AlonePosts.{IsAlone, made_alone, still_alone}, Working.{other_stays, stepped}}
 use Rattle.sci_fair.specs.Between.{AreShort, IsBetweenTurns}
 use Rattle.sci_fair.proofs.{Looks.{in_turn_so, up_to_so}, OneStep.{SetsOne, TakesOne, sends_one, takes_one}}
@@ -335,24 +333,6 @@ held_never n j old core is held =
     let there : 4 ≤ length (lane_of core Answers n j) = subst (λ (k : ℕ). 4 ≤ length (lane_of core Answers n k)) is.to full in
     let less = is.less in absurd (omega (arith, there, less))
 
-replies_on : (n j : ℕ) (old : Core) (a b : Stage) → n < old.size.nodes → On n (HasServed n j old) a → Replies a b → On n (HasTaken n old) b
-replies_on n j old a b some on (inl makes) =
-    on_made n (HasServed n j old) (HasTaken n old) a b (λ m. event.Reply m) on makes.made
-    (λ steps. reply_step n j old a.post.core b.post.core some on.1.sender on.1 steps)
-replies_on n j old a b some on (inr none) =
-    let on_b = on_none n (HasServed n j old) a b on none.0 in
-    absurd (held_never n j old b.post.core on_b.1
-    (subst (λ (m : ℕ). IfSome (node_at b.post.core m).waiting (λ answer. 4 ≤ length (lane_of b.post.core Answers m answer.target))) on_b.0.me none.1))
-
-takes_on : (n j : ℕ) (old : Core) (a b : Stage) → n < old.size.nodes → On n (HasTaken n old) a → Takes j a b → On n (HasTaken n old) b
-takes_on n j old a b some on takes =
-    replies_on n j old takes.taken b some (elim takes.takes [
-      | inl makes ↦ on_made n (HasTaken n old) (HasServed n j old) a takes.taken (λ m. event.Serve j m) on makes.made
-          (λ steps. serve_step n j old a.post.core takes.taken.post.core some on.1 steps)
-      | inr makes ↦ on_made n (HasTaken n old) (HasServed n j old) a takes.taken (λ m. event.Refuse j m) on makes.made
-          (λ steps. refuse_step n j old a.post.core takes.taken.post.core some on.1 steps)
-    ]) takes.replies
-
 -- ---- the node asks
 
 pub record HasAsked (n : ℕ) (old core : Core) : Type 0 where
@@ -390,17 +370,6 @@ ask_step n line k old core new some so steps =
           );
     }
 
-asks_on : (n : ℕ) (old : Core) (a b : Stage) → n < old.size.nodes → On n (HasAsked n old) a → Asks a b → On n (HasAsked n old) b
-asks_on n old a b some on asks =
-    on_made n (HasAsked n old) (HasAsked n old) a b (λ m. event.Ask m asks.0 asks.1) on asks.2.made
-    (λ steps. ask_step n asks.0 asks.1 old a.post.core b.post.core some on.1 steps)
-
--- the policy may be asked once more, and the machine is the same
-ended_on : (n : ℕ) (P : Core → Type 0) (a b : Stage) → On n P a → AsksNoMore a b → On n P b
-ended_on n P a b on ends =
-    let still = still_alone n a.post b.post on.0 ends.still in
-    (still.is, subst P (sym still.same) on.1)
-
 -- ---- the turn
 
 -- no answer waits to go out
@@ -419,10 +388,6 @@ replies_quiet n old a b some is so (inl makes) =
 pub all_below : (nodes count first : ℕ) → first + count ≤ nodes → AllByRecursion (λ from. from < nodes) (range_with_len first count)
 all_below nodes zero first most = tt
 all_below nodes (suc count) first most = (omega (arith, most), all_below nodes count (first + 1) (omega (arith, most)))
-
-pub record TurnEnds (n : ℕ) (old new : Core) : Type 0 where
-  pub between : IsBetweenTurns new
-  pub answered : (b : ℕ) → b < old.size.nodes → b ≢ n → lane_of new Answers b n ≡ []
 
 pub of_range : (P : ℕ → Type 0) (count first from : ℕ) → first ≤ from → from < first + count → AllByRecursion P (range_with_len first count) → P from
 of_range P zero first from some few all = absurd (omega (arith, some, few))
@@ -465,70 +430,32 @@ asked_first n old core some is = record {
   room = λ j f other. is.room j f;
 }
 
-pub between_last : (n : ℕ) (old new : Core) → n < old.size.nodes → IsBetweenTurns old → AreShort new → HasAsked n old new → TurnEnds n old new
+pub between_last : (n : ℕ) (old new : Core) → n < old.size.nodes → IsBetweenTurns old → AreShort new → HasAsked n old new → IsBetweenTurns new
 between_last n old new some between short is = record {
-  between = record {
-    free = λ m. elim (cases_eq m n) [
-      | inl same ↦ subst (λ (k : ℕ). (node_at new k).waiting ≡ None) (sym same) is.free
-      | inr other ↦ ap (λ (part : NodeOf). part.waiting) (is.since.others m other) ∙ between.free m
-    ];
-    short = short;
-    room = λ a b g u apart. (
-        let f : a < old.size.nodes = subst (λ (z : Size). a < z.nodes) is.since.size g in
-        let t : b < old.size.nodes = subst (λ (z : Size). b < z.nodes) is.since.size u in
-        elim (cases_eq a n) [
-          | inl own ↦
-              let empty : length (lane_of new Answers b a) ≡ 0 =
-              ap length (subst (λ (k : ℕ). lane_of new Answers b k ≡ []) (sym own) (is.answered b t (λ e. apart (own ∙ sym e)))) in
-              let few : length (lane_of new Requests a b) ≤ 4 = short (lane_place new.size.nodes Requests a b) in
-              omega (arith, empty, few)
-          | inr other ↦ elim (cases_eq b n) [
-            | inl to ↦ subst (λ (k : ℕ). length (lane_of new Requests a k) + length (lane_of new Answers k a) ≤ 4) (sym to) (is.room a f other)
-            | inr another ↦
-                let lanes = is.apart a b f t other another in
-                let back = is.apart b a t f another other in
-                let requests = ap length lanes.0 in
-                let answers = ap length back.1 in
-                let was = between.room a b f t apart in
-                omega (arith, requests, answers, was)
-          ]
+  free = λ m. elim (cases_eq m n) [
+    | inl same ↦ subst (λ (k : ℕ). (node_at new k).waiting ≡ None) (sym same) is.free
+    | inr other ↦ ap (λ (part : NodeOf). part.waiting) (is.since.others m other) ∙ between.free m
+  ];
+  short = short;
+  room = λ a b g u apart. (
+      let f : a < old.size.nodes = subst (λ (z : Size). a < z.nodes) is.since.size g in
+      let t : b < old.size.nodes = subst (λ (z : Size). b < z.nodes) is.since.size u in
+      elim (cases_eq a n) [
+        | inl own ↦
+            let empty : length (lane_of new Answers b a) ≡ 0 =
+            ap length (subst (λ (k : ℕ). lane_of new Answers b k ≡ []) (sym own) (is.answered b t (λ e. apart (own ∙ sym e)))) in
+            let few : length (lane_of new Requests a b) ≤ 4 = short (lane_place new.size.nodes Requests a b) in
+            omega (arith, empty, few)
+        | inr other ↦ elim (cases_eq b n) [
+          | inl to ↦ subst (λ (k : ℕ). length (lane_of new Requests a k) + length (lane_of new Answers k a) ≤ 4) (sym to) (is.room a f other)
+          | inr another ↦
+              let lanes = is.apart a b f t other another in
+              let back = is.apart b a t f another other in
+              let requests = ap length lanes.0 in
+              let answers = ap length back.1 in
+              let was = between.room a b f t apart in
+              omega (arith, requests, answers, was)
         ]
-        );
-  };
-  answered = is.answered;
+      ]
+      );
 }
-
-pub turn_ends : (n : ℕ) (before after : PolicyOf) (old new : Core) (progress : Progress) → IsReached old → n < old.size.nodes → IsBetweenTurns old
-    → IsWholeTurn before (post_at n old) after (post_at n new) progress → AreShort new → TurnEnds n old new
-turn_ends n before after old new progress reached some between whole short =
-    let begun = stage (turned before) (post_at n old) no_progress in
-    let first : On n (HasAccepted n old) begun = (
-      record { me = refl; alone = refl },
-      record {
-        since = record { reached = reached; size = refl; others = λ m other. refl };
-        free = between.free n;
-        requests = λ a b f t. refl;
-        answers = λ a b f t other. refl;
-        shorter = λ a f. omega arith;
-      },
-    ) in
-    let second = on_none n (HasAccepted n old) begun whole.replied first (replies_quiet n old begun whole.replied some first.0 first.1 whole.replies) in
-    let third : On n (HasAccepted n old) whole.accepted = in_turn_so AcceptsFrom (On n (HasAccepted n old)) (λ i c d is ups.
-    up_to_so 4 (Accepts i) (FindsNoAnswer i) (On n (HasAccepted n old)) (λ e f on makes. accepts_on n i old e f some on makes)
-    (λ e f on none. on_none n (HasAccepted n old) e f on none.0) c d is ups) _ whole.replied whole.accepted second whole.accepts in
-    let nodes : nodes_in whole.replied.post ≡ old.size.nodes = ap (λ (z : Size). z.nodes) second.1.since.size in
-    let empty = emptied_all n (range_with_len 0 (nodes_in whole.replied.post)) old whole.replied whole.accepted some between.short
-    (all_below old.size.nodes (nodes_in whole.replied.post) 0 (omega (arith, nodes))) second whole.accepts in
-    let taking : On n (HasTaken n old) whole.accepted = (
-      third.0,
-      taken_first n old whole.accepted.post.core some between third.1
-          (λ b t. of_range (λ (j : ℕ). lane_of whole.accepted.post.core Answers j n ≡ []) (nodes_in whole.replied.post) 0 b (omega arith)
-          (omega (arith, t, nodes)) empty),
-    ) in
-    let taken : On n (HasTaken n old) whole.taken = in_turn_so TakesFrom (On n (HasTaken n old)) (λ i c d is ups.
-    up_to_so 4 (Takes i) (FindsNoRequest i) (On n (HasTaken n old)) (λ e f on takes. takes_on n i old e f some on takes)
-    (λ e f on none. on_none n (HasTaken n old) e f on none.0) c d is ups) _ whole.accepted whole.taken taking whole.takes in
-    let asking : On n (HasAsked n old) whole.taken = (taken.0, asked_first n old whole.taken.post.core some taken.1) in
-    let asked : On n (HasAsked n old) (stage after (post_at n new) progress) = up_to_so 4 Asks AsksNoMore (On n (HasAsked n old))
-    (λ e f on asks. asks_on n old e f some on asks) (λ e f on ends. ended_on n (HasAsked n old) e f on ends) whole.taken _ asking whole.asks in
-    between_last n old new some between short asked.1

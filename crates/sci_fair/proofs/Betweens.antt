@@ -9,10 +9,9 @@ use Rattle.sci_core.specs.Core.{Core, lane_at, lane_of, node_at, opening, side, 
 use Rattle.sci_core.specs.Node.{NodeOf, may_issue, node_issuing, node_performing}
 use Rattle.sci_core.specs.{Draining.{IsDrained}, Reached.{IsReached}, Size.{Size}}
 use Rattle.sci_core.proofs.{Basics.Options.{of_some}, Settling.Drains.{some_node}, Step.NodeSides.{PerformedAs, perform_as}}
-use Rattle.sci_policy.specs.{declared.progress.Progress.{Progress}, Policy.{PolicyOf}}
-use Rattle.sci_turn.{specs.{Posts.{post_at}, Whole.{IsWholeTurn}}, proofs.Working.{stepped}}
+use Rattle.sci_turn.{proofs.Working.{stepped}}
 use Rattle.sci_fair.specs.{Between.{AreShort, IsBetweenTurns}, Lanes.{IsWork}}
-use Rattle.sci_fair.proofs.{AnswersGo.{turn_ends}, Opens.{none_there}}
+use Rattle.sci_fair.proofs.{Opens.{none_there}}
 use Rattle.sci_fair.proofs.{ReadCarries.{changed_by, issued_waiting}, ReadSteps.{changed_out, opening_waits, performed_out}}
 use Rattle.sci_words.specs.declared.event.Event.TheVariants as event
 
@@ -32,11 +31,6 @@ drained_between core drained = record {
 
 pub opening_between : (size : Size) → IsBetweenTurns (opening size)
 opening_between size = drained_between (opening size) (record { waiting = opening_waits size; lanes = none_there (2 * size.nodes * size.nodes) })
-
-pub turn_between : (n : ℕ) (before after : PolicyOf) (old new : Core) (progress : Progress) → IsReached old → n < old.size.nodes → IsBetweenTurns old
-    → IsWholeTurn before (post_at n old) after (post_at n new) progress → AreShort new → IsBetweenTurns new
-turn_between n before after old new progress reached some between whole short =
-    (turn_ends n before after old new progress reached some between whole short).between
 
 -- one node is another, and no more or less waits there
 changed_between : (core new : Core) (n : ℕ) (next : NodeOf) → IsReached core → n < core.size.nodes → with_node core n next ≡ new

@@ -4,7 +4,8 @@ use Rattle.sci_words.specs.declared.event.Event.{Event}
 use Rattle.sci_core.specs.{Core.{Core, node_at}, Reached.{IsReached}, Size.{Size}}
 use Rattle.sci_policy.specs.{Lines.{state_on}, Policy.{PolicyOf, turned}}
 use Rattle.sci_fair.specs.{Lanes.{AreOpen}, Rank.{CannotPerform, rank, work_in, work_on}, Steady.{IsSteadyTurn, Working, WorksByTurns}}
-use Rattle.sci_fair.proofs.{AnswersGo.{turn_ends}, Opens.{turn_open}, Steadied.{Steadily, steady_from}, Trace.{Does, Trace, does_then, trace}}
+use Rattle.sci_fair.proofs.{Opens.{turn_open}, Steadied.{Steadily, steady_from}, Trace.{Does, Trace, does_then, trace}}
+use Rattle.sci_fair.proofs.AnswersGo.{between_last}
 use Rattle.sci_fair.proofs.WholeTurns.{HasTurned, lower_itself, turns_on}
 
 -- what a steady turn is
@@ -57,7 +58,6 @@ steady_turn n old new good turn =
     let same : (line : ℕ) → rank (work_on (node_at before n) line) (state_on (node_at after n) line) ≡ rank (work_on (node_at before n) line)
     (state_on (node_at before n) line) =
     λ line. ap (λ (w : Option Bool). rank w (state_on (node_at after n) line)) (sym (ap work_in (third.work line))) ∙ turn.same n line in
-    let ends = turn_ends n (old.policies n) (new.policies n) before after turn.progress good.reached turn.some good.between turn.whole turn.short in
     record {
       trace = t;
       accepts = steady_from n before good.reached turn.some turn.cannot r after same begins before t.e1 t.p1 t.c1
@@ -75,6 +75,11 @@ steady_turn n old new good turn =
           steady_from n before good.reached turn.some turn.cannot r after same look.p look.c look.second t.p2 t.c2 t.e3 there there_open look.after t.asks
           );
       asks = steady_from n before good.reached turn.some turn.cannot r after same t.p2 t.c2 t.e3 r after [] second second_open t.asks (refl, refl);
-      good = record { reached = third.reached; fit = third.fit; opened = third_open; between = ends.between };
+      good = record {
+        reached = third.reached;
+        fit = third.fit;
+        opened = third_open;
+        between = between_last n before after turn.some good.between turn.short t.asked;
+      };
       size = third.size;
     }

@@ -14,9 +14,9 @@ use Rattle.sci_turn.specs.{Posts.{PostOf, nodes_in, post_at}, Moves.{Decides, Is
 use Rattle.sci_turn.specs.Whole.{Accepts, AcceptsFrom, Asks, AsksNoMore, EndsAt, FindsNoAnswer, FindsNoRequest, InTurn, IsWholeTurn, Makes, MakesNone, Replies}
 use Rattle.sci_turn.specs.Whole.{Takes, TakesFrom, UpTo, no_progress}
 use Rattle.sci_turn.proofs.{AlonePosts.{IsAlone, made_alone, still_alone}, Wholes.{first_below, of_circle}}
-use Rattle.sci_fair.specs.Between.{IsBetweenTurns}
-use Rattle.sci_fair.proofs.AnswersGo.{HasAccepted, HasAsked, HasServed, HasTaken, accept_step, all_below, ask_step, asked_first, emptied_all, held_never}
-use Rattle.sci_fair.proofs.AnswersGo.{of_range, refuse_step, replies_quiet, reply_step, serve_step, taken_first}
+use Rattle.sci_fair.specs.Between.{AreShort, IsBetweenTurns}
+use Rattle.sci_fair.proofs.AnswersGo.{HasAccepted, HasAsked, HasServed, HasTaken, accept_step, all_below, ask_step, asked_first, between_last, emptied_all}
+use Rattle.sci_fair.proofs.AnswersGo.{held_never, of_range, refuse_step, replies_quiet, reply_step, serve_step, taken_first}
 use Rattle.sci_fair.proofs.Looks.{Spared, in_turn_so, step_spares, up_to_so}
 use Rattle.sci_words.specs.declared.event.Event.TheVariants as event
 
@@ -458,3 +458,9 @@ trace n before after old new progress reached some between whole =
       first = asked.first;
       last = asked.on.last;
     }
+
+-- so no answer waits when it has ended
+pub turn_ends : (n : ℕ) (before after : PolicyOf) (old new : Core) (progress : Progress) → IsReached old → n < old.size.nodes → IsBetweenTurns old
+    → IsWholeTurn before (post_at n old) after (post_at n new) progress → AreShort new → IsBetweenTurns new
+turn_ends n before after old new progress reached some between whole short =
+    between_last n old new some between short (trace n before after old new progress reached some between whole).asked
