@@ -61,7 +61,7 @@ steady_turn n old new good turn =
     record {
       trace = t;
       accepts = steady_from n before good.reached turn.some turn.cannot r after same begins before t.e1 t.p1 t.c1
-      (t.e2 ++ t.e3) begun good.opened t.accepts late;
+          (t.e2 ++ t.e3) begun good.opened t.accepts late;
       takes = steady_from n before good.reached turn.some turn.cannot r after same t.p1 t.c1 t.e2 t.p2 t.c2 t.e3 first first_open t.takes t.asks;
       before = λ j f. (
           let look = t.looks j f in
