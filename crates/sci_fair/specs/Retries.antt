@@ -2,8 +2,8 @@
 use Rattle.std.specs.Prelude.{Bool, true, false}
 use Rattle.sci_cache.specs.State.{CacheState, Asking, Fading, Telling}
 
--- a line whose request is never answered as busy, so that it is asked once: a read of the home, a Setback that was sent, or a Roll of
--- an entry that was purged meanwhile
+-- a line that gets another rank by its answer, whatever that is, so that its request is made once: a read of the home, a Setback that
+-- was sent, or a Roll of an entry that was purged meanwhile
 abbrev pub is_tried_once : CacheState → Bool
 is_tried_once Asking = true
 is_tried_once (Telling r w sent) = sent

@@ -11,8 +11,7 @@ ghost use Rattle.sci_fair.specs.Retries.{is_tried_once};
 ghost use Rattle.sci_fair.specs.Steady.{AreSteadyTurns, HasTurn, HasWindows, Working, WorksByTurns};
 
 /// A request that is in a lane is taken before 280 windows have passed, in each of which each node takes a turn, in any order and
-/// as often as it likes, and no turn changes a rank. A policy keeps a request for another's line at most until its 64th turn, or
-/// until that line's home has answered.
+/// as often as it likes, and no turn changes a rank.
 pub fn requests_are_taken()
     ensures { (j n : ℕ) (letter : Letter) (order : List ℕ) (first last : Working)
         → WorksByTurns first.core → j < first.core.size.nodes → n < first.core.size.nodes
@@ -23,7 +22,7 @@ pub fn requests_are_taken()
 {}
 
 /// A line that awaits an answer has it before 281 such windows have passed: a turn of its node begins, and the answer is on its
-/// way. The turn accepts it.
+/// way.
 pub fn answers_come()
     ensures { (n line : ℕ) (order : List ℕ) (first last : Working)
         → WorksByTurns first.core → n < first.core.size.nodes → line < first.core.size.lines
