@@ -7,7 +7,7 @@ use Rattle.std.specs.Prelude.{IfSome}
 use Rattle.sci_words.specs.declared.event.{AskKind.{AskKind}, Event.{Event}}
 use Rattle.sci_packets.specs.{declared.body.Body.{Body, TheVariants.{Cread}}, Table.{is_request}}
 use Rattle.sci_home.specs.{Serving.{is_for_home}}
-use Rattle.sci_cache.specs.{State.{CacheState, FreshHead, Head, waits}, Accepting.{accepting}, Asking.{asking}, Serving.{serving}}
+use Rattle.sci_cache.specs.{State.{CacheState, FreshHead, Head, waits}, Accepting.{accepting}, Asking.{Asked, asking}, Serving.{serving}}
 use Rattle.sci_cache.specs.{Line.{LineState, line_in, untouched}, Cache.{Letter, line_of}}
 use Rattle.sci_core.specs.declared.lane.LaneKind.TheVariants.{Requests, Answers}
 use Rattle.sci_history.specs.Seen.{IsAmong}
@@ -17,6 +17,7 @@ use Rattle.sci_core.proofs.{Basics.Options.{of_some}, Step.NodeSides.{At_home, I
 use Rattle.sci_policy.specs.{Lines.{state_on}, Policy.{PolicyOf, awaits_home, turned}, Turn.{is_accept, is_ask, is_service}}
 use Rattle.sci_fair.specs.{Rank.{rank, work_in, work_on}, Steady.{Working}}
 use Rattle.sci_fair.specs.Steady.{WorksByTurns}
+use Rattle.sci_fair.proofs.ReadCarries.{asks_free}
 use Rattle.sci_fair.proofs.{StateSteps.{By_accept, By_ask, By_serve, StateStep, Stays, serve_one, state_step}, Steadied.{IsSteady, Steadily}}
 use Rattle.sci_fair.proofs.{SteadyTurns.{Held}, Trace.{AreAll, is_taking}, Whereabouts.{Answered_from, Asked_at, Where, lane_packets, same_packet, where_is}}
 use Rattle.sci_words.specs.declared.event.Event.TheVariants as event
@@ -62,7 +63,7 @@ awaiting_waits s awaits = search rules
 accept_no_service : (e : Event) → is_accept e ≡ true → is_service e ≡ true → ⊥
 accept_no_service e one two = search rules
 
-accept_no_ask : (e : Event) → is_accept e ≡ true → is_ask e ≡ true → ⊥
+pub accept_no_ask : (e : Event) → is_accept e ≡ true → is_ask e ≡ true → ⊥
 accept_no_ask e one two = search rules
 
 pub taking_no_accept : (e : Event) → is_taking e ≡ true → is_accept e ≡ true → ⊥
@@ -73,6 +74,18 @@ taking_no_ask e one two = search rules
 
 pub ask_no_accept : (e : Event) → is_ask e ≡ true → is_accept e ≡ true → ⊥
 ask_no_accept e one two = search rules
+
+service_no_ask : (e : Event) → is_service e ≡ true → is_ask e ≡ true → ⊥
+service_no_ask e one two = search rules
+
+-- an ask leaves a state that waits
+pub waiting_step : (e : Event) (line : ℕ) (s t : CacheState) → StateStep e line s t → is_ask e ≡ true → waits s ≡ true → t ≡ s
+waiting_step e line s t (Stays same) kind waiting = same
+waiting_step e line s t (By_accept is a accepts) kind waiting = absurd (ask_no_accept e kind is)
+waiting_step e line s t (By_serve is m r b serves) kind waiting = absurd (service_no_ask e is kind)
+waiting_step e line s t (By_ask is k asked asks next) kind waiting =
+    let free = of_some (λ (a : Asked). waits s ≡ false) (asking s k) asked asks (asks_free s k) in
+    let clash : true ≡ false = sym waiting ∙ free in cc
 
 -- the line awaits its home's word
 abbrev pub Awaits : ℕ → ℕ → Core → Type 0
@@ -161,7 +174,7 @@ module _ (n line : ℕ) where
 
 -- ---- a turn of the node that awaits
 
-answered_core : (n : ℕ) (old new : Working) → WorksByTurns old.core → (held : Held n old new) → (m : ℕ) → (node_at held.trace.c1 m).waiting ≡ None
+pub answered_core : (n : ℕ) (old new : Working) → WorksByTurns old.core → (held : Held n old new) → (m : ℕ) → (node_at held.trace.c1 m).waiting ≡ None
 answered_core n old new good held m = elim (cases_eq m n) [
   | inl same ↦ subst (λ (k : ℕ). (node_at held.trace.c1 k).waiting ≡ None) (sym same) held.trace.accepted.free
   | inr other ↦ ap (λ (part : NodeOf). part.waiting) (held.trace.accepted.since.others m other) ∙ good.between.free m

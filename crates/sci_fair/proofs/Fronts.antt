@@ -13,10 +13,10 @@ use Rattle.sci_policy.specs.Lines.{can_drain, has_maker, is_head, is_maker_of, s
 use Rattle.sci_policy.specs.Policy.{PolicyOf, awaits_home, decided, is_busy_now, is_cread, kept_by, refused_by, turned}
 use Rattle.sci_policy.specs.Turn.{decided_event, is_ask}
 use Rattle.sci_policy.proofs.{Deciding.{kept_if}, PolicyLaws.{kept_awaits_home, kept_is_cread}}
-use Rattle.sci_fair.specs.{Rank.{work_in, work_on}, Steady.{AreSteadyTurns, HasWindows, IsSteadyTurn, Working}}
+use Rattle.sci_fair.specs.{Rank.{work_in, work_on}, Steady.{AreTurns, HasWindows, IsSteadyTurn, Working}}
 use Rattle.sci_fair.specs.Steady.{WorksByTurns}
 use Rattle.sci_fair.proofs.Awaiting.{Awaits, ask_no_accept, await_all, awaited_opens, is_open_head, open_all, serves_no_cread, taking_no_accept}
-use Rattle.sci_fair.proofs.{Descents.{Comes, Falls, Less, Stays, descend, windows_fewer}}
+use Rattle.sci_fair.proofs.{Descents.{ComesBy, Falls, Less, Stays, descend, windows_fewer}}
 use Rattle.sci_fair.proofs.{HomeAnswers.{AnsweredAt, AskedAt, answered_turn, asked_turn, where_home}}
 use Rattle.sci_fair.proofs.LaneTurns.{Is_kept, Is_taken, front_at}
 use Rattle.sci_turn.specs.Moves.{IsOwn}
@@ -61,7 +61,7 @@ kept_no c o a t b r one two three = search rules
 serve_if : (k r : Bool) → k ≡ false → r ≡ false → (if k then decision.Keep else if r then decision.Refuse else decision.Serve) ≡ decision.Serve
 serve_if k r one two = search rules
 
-opens_serve : (policy : PolicyOf) (node : NodeOf) (request : Letter) → is_open_head (work_on node request.line) (state_on node request.line) ≡ true
+pub opens_serve : (policy : PolicyOf) (node : NodeOf) (request : Letter) → is_open_head (work_on node request.line) (state_on node request.line) ≡ true
     → decided policy node request ≡ decision.Serve
 opens_serve policy node request opened =
     let work = work_on node request.line in
@@ -374,15 +374,18 @@ below_of size n j some front k h w (Asked_home at cread awaits home ahead asked 
     subst (λ (m : ℕ). m < size.nodes) (sym home) (mod-lt front.line (omega (arith, some)))
 below_of size n j some front k h w (Has_answer at cread awaits here answered is) = subst (λ (m : ℕ). m < size.nodes) (sym here) some
 
--- the front of a lane is taken within 70 windows
-pub front_taken : (n j extra : ℕ) (front : Letter) (rest : List Letter) (order : List ℕ) (old last : Working) → WorksByTurns old.core → n < old.core.size.nodes
-    → j < old.core.size.nodes → lane_of old.core Requests j n ≡ front ∷ rest → AreSteadyTurns order old last
-    → HasWindows old.core.size.nodes (70 + extra) order → Comes (FrontTaken n j front) old.core.size.nodes extra order old last
-front_taken n j extra front rest order old last good some f lane turns windows =
+-- the front of a lane is taken within 70 windows, of whatever turns that are steady
+pub front_taken : (IsTurn : ℕ → Working → Working → Type 0) → ((i : ℕ) (old new : Working) → IsTurn i old new → IsSteadyTurn i old new) → (n j extra : ℕ)
+    → (front : Letter) (rest : List Letter) (order : List ℕ) (old last : Working) → WorksByTurns old.core → n < old.core.size.nodes
+    → j < old.core.size.nodes → lane_of old.core Requests j n ≡ front ∷ rest → AreTurns IsTurn order old last
+    → HasWindows old.core.size.nodes (70 + extra) order → ComesBy IsTurn (FrontTaken n j front) old.core.size.nodes extra order old last
+front_taken IsTurn steady n j extra front rest order old last good some f lane turns windows =
     let size = old.core.size in
     let t = (old.policies n).turns in
     let need = 63 - t % 64 in
     let helps : Helps size n j front (need + 6) n old =
     Counts (record { good = good; size_is = refl; rest = rest; lane = lane }) refl need (first_need t) refl in
-    descend size.nodes (FrontTaken n j front) (Helps size n j front) (any_step size n j some f front) (below_of size n j some front) extra last 69 (need + 6) n
+    descend IsTurn size.nodes (FrontTaken n j front) (Helps size n j front)
+    (λ k h i one two help turn. any_step size n j some f front k h i one two help (steady i one two turn)) (below_of size n j some front) extra last 69
+    (need + 6) n
     order old (omega arith) helps turns (windows_fewer size.nodes (suc (69 + extra)) (70 + extra) order (omega arith) windows)

@@ -27,3 +27,11 @@ pub mod Requests
 pub mod Betweens
 pub mod SteadyLaws
 pub mod Retries
+pub mod Kept
+pub mod HeldUp
+pub mod Patience
+pub mod FirstWants
+pub mod Ahead
+pub mod Sharers
+pub mod Promised
+pub mod Joins

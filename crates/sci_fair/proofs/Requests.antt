@@ -39,20 +39,26 @@ stands_gained old new n to k letter after at gained = record {
   few = at.few;
 }
 
--- the request is the front of its lane, and an event takes it; then no more of the lane is left than at last
-pub record TookLetter (to n : ℕ) (letter : Letter) (last : Core) : Type 0 where
+-- Among these events by which requests are taken, one takes the request, which is the front of its lane. Then no more of the lane is
+-- left than at last.
+pub record TookLetter (to n : ℕ) (letter : Letter) (p1 : PolicyOf) (c1 : Core) (p2 : PolicyOf) (c2 : Core) : Type 0 where
   pub p : PolicyOf
   pub x : Core
   pub e : Event
   pub q : PolicyOf
   pub y : Core
   pub steady : IsSteady to p x e q y
+  pub earlier : List Event
+  pub before : Steadily to p1 c1 earlier p x
+  pub later : List Event
+  pub after : Steadily to q y later p2 c2
+  pub later_take : AreAll is_taking later
   pub rest : List Letter
   pub lane : lane_of x Requests n to ≡ letter ∷ rest
   pub takes : (e ≡ event.Serve n to) ⊎ (e ≡ event.Refuse n to)
   pub more : List Letter
-  pub left : rest ≡ more ++ lane_of last Requests n to
-  pub size : last.size ≡ x.size
+  pub left : rest ≡ more ++ lane_of c2 Requests n to
+  pub size : c2.size ≡ x.size
 
 pub size_all : (n : ℕ) (p : PolicyOf) (x : Core) (events : List Event) (q : PolicyOf) (y : Core) → Steadily n p x events q y → y.size ≡ x.size
 size_all n p x [] q y steady = ap (λ (c : Core). c.size) (sym steady.1)
@@ -62,7 +68,7 @@ size_all n p x (e ∷ events) q y steady = size_all n steady.0 steady.1 events q
 module _ (to n : ℕ) (letter : Letter) (after : List Letter) where
   letter_one : (p : PolicyOf) (x : Core) (e : Event) (events : List Event) (q : PolicyOf) (y : Core) (r : PolicyOf) (last : Core) (k : ℕ)
       → (before : List Letter) → IsSteady to p x e q y → is_taking e ≡ true → AreAll is_taking events → Steadily to q y events r last → n < x.size.nodes
-      → lane_of x Requests n to ≡ before ++ letter ∷ after → length before ≤ k → StandsIn y n to letter k after ⊎ TookLetter to n letter last
+      → lane_of x Requests n to ≡ before ++ letter ∷ after → length before ≤ k → StandsIn y n to letter k after ⊎ TookLetter to n letter p x r last
   letter_one p x e events q y r last k [] st kind kinds steady f lane few = elim (take_one to n p x q y e letter after st kind f lane) [
     | inl same ↦ inl (record { before = []; lane = same; few = few })
     | inr took ↦
@@ -75,6 +81,11 @@ module _ (to n : ℕ) (letter : Letter) (after : List Letter) where
           q = q;
           y = y;
           steady = st;
+          earlier = [];
+          before = (refl, refl);
+          later = events;
+          after = steady;
+          later_take = kinds;
           rest = after;
           lane = lane;
           takes = took.0;
@@ -89,20 +100,47 @@ module _ (to n : ℕ) (letter : Letter) (after : List Letter) where
         | inr took ↦ inl (record { before = before; lane = took.1; few = omega (arith, few) })
       ]
 
+  took_later : (p : PolicyOf) (x : Core) (e : Event) (q : PolicyOf) (y : Core) (r : PolicyOf) (last : Core) → IsSteady to p x e q y
+      → TookLetter to n letter q y r last → TookLetter to n letter p x r last
+  took_later p x e q y r last st took = record {
+    p = took.p;
+    x = took.x;
+    e = took.e;
+    q = took.q;
+    y = took.y;
+    steady = took.steady;
+    earlier = e ∷ took.earlier;
+    before = (q, y, st, took.before);
+    later = took.later;
+    after = took.after;
+    later_take = took.later_take;
+    rest = took.rest;
+    lane = took.lane;
+    takes = took.takes;
+    more = took.more;
+    left = took.left;
+    size = took.size;
+  }
+
   letter_all : (p : PolicyOf) (x : Core) (events : List Event) (q : PolicyOf) (y : Core) (k : ℕ) → AreAll is_taking events
-      → Steadily to p x events q y → n < x.size.nodes → StandsIn x n to letter k after → StandsIn y n to letter k after ⊎ TookLetter to n letter y
+      → Steadily to p x events q y → n < x.size.nodes → StandsIn x n to letter k after → StandsIn y n to letter k after ⊎ TookLetter to n letter p x q y
   letter_all p x [] q y k kinds steady f at = inl (subst (λ (c : Core). StandsIn c n to letter k after) steady.1 at)
   letter_all p x (e ∷ events) q y k kinds steady f at =
       let mid = steady.1 in
       let size = size_kept to p x steady.0 mid e steady.2 in
       elim (letter_one p x e events steady.0 mid q y k at.before steady.2 kinds.0 kinds.1 steady.3 f at.lane at.few) [
-        | inl still ↦ letter_all steady.0 mid events q y k kinds.1 steady.3 (subst (λ (z : Size). n < z.nodes) (sym size) f) still
+        | inl still ↦
+            elim (letter_all steady.0 mid events q y k kinds.1 steady.3 (subst (λ (z : Size). n < z.nodes) (sym size) f) still) [
+              | inl stands_ ↦ inl stands_
+              | inr took ↦ inr (took_later p x e steady.0 mid q y steady.2 took)
+            ]
         | inr took ↦ inr took
       ]
 
 -- where its server has taken requests in its turn: it stands there still, with the same behind it, or was taken
 server_letter : (i n to k : ℕ) (old new : Working) (letter : Letter) (after : List Letter) → (held : Held i old new) → i ≡ to → i < old.core.size.nodes
-    → n < old.core.size.nodes → StandsIn old.core n to letter k after → StandsIn held.trace.c2 n to letter k after ⊎ TookLetter to n letter held.trace.c2
+    → n < old.core.size.nodes → StandsIn old.core n to letter k after → StandsIn held.trace.c2 n to letter k after
+    ⊎ TookLetter to n letter held.trace.p1 held.trace.c1 held.trace.p2 held.trace.c2
 server_letter i n to k old new letter after held same here some at =
     let c1 = held.trace.c1 in
     let c2 = held.trace.c2 in
@@ -129,7 +167,7 @@ pub record LetterTaken (n to : ℕ) (letter : Letter) (i : ℕ) (old new : Worki
   pub held : Held i old new
   pub k : ℕ
   pub stood : Stands_on old.core n to letter k
-  pub took : TookLetter to n letter held.trace.c2
+  pub took : TookLetter to n letter held.trace.p1 held.trace.c1 held.trace.p2 held.trace.c2
 
 -- through a turn of node i: it stands there still, or was taken
 letter_turn : (i n to k : ℕ) (old new : Working) (letter : Letter) → WorksByTurns old.core → (held : Held i old new) → i < old.core.size.nodes
@@ -183,14 +221,14 @@ through nodes count n to k letter (i ∷ before) after first mid last good all s
         new = next;
         leads = refl;
         turn = leads.1;
-        turns = turns_join before after next mid last leads.2 turns;
+        turns = turns_join IsSteadyTurn before after next mid last leads.2 turns;
         done = took;
         windows = windows_after nodes count before after windows;
       })
       | inl still ↦ elim (through nodes count n to k letter before after next mid last held.good
           (ap (λ (z : Size). z.nodes) held.size ∙ all) some t still leads.2 turns windows) [
             | Stood good_ size stood ↦ Stood good_ (size ∙ held.size) stood
-            | Was_taken comes ↦ Was_taken (comes_later (LetterTaken n to letter) nodes count i (before ++ after) first next last leads.1 comes)
+            | Was_taken comes ↦ Was_taken (comes_later IsSteadyTurn (LetterTaken n to letter) nodes count i (before ++ after) first next last leads.1 comes)
           ]
     ]
 
@@ -229,7 +267,7 @@ pub comes_behind : (Done : ℕ → Working → Working → Type 0) (nodes count 
     → AreSteadyTurns before first mid → Comes Done nodes count order mid last → Comes Done nodes count (before ++ order) first last
 comes_behind Done nodes count [] order first mid last leads comes = subst (λ (w : Working). Comes Done nodes count order w last) (sym leads) comes
 comes_behind Done nodes count (i ∷ before) order first mid last leads comes =
-    comes_later Done nodes count i (before ++ order) first leads.0 last leads.1
+    comes_later IsSteadyTurn Done nodes count i (before ++ order) first leads.0 last leads.1
     (comes_behind Done nodes count before order leads.0 mid last leads.2 comes)
 
 -- what is known of a request with fewer packets before it
@@ -276,7 +314,7 @@ front_gone nodes k n to later extra letter front order first last some t again c
           let gained = gained_by c.node n to c.old c.new held n0 t0 in
           let at : StandsIn held.trace.c2 n to letter (length still.before) stood.after =
           record { before = still.before; lane = still.lane; few = omega arith } in
-          comes_later (LetterTaken n to letter) nodes extra c.node c.after c.old c.new last c.turn
+          comes_later IsSteadyTurn (LetterTaken n to letter) nodes extra c.node c.after c.old c.new last c.turn
           (again (length still.before) c.after c.new (omega (arith, nearer, few)) held.good (ap (λ (z : Size). z.nodes) held.size ∙ all) (record {
             after = stood.after ++ gained.0;
             at = stands_gained held.trace.c2 c.new.core n to (length still.before) letter stood.after at gained;
@@ -291,7 +329,7 @@ taken_by nodes k n to later extra letter order first last good all some t at aga
     let lane : lane_of first.core Requests n to ≡ front.0 ∷ front.1 = at.at.lane ∙ sym front.2 in
     let c : Comes (FrontTaken to n front.0) nodes later order first last =
     subst (λ (m : ℕ). Comes (FrontTaken to n front.0) m later order first last) all
-    (front_taken to n later front.0 front.1 order first last good (subst (λ (m : ℕ). to < m) (sym all) t) (subst (λ (m : ℕ). n < m) (sym all) some) lane turns
+    (front_taken IsSteadyTurn (λ i o w t. t) to n later front.0 front.1 order first last good (subst (λ (m : ℕ). to < m) (sym all) t) (subst (λ (m : ℕ). n < m) (sym all) some) lane turns
     (subst (λ (m : ℕ). HasWindows m (70 + later) order) (sym all) windows)) in
     let rest = c.node ∷ c.after in
     let few : HasWindows nodes extra rest =
@@ -481,7 +519,7 @@ answer_comes : (n line extra : ℕ) (order : List ℕ) (first last : Working) �
     → Comes (AnswerTurn n line) first.core.size.nodes extra order first last
 answer_comes n line extra order first last good some answered turns windows =
     let size = first.core.size in
-    descend size.nodes (AnswerTurn n line) (Comes_to size n line) (answer_step size n line some)
+    descend IsSteadyTurn size.nodes (AnswerTurn n line) (Comes_to size n line) (answer_step size n line some)
     (λ k h w at. subst (λ (m : ℕ). m < size.nodes) (sym at.node) some) extra last 0 0 n order first (omega arith)
     (record { none = refl; node = refl; good = good; size_is = refl; answered = answered }) turns
     (windows_fewer size.nodes (suc (0 + extra)) (suc extra) order (omega arith) windows)
@@ -517,7 +555,7 @@ answer_within n line extra order first last good some inside waiting turns windo
           let l0 : line < c.old.core.size.lines = subst (λ (z : Size). line < z.lines) (sym size) inside in
           let answered = taken_answered c.node n to line c.old c.new letter c.done n0 t0 l0 about in
           let after = size_along (c.before ++ c.node ∷ []) first c.new good
-          (turns_join c.before (c.node ∷ []) first c.old c.new c.leads (c.new, c.turn, refl)) in
+          (turns_join IsSteadyTurn c.before (c.node ∷ []) first c.old c.new c.leads (c.new, c.turn, refl)) in
           let n1 : n < c.new.core.size.nodes = subst (λ (z : Size). n < z.nodes) (sym after) some in
           let all : c.new.core.size.nodes ≡ nodes = ap (λ (z : Size). z.nodes) after in
           let later : Comes (AnswerTurn n line) nodes extra c.after c.new last =
@@ -526,5 +564,5 @@ answer_within n line extra order first last good some inside waiting turns windo
           (subst (λ (m : ℕ). HasWindows m (suc extra) c.after) (sym all) c.windows)) in
           subst (λ (l : List ℕ). Comes (AnswerTurn n line) nodes extra l first last) (sym c.whole)
           (comes_behind (AnswerTurn n line) nodes extra c.before (c.node ∷ c.after) first c.old last c.leads
-          (comes_later (AnswerTurn n line) nodes extra c.node c.after c.old c.new last c.turn later))
+          (comes_later IsSteadyTurn (AnswerTurn n line) nodes extra c.node c.after c.old c.new last c.turn later))
     ]

@@ -19,7 +19,7 @@ use Rattle.sci_policy.specs.{Lines.{state_on}, Policy.{PolicyOf, is_cread, turne
 use Rattle.sci_turn.specs.Moves.{taking_event}
 use Rattle.sci_fair.specs.{Rank.{rank, work_on}, Steady.{AreSteadyTurns, HasWindows, Working, WorksByTurns}}
 use Rattle.sci_fair.specs.Retries.{is_tried_once}
-use Rattle.sci_fair.proofs.{Awaiting.{accepted_idle, same_rank}, Followers.{purge_finds}, LaneTurns.{among_stands}}
+use Rattle.sci_fair.proofs.{Awaiting.{accepted_idle, same_rank}, Followers.{purge_finds}, Kept.{IsIn, kept_along, kept_in, once}, LaneTurns.{among_stands}}
 use Rattle.sci_fair.proofs.{ReadSteps.{refuses_cread, refuses_it}, Requests.{AnswerTurn, Stands_on, answer_within, request_taken, three_before}}
 use Rattle.sci_fair.proofs.Requests.{size_along}
 use Rattle.sci_fair.proofs.{StateSteps.{By_accept, By_ask, By_serve, StateStep, Stays, serve_one, state_step}, Steadied.{IsSteady, Steadily}}
@@ -31,76 +31,23 @@ use Rattle.sci_words.specs.declared.event.Event.TheVariants as event
 once_waits : (s : CacheState) → is_tried_once s ≡ true → waits s ≡ true
 once_waits s is = search rules
 
-once_accepts : (work : Option Bool) (s : CacheState) (a : Body) → is_tried_once s ≡ true
-    → IfSome (accepting s a) (λ t. (rank work t == rank work s) ≡ true → is_tried_once t ≡ true)
-once_accepts work s a is = search rules
-
-once_serves : (work : Option Bool) (s : CacheState) (m : ℕ) (r : Body) → is_tried_once s ≡ true
-    → IfSome (serving s m r) (λ (served : CacheState × Body). (rank work served.0 == rank work s) ≡ true → is_tried_once served.0 ≡ true)
-once_serves work s m r is = search rules
-
-once_asks : (s : CacheState) (k : AskKind) → is_tried_once s ≡ true → asking s k ≡ None
-once_asks s k is = search rules
-
 purged_rank : (work : Option Bool) (s : CacheState) (m : ℕ) → follows s ≡ true
     → IfSome (serving s m Purge) (λ (served : CacheState × Body). (rank work served.0 == rank work s) ≡ false)
 purged_rank work s m is = search rules
 
--- ---- such a line stays as it is
-
-abbrev IsOnce : ℕ → ℕ → Core → Type 0
-IsOnce n line x = is_tried_once (state_on (node_at x n) line) ≡ true
-
-step_once : (e : Event) (line : ℕ) (work : Option Bool) (s t : CacheState) → StateStep e line s t → (rank work t == rank work s) ≡ true
-    → is_tried_once s ≡ true → is_tried_once t ≡ true
-step_once e line work s t (Stays same) keeps is = subst (λ (r : CacheState). is_tried_once r ≡ true) (sym same) is
-step_once e line work s t (By_accept kind a accepts) keeps is =
-    of_some (λ (r : CacheState). (rank work r == rank work s) ≡ true → is_tried_once r ≡ true) (accepting s a) t accepts (once_accepts work s a is) keeps
-step_once e line work s t (By_serve kind m r b serves) keeps is =
-    of_some (λ (served : CacheState × Body). (rank work served.0 == rank work s) ≡ true → is_tried_once served.0 ≡ true) (serving s m r) (t, b) serves
-    (once_serves work s m r is) keeps
-step_once e line work s t (By_ask kind k asked asks next) keeps is =
-    absurd (let clash : None ≡ Some asked = sym (once_asks s k is) ∙ asks in cc)
-
-once_all : (n line : ℕ) (p : PolicyOf) (x : Core) (events : List Event) (q : PolicyOf) (y : Core) → Steadily n p x events q y → IsOnce n line x
-    → IsOnce n line y
-once_all n line p x [] q y steady is = subst (IsOnce n line) steady.1 is
-once_all n line p x (e ∷ events) q y steady is =
-    let mid = steady.1 in
-    once_all n line steady.0 mid events q y steady.3
-    (step_once e line (work_on (node_at x n) line) (state_on (node_at x n) line) (state_on (node_at mid n) line)
-    (state_step n p x steady.0 mid line e steady.2) (same_rank n p x e steady.0 mid line steady.2) is)
-
-once_turn : (i n line : ℕ) (old new : Working) → (held : Held i old new) → IsOnce n line old.core → IsOnce n line new.core
-once_turn i n line old new held is = elim (cases_eq n i) [
-  | inr other ↦ subst (λ (part : NodeOf). is_tried_once (state_on part line) ≡ true) (sym (held.trace.asked.since.others n other)) is
-  | inl same ↦
-      let t = held.trace in
-      let begun : IsOnce i line old.core = subst (λ (m : ℕ). IsOnce m line old.core) same is in
-      let first = once_all i line (turned (old.policies i)) old.core t.e1 t.p1 t.c1 held.accepts begun in
-      let second = once_all i line t.p1 t.c1 t.e2 t.p2 t.c2 held.takes first in
-      let third = once_all i line t.p2 t.c2 t.e3 t.p3 new.core held.asks second in
-      subst (λ (m : ℕ). IsOnce m line new.core) (sym same) third
-]
-
-once_along : (n line : ℕ) (order : List ℕ) (first last : Working) → WorksByTurns first.core → AreSteadyTurns order first last → IsOnce n line first.core
-    → IsOnce n line last.core
-once_along n line [] first last good turns is = subst (λ (w : Working). IsOnce n line w.core) turns is
-once_along n line (i ∷ order) first last good turns is =
-    let held = steady_turn i first turns.0 good turns.1 in
-    once_along n line order turns.0 last held.good turns.2 (once_turn i n line first turns.0 held is)
+-- ---- such a line stays as it is, but its answer comes
 
 own_once : (n line i : ℕ) (old new : Working) → (done : AnswerTurn n line i old new) → n < old.core.size.nodes → line < old.core.size.lines
-    → IsOnce n line old.core → ⊥
+    → IsIn once n line old.core → ⊥
 own_once n line i old new done some inside is =
     let held : Held n old new = subst (λ (m : ℕ). Held m old new) done.server done.held in
     let t = held.trace in
-    let first = once_all n line (turned (old.policies n)) old.core t.e1 t.p1 t.c1 held.accepts is in
+    let first = (kept_in once n line old new held).accepted is in
     let idle = accepted_idle n done.answered.from line old new done.answered.letter done.good held some inside done.answered.sender done.answered.answers
     done.answered.about done.answered.among in
     let clash : true ≡ false = sym (once_waits (state_on (node_at t.c1 n) line) first) ∙ idle in cc
 
--- but its answer comes, and then it doesn't wait
+-- and then it doesn't wait
 pub never_once : (n line : ℕ) (order : List ℕ) (first last : Working) → WorksByTurns first.core → n < first.core.size.nodes → line < first.core.size.lines
     → AreSteadyTurns order first last → HasWindows first.core.size.nodes 281 order → is_tried_once (state_on (node_at first.core n) line) ≡ true → ⊥
 never_once n line order first last good some inside turns windows is =
@@ -108,7 +55,7 @@ never_once n line order first last good some inside turns windows is =
     let size = size_along c.before first c.old good c.leads in
     let n0 : n < c.old.core.size.nodes = subst (λ (z : Size). n < z.nodes) (sym size) some in
     let l0 : line < c.old.core.size.lines = subst (λ (z : Size). line < z.lines) (sym size) inside in
-    let there = once_along n line c.before first c.old good c.leads is in
+    let there = kept_along once n line c.before first c.old good c.leads is in
     own_once n line c.node c.old c.new c.done n0 l0 there
 
 -- ---- a Purge is served, and the line that it reaches gets another rank

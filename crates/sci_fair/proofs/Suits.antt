@@ -119,7 +119,7 @@ state_performs (Head (Some q) c) op true is can other = cc
 state_performs _ op true is can other = cc
 state_performs _ op false is can other = cc
 
-at_line : (node : NodeOf) (line : ℕ) (p : Pending) (at : ℕ) → at ≡ line → p.op.line ≡ at → is_some (performing_pending node line (Some p))
+pub at_line : (node : NodeOf) (line : ℕ) (p : Pending) (at : ℕ) → at ≡ line → p.op.line ≡ at → is_some (performing_pending node line (Some p))
     ≡ is_some (performing (state_on node p.op.line) p.op)
 at_line node line p at here is = is_mapped _ _ ∙ is_mapped _ (performing (state_on node p.op.line) p.op)
 

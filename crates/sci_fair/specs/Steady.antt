@@ -29,10 +29,13 @@ pub record IsSteadyTurn (n : ℕ) (old new : Working) : Type 0 where
   pub short : AreShort new.core
   pub same : (m line : ℕ) → rank_at new.core m line ≡ rank_at old.core m line
 
--- such turns of these nodes, one after another
+-- turns of these nodes, one after another
+abbrev pub AreTurns : (ℕ → Working → Working → Type 0) → List ℕ → Working → Working → Type 0
+AreTurns IsTurn [] old new = old ≡ new
+AreTurns IsTurn (n ∷ order) old new = (mid : Working) × IsTurn n old mid × AreTurns IsTurn order mid new
+
 abbrev pub AreSteadyTurns : List ℕ → Working → Working → Type 0
-AreSteadyTurns [] old new = old ≡ new
-AreSteadyTurns (n ∷ order) old new = (mid : Working) × IsSteadyTurn n old mid × AreSteadyTurns order mid new
+AreSteadyTurns = AreTurns IsSteadyTurn
 
 -- an order has this many windows, one after another, in each of which each node comes
 abbrev pub HasWindows : ℕ → ℕ → List ℕ → Type 0
