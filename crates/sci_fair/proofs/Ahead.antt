@@ -65,7 +65,7 @@ after_it Done count order first last good c =
     }
 
 -- turns behind them leave the windows
-windows_on : (nodes count : ℕ) (order rest : List ℕ) → HasWindows nodes count order → HasWindows nodes count (order ++ rest)
+pub windows_on : (nodes count : ℕ) (order rest : List ℕ) → HasWindows nodes count order → HasWindows nodes count (order ++ rest)
 windows_on nodes zero order rest windows = tt
 windows_on nodes (suc count) order rest windows = (
   windows.0,

@@ -24,7 +24,7 @@ use Rattle.sci_policy.specs.Turn.{is_ask}
 
 -- ---- the request
 
-awaits_sent : (home : ℕ) (state : CacheState) (letter : Letter) → awaits_home state ≡ true → IsSentIn home state letter
+pub awaits_sent : (home : ℕ) (state : CacheState) (letter : Letter) → awaits_home state ≡ true → IsSentIn home state letter
     → (changes_list letter.body ≡ true) × (letter.target ≡ home)
 awaits_sent home (Claiming f c) letter awaits sent = (ap changes_list sent.0, sent.1)
 awaits_sent home (Clearing c) letter awaits sent = (ap changes_list sent.0, sent.1)

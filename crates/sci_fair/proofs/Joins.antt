@@ -29,9 +29,9 @@ use Rattle.sci_fair.proofs.Descents.{turns_join, windows_fewer}
 use Rattle.sci_fair.proofs.{AnswersGo.{front_source}, Awaiting.{is_open_head, serves_no_cread}, FirstWants.{wants_send}, Fronts.{opens_serve}}
 use Rattle.sci_fair.proofs.{HeldUp.{FreeTurn, IsFree, free_turn}, HomeAnswers.{gained_by}, LaneTurns.{among_gained}}
 use Rattle.sci_fair.proofs.Kept.{Class, IsIn, is_needy, kept_along, kept_event, kept_events, kept_in, leading, leads, needy, not_draining, performable}
-use Rattle.sci_fair.proofs.{Promised.{As_it_is, By_answer, SettlesTo, settles}, Requests.{LetterTaken, Stands_on, request_taken, size_along, three_before}}
+use Rattle.sci_fair.proofs.{Promised.{As_it_is, By_answer, SettlesTo, settles}, Requests.{LetterTaken, request_taken, size_along, stands_in}}
 use Rattle.sci_fair.proofs.{Retries.{never_once}, Sharers.{asks_it, no_sharers, none_purged, performs_not}, Steadied.{IsSteady}, SteadyTurns.{Held}}
-use Rattle.sci_fair.proofs.Whereabouts.{in_lane, stands}
+use Rattle.sci_fair.proofs.Whereabouts.{in_lane}
 use Rattle.sci_policy.specs.declared.decision.Decision.TheVariants as decision
 use Rattle.sci_words.specs.declared.event.AskKind.TheVariants as kind
 use Rattle.sci_words.specs.declared.event.Event.TheVariants as event
@@ -66,7 +66,7 @@ led_pair view c must first (x ∷ (y ∷ ys)) n (front, inr (role, (front_y, inr
 
 -- ---- what joins now, joins when its answer has come
 
-coming_is : (t : CacheState) → role_of t ≡ Some Coming → joins t ≡ true
+pub coming_is : (t : CacheState) → role_of t ≡ Some Coming → joins t ≡ true
 coming_is (Joining p sent) is = refl
 coming_is (FreshJoining p sent c) is = refl
 coming_is _ is = cc
@@ -117,12 +117,12 @@ links_join (Joining p sent) a is link = let same : p ≡ a = cc in eq-eqb p a sa
 links_join (FreshJoining p sent c) a is link = let same : p ≡ a = cc in eq-eqb p a same
 links_join _ a is link = cc
 
-coming_links : (t : CacheState) → role_of t ≡ Some Coming → (next : Option ℕ) × (link_of t ≡ Some next)
+pub coming_links : (t : CacheState) → role_of t ≡ Some Coming → (next : Option ℕ) × (link_of t ≡ Some next)
 coming_links (Joining p sent) is = (Some p, refl)
 coming_links (FreshJoining p sent c) is = (Some p, refl)
 coming_links _ is = cc
 
-leading_links : (t : CacheState) → role_of t ≡ Some Leading → (next : Option ℕ) × (link_of t ≡ Some next)
+pub leading_links : (t : CacheState) → role_of t ≡ Some Leading → (next : Option ℕ) × (link_of t ≡ Some next)
 leading_links (Head f c) is = (f, refl)
 leading_links (FreshHead f c) is = (f, refl)
 leading_links (Purging q c) is = (Some q, refl)
@@ -348,7 +348,7 @@ keeps_cread policy node request cread other awaits =
     (kept_cread (is_cread request.body) (not (request.source == node.cache.me)) (awaits_home (state_on node request.line)) _ (ap is_cread cread)
     (other_source request.source node.cache.me other) awaits)
 
-taken_by_it : (a j : ℕ) (p : PolicyOf) (x : Core) (e : Event) (q : PolicyOf) (y : Core) → IsSteady a p x e q y
+pub taken_by_it : (a j : ℕ) (p : PolicyOf) (x : Core) (e : Event) (q : PolicyOf) (y : Core) → IsSteady a p x e q y
     → (e ≡ event.Serve j a) ⊎ (e ≡ event.Refuse j a) → taken_next p x j a ≡ Some e
 taken_by_it a j p x e q y st (inl is) =
     subst (λ (o : Event). taken_next p x j a ≡ Some o) (sym is) (subst (λ (o : Event). IsSteady a p x o q y) is st).own.decides.0
@@ -454,7 +454,7 @@ no_telling n line w last some inside ahead lower tells =
 -- ---- none joins
 
 -- what is kept of the taker's line until it takes a request
-taker_keeps : (class : Class) (n to line i : ℕ) (old new : Working) (letter : Letter) (taken : LetterTaken n to letter i old new)
+pub taker_keeps : (class : Class) (n to line i : ℕ) (old new : Working) (letter : Letter) (taken : LetterTaken n to letter i old new)
     → IsIn class to line old.core → IsIn class to line taken.took.x
 taker_keeps class n to line i old new letter taken is =
     let t = taken.held.trace in
@@ -464,7 +464,7 @@ taker_keeps class n to line i old new letter taken is =
     kept_events class to line t.p1 t.c1 took.earlier took.p took.x took.before (subst (λ (m : ℕ). IsIn class m line t.c1) taken.server accepted)
 
 -- and from then on to the end of its turn
-taker_ends : (class : Class) (n to line i : ℕ) (old new : Working) (letter : Letter) (taken : LetterTaken n to letter i old new)
+pub taker_ends : (class : Class) (n to line i : ℕ) (old new : Working) (letter : Letter) (taken : LetterTaken n to letter i old new)
     → IsIn class to line taken.took.x → IsIn class to line new.core
 taker_ends class n to line i old new letter taken is =
     let t = taken.held.trace in
@@ -526,13 +526,7 @@ comer_never line w last amid inside lower pair =
     let cread = cread_there j a line c.old c.new c.done.good held j_old a_old other (kept.ended then_) waiting in
     let j_new : j < c.new.core.size.nodes = subst (λ (z : Size). j < z.nodes) (sym held.size) j_old in
     let a_new : a < c.new.core.size.nodes = subst (λ (z : Size). a < z.nodes) (sym held.size) a_old in
-    let lane = lane_of c.new.core Requests j a in
-    let stand = stands cread.letter lane cread.among in
-    let short = after.good.between.short (lane_place c.new.core.size.nodes Requests j a) in
-    let stood : Stands_on c.new.core j a cread.letter 3 = record {
-      after = stand.after;
-      at = record { before = stand.before; lane = stand.whole; few = three_before stand.before stand.after cread.letter lane stand.whole short };
-    } in
+    let stood = stands_in c.new.core j a cread.letter after.good.between cread.among in
     let d = request_taken 3 3 c.new.core.size.nodes j a 281 cread.letter after.order c.new last (omega arith) after.good refl j_new a_new stood after.turns
     (windows_fewer c.new.core.size.nodes (70 * 4 + 281) 561 after.order (omega arith) after.windows) in
     let end = after_it (LetterTaken j a cread.letter) 281 after.order c.new last after.good d in

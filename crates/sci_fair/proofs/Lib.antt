@@ -35,3 +35,5 @@ pub mod Ahead
 pub mod Sharers
 pub mod Promised
 pub mod Joins
+pub mod Homes
+pub mod Standstill

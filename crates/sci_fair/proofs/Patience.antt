@@ -126,6 +126,12 @@ noted_due policy (Some (Perform line)) = refl
 noted_due policy (Some (Ask line kind.Purge)) = refl
 noted_due policy (Some (Ask line _)) = refl
 
+pub still_due_marked : (policy : PolicyOf) (node : NodeOf) (line : ℕ) (b : Bool) → line < MAX_LINES → still_due policy node line ≡ true
+    → has (ticked_if policy node b).due line ≡ true
+still_due_marked policy node line true small still = in_set (still_due policy node) line small ∙ still
+still_due_marked policy node line false small still =
+    in_set (due_at_last policy node) line small ∙ ap (λ (b : Bool). b || has_fresh_sharers (state_on node line)) still
+
 pub due_sets : (policy : PolicyOf) (node : NodeOf) (line : ℕ) → line < MAX_LINES → nat_lt (policy.patience + 1) PATIENCE ≡ false
     → has_fresh_sharers (state_on node line) ≡ true → has (next_policy policy node).due line ≡ true
 due_sets policy node line small ends shared =
@@ -187,10 +193,10 @@ Stops m n line x = IsHeld m n line x ⊎ ((at : ℕ) × (is_some (node_performin
 pub record Stopped (m : Marking) (n line : ℕ) (order : List ℕ) (first last : Working) : Type 0 where
   pub before : List ℕ
   pub after : List ℕ
-  pub whole : order ≡ before ++ after
+  pub whole : order ≡ before ++ n ∷ after
   pub old : Working
   pub new : Working
-  pub leads : AreSteadyTurns before first new
+  pub leads : AreSteadyTurns before first old
   pub turn : IsSteadyTurn n old new
   pub turns : AreSteadyTurns after new last
   pub good : WorksByTurns old.core
@@ -224,7 +230,7 @@ stopped_before : (m : Marking) (n line : ℕ) (order rest : List ℕ) (first mid
 stopped_before m n line order rest first mid last later stopped = record {
   before = stopped.before;
   after = stopped.after ++ rest;
-  whole = ap (λ (l : List ℕ). l ++ rest) stopped.whole ∙ append_assoc stopped.before stopped.after rest;
+  whole = ap (λ (l : List ℕ). l ++ rest) stopped.whole ∙ append_assoc stopped.before (n ∷ stopped.after) rest;
   old = stopped.old;
   new = stopped.new;
   leads = stopped.leads;
@@ -425,12 +431,12 @@ module _ (m : Marking) (n line : ℕ) (small : line < MAX_LINES) where
   stops_here : (i : ℕ) (order : List ℕ) (first next last : Working) → n ≡ i → WorksByTurns first.core → IsSteadyTurn i first next
       → AreSteadyTurns order next last → (held : Held n first next) → Stops m n line next.core → Stopped m n line (i ∷ order) first last
   stops_here i order first next last same good turn later held stops = record {
-    before = i ∷ [];
+    before = [];
     after = order;
-    whole = refl;
+    whole = ap (λ (j : ℕ). j ∷ order) (sym same);
     old = first;
     new = next;
-    leads = (next, turn, refl);
+    leads = refl;
     turn = subst (λ (j : ℕ). IsSteadyTurn j first next) (sym same) turn;
     turns = later;
     good = good;
@@ -515,8 +521,10 @@ module _ (m : Marking) (n line : ℕ) (small : line < MAX_LINES) where
 -- ---- the turn in which it has its mark
 
 -- a turn of the node in which nothing holds it up, and in which the line has its mark when the node begins to ask
-pub record MarkedTurn (m : Marking) (n line : ℕ) (last : Working) : Type 0 where
+pub record MarkedTurn (m : Marking) (n line : ℕ) (first last : Working) : Type 0 where
+  pub before : List ℕ
   pub old : Working
+  pub leads : AreSteadyTurns before first old
   pub new : Working
   pub turn : IsSteadyTurn n old new
   pub good : WorksByTurns old.core
@@ -546,7 +554,7 @@ module _ (m : Marking) (n line : ℕ) (small : line < MAX_LINES) where
   -- within 135 windows, if it could have its mark to their end
   pub marked_turn : (order : List ℕ) (first last : Working) → WorksByTurns first.core → n < first.core.size.nodes → AreSteadyTurns order first last
       → HasWindows first.core.size.nodes 135 order → m.class (state_on (node_at last.core n) line) ≡ true
-      → MarkedTurn m n line last ⊎ Stopped m n line order first last
+      → MarkedTurn m n line first last ⊎ Stopped m n line order first last
   marked_turn order first last good some turns windows class =
       let nodes = first.core.size.nodes in
       let part = windows_part nodes 64 71 order (windows_fewer nodes (64 + 71) 135 order (omega arith) windows) in
@@ -571,6 +579,8 @@ module _ (m : Marking) (n line : ℕ) (small : line < MAX_LINES) where
               let t = held.trace in
               let is = still_class c.old c.new held (m.class (state_on (node_at t.c2 n) line)) refl c.after last c.turns class in
               inl (record {
+                before = part.first ++ c.before;
+                leads = turns_join IsSteadyTurn part.first c.before first mid c.old cut.1 c.leads;
                 old = c.old;
                 new = c.new;
                 turn = subst (λ (i : ℕ). IsSteadyTurn i c.old c.new) c.done.own c.turn;

@@ -13,7 +13,7 @@ use Rattle.sci_core.specs.{Core.{Core, lane_of, lane_place, node_at}, Node.{Node
 use Rattle.sci_core.proofs.{Basics.Options.{of_some}, Step.Places.{place_to}, Tidy.TidyRuns.{reached_tidy}}
 use Rattle.sci_policy.specs.{Lines.{state_on}, Policy.{PolicyOf}}
 use Rattle.sci_fair.specs.Steady.{AreSteadyTurns, HasWindows, IsSteadyTurn, Working}
-use Rattle.sci_fair.specs.Steady.{WorksByTurns}
+use Rattle.sci_fair.specs.{Between.{IsBetweenTurns}, Steady.{WorksByTurns}}
 use Rattle.sci_fair.proofs.{Awaiting.{taking_no_accept, taking_no_ask}, Descents.{Comes, Falls, Stays, comes_later, descend, windows_after}}
 use Rattle.sci_fair.proofs.Descents.{turns_join, windows_fewer}
 use Rattle.sci_fair.proofs.{Fronts.{FrontTaken, front_taken}, HomeAnswers.{AnsweredAt, answers_kept, free_taken, front_of, gained_by, lane_kept}}
@@ -239,6 +239,21 @@ three_before before after letter lane is short =
     let whole : length lane ≡ length (before ++ letter ∷ after) = ap length is in
     let parts = length-append before (letter ∷ after) in
     omega (arith, whole, parts, short)
+
+-- a packet of a lane between turns has three before it at most
+pub stands_in : (core : Core) (n to : ℕ) (letter : Letter) → IsBetweenTurns core → IsAmong letter (lane_of core Requests n to)
+    → Stands_on core n to letter 3
+stands_in core n to letter between among =
+    let lane = lane_of core Requests n to in
+    let at = stands letter lane among in
+    record {
+      after = at.after;
+      at = record {
+        before = at.before;
+        lane = at.whole;
+        few = three_before at.before at.after letter lane at.whole (between.short (lane_place core.size.nodes Requests n to));
+      };
+    }
 
 -- turns keep the size, and what is good
 pub size_along : (order : List ℕ) (first last : Working) → WorksByTurns first.core → AreSteadyTurns order first last → last.core.size ≡ first.core.size
@@ -537,16 +552,7 @@ answer_within n line extra order first last good some inside waiting turns windo
           (record { from = from; sender = f; letter = letter; answers = answers; about = about; among = among }) turns
           (windows_fewer nodes (suc extra) (281 + extra) order (omega arith) windows)
       | Asked_at to letter t asks about among ↦
-          let at = stands letter (lane_of first.core Requests n to) among in
-          let short = good.between.short (lane_place nodes Requests n to) in
-          let stood : Stands_on first.core n to letter 3 = record {
-            after = at.after;
-            at = record {
-              before = at.before;
-              lane = at.whole;
-              few = three_before at.before at.after letter (lane_of first.core Requests n to) at.whole short;
-            };
-          } in
+          let stood = stands_in first.core n to letter good.between among in
           let c = request_taken 3 3 nodes n to (suc extra) letter order first last (omega arith) good refl some t stood turns
           (windows_fewer nodes (70 * 4 + suc extra) (281 + extra) order (omega arith) windows) in
           let size = size_along c.before first c.old good c.leads in

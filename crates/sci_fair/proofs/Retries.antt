@@ -20,10 +20,10 @@ use Rattle.sci_turn.specs.Moves.{taking_event}
 use Rattle.sci_fair.specs.{Rank.{rank, work_on}, Steady.{AreSteadyTurns, HasWindows, Working, WorksByTurns}}
 use Rattle.sci_fair.specs.Retries.{is_tried_once}
 use Rattle.sci_fair.proofs.{Awaiting.{accepted_idle, same_rank}, Followers.{purge_finds}, Kept.{IsIn, kept_along, kept_in, once}, LaneTurns.{among_stands}}
-use Rattle.sci_fair.proofs.{ReadSteps.{refuses_cread, refuses_it}, Requests.{AnswerTurn, Stands_on, answer_within, request_taken, three_before}}
+use Rattle.sci_fair.proofs.{ReadSteps.{refuses_cread, refuses_it}, Requests.{AnswerTurn, answer_within, request_taken, stands_in}}
 use Rattle.sci_fair.proofs.Requests.{size_along}
 use Rattle.sci_fair.proofs.{StateSteps.{By_accept, By_ask, By_serve, StateStep, Stays, serve_one, state_step}, Steadied.{IsSteady, Steadily}}
-use Rattle.sci_fair.proofs.{SteadyTurns.{Held, steady_turn}, Whereabouts.{in_lane, lane_packets, stands}, WholeTurns.{request_alone, sent_purge, sole}}
+use Rattle.sci_fair.proofs.{SteadyTurns.{Held, steady_turn}, Whereabouts.{in_lane, lane_packets}, WholeTurns.{request_alone, sent_purge, sole}}
 use Rattle.sci_words.specs.declared.event.Event.TheVariants as event
 
 -- ---- the tables
@@ -111,16 +111,7 @@ pub never_purge : (n to : ℕ) (letter : Letter) (order : List ℕ) (first last 
     → HasWindows first.core.size.nodes 280 order → ⊥
 never_purge n to letter order first last good some t inside asks about purge among turns windows =
     let nodes = first.core.size.nodes in
-    let at = stands letter (lane_of first.core Requests n to) among in
-    let short = good.between.short (lane_place nodes Requests n to) in
-    let stood : Stands_on first.core n to letter 3 = record {
-      after = at.after;
-      at = record {
-        before = at.before;
-        lane = at.whole;
-        few = three_before at.before at.after letter (lane_of first.core Requests n to) at.whole short;
-      };
-    } in
+    let stood = stands_in first.core n to letter good.between among in
     let c = request_taken 3 3 nodes n to 0 letter order first last (omega arith) good refl some t stood turns windows in
     let took = c.done.took in
     let x = took.x in

@@ -123,8 +123,8 @@ stopped_never n line order first mid last some good stopped ahead =
           (fewer 1 280 new last (omega arith) there) works.1
     ]
 
-marked_never : (n line : ℕ) (mid last : Working) → MarkedTurn draining n line mid → Ahead 280 mid last → ⊥
-marked_never n line mid last marked ahead =
+marked_never : (n line : ℕ) (first mid last : Working) → MarkedTurn draining n line first mid → Ahead 280 mid last → ⊥
+marked_never n line first mid last marked ahead =
     let held = marked.held in
     let t = held.trace in
     let node = node_at t.c2 n in
@@ -161,7 +161,7 @@ no_sharers n line w last some amid = elim (cases_Bool (can_drain (state_on (node
       let inside = drains_inside w.core n line amid.ahead.good.reached some drains in
       let small = lines_small w.core line amid.ahead.good.reached inside in
       absurd (elim (marked_turn draining n line small amid.behind first w amid.good n_first amid.came amid.windows drains) [
-        | inl marked ↦ marked_never n line w last marked amid.ahead
+        | inl marked ↦ marked_never n line first w last marked amid.ahead
         | inr stopped ↦ stopped_never n line amid.behind first w last n_first amid.good stopped amid.ahead
       ])
 ]

@@ -11,7 +11,7 @@ use Rattle.sci_core.proofs.{Step.Places.{place_from, place_requests}, Tidy.{Tidy
 use Rattle.sci_policy.specs.Lines.{state_on}
 use Rattle.sci_fair.specs.Steady.{AreSteadyTurns, HasTurn, HasWindows, IsSteadyTurn, Working, WorksByTurns}
 use Rattle.sci_fair.proofs.{Descents.{Comes}, HomeAnswers.{AnsweredAt}, LaneTurns.{among_stands}}
-use Rattle.sci_fair.proofs.Requests.{AnswerTurn, LetterTaken, Stands_on, answer_within, request_taken, size_along, taken_answered, three_before}
+use Rattle.sci_fair.proofs.Requests.{AnswerTurn, LetterTaken, answer_within, request_taken, size_along, stands_in, taken_answered}
 use Rattle.sci_fair.specs.Retries.{is_tried_once}
 use Rattle.sci_fair.proofs.Retries.{never_once, never_purge}
 use Rattle.sci_fair.proofs.{Whereabouts.{in_lane, lane_packets, same_packet, stands}, WholeTurns.{sole}}
@@ -58,16 +58,7 @@ pub letter_taken_law : (j n : ℕ) (letter : Letter) (order : List ℕ) (first l
 letter_taken_law j n letter order first last good f t among turns windows =
     let nodes = first.core.size.nodes in
     let is = request_about first.core j n letter good f t among in
-    let at = stands letter (lane_of first.core Requests j n) among in
-    let short = good.between.short (lane_place nodes Requests j n) in
-    let stood : Stands_on first.core j n letter 3 = record {
-      after = at.after;
-      at = record {
-        before = at.before;
-        lane = at.whole;
-        few = three_before at.before at.after letter (lane_of first.core Requests j n) at.whole short;
-      };
-    } in
+    let stood = stands_in first.core j n letter good.between among in
     let c = request_taken 3 3 nodes j n 0 letter order first last (omega arith) good refl f t stood turns windows in
     let size = size_along c.before first c.old good c.leads in
     let f0 : j < c.old.core.size.nodes = subst (λ (z : Size). j < z.nodes) (sym size) f in
