@@ -1,6 +1,6 @@
 -- Steady turns that lie ahead of a machine, and what can't be while many do: an operation that can be performed, a Purge under way.
-use Rattle.std.proofs.Common.{◌≡◌, ◌≢◌, ◌<◌, ◌≤◌, ◌+◌, ◌⊎◌, ◌%◌, ◌&&◌, ◌||◌, ℕ, zero, suc, Bool, true, false, arith, List, [], ◌∷◌, ◌++◌, get_or-set_same}
-use Rattle.std.proofs.Common.{Option, Some, None, refl, sym, ap, subst, ◌∙◌, inl, inr, rules}
+use Rattle.std.proofs.Common.{◌≡◌, ◌<◌, ◌≤◌, ◌+◌, ◌⊎◌, ◌%◌, ◌&&◌, ◌||◌, ℕ, zero, suc, Bool, true, false, arith, List, [], ◌∷◌, ◌++◌, get_or-set_same}
+use Rattle.std.proofs.Common.{Some, None, refl, sym, ap, subst, ◌∙◌, inl, inr, rules}
 use Rattle.std.proofs.lemmas.{Bool.{cases_Bool, cases_eq, cases_lt}, List.{append_assoc}}
 use Rattle.std.specs.Prelude.{IfSome, is_some}
 use Rattle.sci_history.specs.Seen.{IsAmong}
@@ -10,15 +10,15 @@ use Rattle.sci_cache.specs.{State.{CacheState, Purging, waits}, Asking.{Asked, a
 use Rattle.sci_cache.specs.{Line.{LineState, line_asked, untouched}, Cache.{Letter, line_of}}
 use Rattle.sci_core.specs.declared.lane.LaneKind.TheVariants.{Requests, Answers}
 use Rattle.sci_core.specs.Core.{Core, lane_of, lane_place, node_at}
-use Rattle.sci_core.specs.{Node.{NodeOf, lines_of, node_asking, node_performing}, Reached.{IsReached}, Sharing.{is_about, packets_of}, Size.{Size}, Tidy.{IsSentIn}}
-use Rattle.sci_core.proofs.{Basics.Options.{of_some}, Step.Places.{place_requests}, Tidy.{TidyRuns.{reached_tidy}, TidySteps.{about_line}}, WellFormed.WellFormedSteps.{reached_well}}
+use Rattle.sci_core.specs.{Node.{NodeOf, node_asking, node_performing}, Reached.{IsReached}, Sharing.{is_about, packets_of}, Size.{Size}, Tidy.{IsSentIn}}
+use Rattle.sci_core.proofs.{Basics.Options.{of_some}, Step.Places.{place_requests}, Tidy.{TidyRuns.{reached_tidy}, TidySteps.{about_line}}}
 use Rattle.sci_policy.proofs.Alone.{beyond_out}
 use Rattle.sci_policy.specs.{Lines.{can_drain, state_on}, Policy.{PolicyOf}, Turn.{is_ask}}
 use Rattle.sci_fair.specs.{Rank.{can_perform, work_on}, Steady.{AreSteadyTurns, HasWindows, IsSteadyTurn, Working, WorksByTurns}}
 use Rattle.sci_fair.proofs.Awaiting.{answered_core, taking_no_accept, taking_no_ask, waiting_step}
 use Rattle.sci_fair.proofs.Descents.{Comes, Falls, Stays, descend, turns_join, windows_after, windows_fewer}
-use Rattle.sci_fair.proofs.{FirstWants.{performs_can}, HomeAnswers.{free_taken}, Kept.{kept_along, leads, performable}, LaneTurns.{asks_keep}}
-use Rattle.sci_fair.proofs.{ReadCarries.{AsksAs, ask_as, asks_free}, Requests.{good_along, size_along}, Retries.{never_purge}}
+use Rattle.sci_fair.proofs.{FirstWants.{performs_can}, Kept.{kept_along, leads, performable}, LaneTurns.{asks_keep}}
+use Rattle.sci_fair.proofs.{ReadCarries.{AsksAs, ask_as}, Requests.{good_along, size_along}, Retries.{never_purge}}
 use Rattle.sci_fair.proofs.StateSteps.{By_accept, By_ask, By_serve, StateStep, Stays as Remains, ask_one, state_step}
 use Rattle.sci_fair.proofs.{Steadied.{IsSteady, Steadily}, SteadyTurns.{Held, steady_turn}, Trace.{AreAll, is_taking}}
 use Rattle.sci_fair.proofs.{Whereabouts.{Answered_from, Asked_at, in_lane, lane_packets, where_is}, WholeTurns.{sole}}
@@ -121,7 +121,7 @@ cannot_perform n line w last some ahead = elim (cases_Bool (can_perform (work_on
       let c = turn_comes n 0 w last some ahead in
       let then_ = kept_along performable n line c.before w c.old ahead.good c.leads can in
       let never = subst (λ (m : ℕ). can_perform (work_on (node_at c.old.core m) line) (state_on (node_at c.old.core m) line) ≡ false) c.done
-      (c.turn.cannot line) in
+      (c.turn.alone.cannot line) in
       let clash : true ≡ false = sym then_ ∙ never in cc
 ]
 

@@ -57,13 +57,13 @@ windows_part nodes (suc count) more order windows =
 
 -- ---- a turn that comes
 
-pub turns_join : (IsTurn : ℕ → Working → Working → Type 0) (before after : List ℕ) (first mid last : Working) → AreTurns IsTurn before first mid
+pub turns_join : {X : Type 0} (IsTurn : ℕ → X → X → Type 0) (before after : List ℕ) (first mid last : X) → AreTurns IsTurn before first mid
     → AreTurns IsTurn after mid last → AreTurns IsTurn (before ++ after) first last
-turns_join IsTurn [] after first mid last leads turns = subst (λ (w : Working). AreTurns IsTurn after w last) (sym leads) turns
+turns_join IsTurn [] after first mid last leads turns = subst (λ (w : _). AreTurns IsTurn after w last) (sym leads) turns
 turns_join IsTurn (i ∷ before) after first mid last leads turns = (leads.0, leads.1, turns_join IsTurn before after leads.0 mid last leads.2 turns)
 
-pub turns_part : (IsTurn : ℕ → Working → Working → Type 0) (before after : List ℕ) (first last : Working) → AreTurns IsTurn (before ++ after) first last
-    → (mid : Working) × AreTurns IsTurn before first mid × AreTurns IsTurn after mid last
+pub turns_part : {X : Type 0} (IsTurn : ℕ → X → X → Type 0) (before after : List ℕ) (first last : X) → AreTurns IsTurn (before ++ after) first last
+    → (mid : X) × AreTurns IsTurn before first mid × AreTurns IsTurn after mid last
 turns_part IsTurn [] after first last turns = (first, refl, turns)
 turns_part IsTurn (i ∷ before) after first last turns =
     let part = turns_part IsTurn before after turns.0 last turns.2 in (part.0, (turns.0, turns.1, part.1), part.2)

@@ -18,18 +18,18 @@ use Rattle.sci_fair.proofs.WholeTurns.{turn_kept}
 -- ---- sums
 
 -- the sum of a number for each below a bound
-abbrev sum_to : (ℕ → ℕ) → ℕ → ℕ
+abbrev pub sum_to : (ℕ → ℕ) → ℕ → ℕ
 sum_to f zero = 0
 sum_to f (suc k) = sum_to f k + f k
 
-sum_least : (f g : ℕ → ℕ) (k : ℕ) → ((i : ℕ) → i < k → f i ≤ g i) → sum_to f k ≤ sum_to g k
+pub sum_least : (f g : ℕ → ℕ) (k : ℕ) → ((i : ℕ) → i < k → f i ≤ g i) → sum_to f k ≤ sum_to g k
 sum_least f g zero each = omega arith
 sum_least f g (suc k) each =
     let rest = sum_least f g k (λ i lt. each i (omega (arith, lt))) in
     let last = each k (omega arith) in
     omega (arith, rest, last)
 
-sum_less : (f g : ℕ → ℕ) (k i : ℕ) → ((j : ℕ) → j < k → f j ≤ g j) → i < k → f i < g i → sum_to f k < sum_to g k
+pub sum_less : (f g : ℕ → ℕ) (k i : ℕ) → ((j : ℕ) → j < k → f j ≤ g j) → i < k → f i < g i → sum_to f k < sum_to g k
 sum_less f g zero i each lt less = absurd (omega (arith, lt))
 sum_less f g (suc k) i each lt less = elim (cases_lt i k) [
   | inl low ↦
@@ -52,13 +52,13 @@ sum_most f most (suc k) each =
     omega (arith, rest, last, more)
 
 -- the sum of all ranks
-abbrev node_total : Core → ℕ → ℕ → ℕ
+abbrev pub node_total : Core → ℕ → ℕ → ℕ
 node_total core lines n = sum_to (rank_at core n) lines
 
-abbrev total : Core → ℕ → ℕ → ℕ
+abbrev pub total : Core → ℕ → ℕ → ℕ
 total core nodes lines = sum_to (node_total core lines) nodes
 
-total_within : (core : Core) (nodes lines : ℕ) → total core nodes lines ≤ 46 * lines * nodes
+pub total_within : (core : Core) (nodes lines : ℕ) → total core nodes lines ≤ 46 * lines * nodes
 total_within core nodes lines =
     sum_most (node_total core lines) (46 * lines) nodes (λ n.
     sum_most (rank_at core n) 46 lines (λ line. rank_within (work_on (node_at core n) line) (state_on (node_at core n) line)))
@@ -77,7 +77,7 @@ issue_rank work maker state none =
     subst (λ (w : Option Bool). rank (Some maker) state ≤ rank w state) (sym none) (omega (arith, less))
 
 -- what an Issue does to a line's rank
-issued_rank : (old new : Core) (n : ℕ) (op : Op) → IsReached old → n < old.size.nodes → stepping old (Issue n op) ≡ Some new → (m line : ℕ)
+pub issued_rank : (old new : Core) (n : ℕ) (op : Op) → IsReached old → n < old.size.nodes → stepping old (Issue n op) ≡ Some new → (m line : ℕ)
     → rank_at new m line ≤ rank_at old m line
 issued_rank old new n op reached some steps m line =
     let node = node_at old n in

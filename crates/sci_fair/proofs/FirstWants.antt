@@ -1,19 +1,18 @@
 -- What a policy wants, by the first rule that fits: where nothing can be performed, to purge; then to send what must be sent; and then to
 -- claim what is due.
-use Rattle.std.proofs.Common.{◌≡◌, ◌≢◌, ◌<◌, ◌≤◌, ◌⊎◌, ◌&&◌, ◌||◌, ℕ, Bool, true, false, if◌then◌else◌, arith, Option, Some, None}
-use Rattle.std.proofs.Common.{refl, sym, ap, subst, ◌∙◌, inl, inr, rules}
-use Rattle.std.proofs.lemmas.Bool.{and_parts, cases_Bool, cases_lt}
-use Rattle.std.specs.{Prelude.{IfSome, is_some, option_map}, Option.{option_and_then, option_or}}
+use Rattle.std.proofs.Common.{◌≡◌, ◌<◌, ◌&&◌, ℕ, Bool, true, false, if◌then◌else◌, Option, Some, None}
+use Rattle.std.proofs.Common.{refl, sym, ap, subst, ◌∙◌}
+use Rattle.std.specs.{Prelude.{is_some, option_map}, Option.{option_and_then, option_or}}
 use Rattle.sci_words.specs.{declared.{event.AskKind.{AskKind}, operation.Op.{Op}}, Operation.{is_maker}}
-use Rattle.sci_cache.specs.{Kinds.{has_fresh_sharers, has_sharers, joins, must_send}, Performing.{Performed, performing}, State.{CacheState, FreshHead, Head, Below, FreshJoining, Joining, Telling}}
+use Rattle.sci_cache.specs.{Kinds.{joins, must_send}, Performing.{Performed, performing}, State.{CacheState, FreshHead, Head, Below}}
 use Rattle.sci_core.specs.{declared.pending.Pending.{Pending}, Reached.{IsReachedNode}}
 use Rattle.sci_core.specs.Node.{IsPendingOn, NodeOf, lines_of, node_performing, pending_on, performing_pending}
 use Rattle.sci_core.proofs.{Basics.Options.{of_some}, WellFormed.WellFormedSteps.{any_part, reachable_node}}
 use Rattle.sci_policy.specs.declared.want.Want.{Want, TheVariants.{Perform, Ask}}
-use Rattle.sci_policy.specs.Lines.{has_maker, has_pending, least, oldest, own_ask, some_line, state_on}
-use Rattle.sci_policy.specs.Policy.{PolicyOf, ask_of, asks_home_to_change, due_wanted, has, held_back, is_claimed, is_purged, operation_wanted}
+use Rattle.sci_policy.specs.Lines.{has_maker, least, oldest, own_ask, some_line, state_on}
+use Rattle.sci_policy.specs.Policy.{PolicyOf, ask_of, asks_home_to_change, due_wanted, held_back, is_claimed, is_purged, operation_wanted}
 use Rattle.sci_policy.specs.Policy.{perform_wanted, purge_wanted, ruled, send_wanted, wanted}
-use Rattle.sci_policy.proofs.{Found.{least_fits, least_none, least_some, none_passes}, Least.{least_first}}
+use Rattle.sci_policy.proofs.{Found.{least_some, none_passes}}
 use Rattle.sci_fair.specs.Rank.{can_perform, work_in, work_on}
 use Rattle.sci_fair.proofs.Suits.{at_line}
 use Rattle.sci_words.specs.declared.event.AskKind.TheVariants as kind

@@ -364,8 +364,8 @@ any_step size n j some f front k h i old new helps turn = elim (cases_eq i n) [
       (steady_turn n old new (good_of size n j k h front old helps).good (subst (λ (m : ℕ). IsSteadyTurn m old new) same turn)) helps in
       subst (λ (m : ℕ). FrontTaken n j front m old new ⊎ Falls (Helps size n j front) k h m new) (sym same) own
   | inr other ↦
-      inr (other_step size n j some f front i old new k h (steady_turn i old new (good_of size n j k h front old helps).good turn) turn.some other
-      (turn.others n (λ e. other (sym e))) helps)
+      inr (other_step size n j some f front i old new k h (steady_turn i old new (good_of size n j k h front old helps).good turn) turn.alone.some other
+      (turn.alone.others n (λ e. other (sym e))) helps)
 ]
 
 below_of : (size : Size) (n j : ℕ) → n < size.nodes → (front : Letter) (k h : ℕ) (w : Working) → Helps size n j front k h w → h < size.nodes

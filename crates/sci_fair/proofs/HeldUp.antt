@@ -1,7 +1,7 @@
 -- A node that has something to ask asks it before long: while it asks nothing, the lanes from it are emptied.
-use Rattle.std.proofs.Common.{◌≡◌, ◌≢◌, ◌≤◌, ◌<◌, ◌+◌, ◌⊎◌, ℕ, suc, true, arith, List, [], ◌∷◌, ◌++◌, length}
+use Rattle.std.proofs.Common.{◌≡◌, ◌≢◌, ◌≤◌, ◌<◌, ◌+◌, ◌⊎◌, ℕ, suc, arith, List, [], ◌∷◌, ◌++◌, length}
 use Rattle.std.proofs.Common.{Option, Some, None, refl, sym, ap, subst, ◌∙◌, inl, inr}
-use Rattle.std.proofs.lemmas.{Bool.{cases_eq}, List.{append_assoc, length-append}}
+use Rattle.std.proofs.lemmas.{Bool.{cases_eq}, List.{length-append}}
 use Rattle.std.specs.Prelude.{IfSome, IsSome}
 use Rattle.sci_history.specs.Seen.{IsAmong}
 use Rattle.sci_words.specs.declared.event.{AskKind.{AskKind}, Event.{Event}}
@@ -142,7 +142,7 @@ own_quiet n old new turn held same full = record {
   size = held.size;
   lanes = λ b below other. (
       let lane : lane_of new.core Requests n b ≡ lane_of old.core Requests n b =
-      subst (λ (c : Core). lane_of c Requests n b ≡ lane_of old.core Requests n b) same (held.trace.taken.so.requests n b turn.some below other) in
+      subst (λ (c : Core). lane_of c Requests n b ≡ lane_of old.core Requests n b) same (held.trace.taken.so.requests n b turn.alone.some below other) in
       let long = ap length lane in
       omega (arith, long)
       );
@@ -156,7 +156,7 @@ own_ended n old new None good turn held same wants ends = inl (record { own = re
 own_ended n old new (Some (Perform line)) good turn held same wants ends =
     inl (record { own = refl; good = good; held = held; free = Performs_it line wants same })
 own_ended n old new (Some (Ask line k)) good turn held same wants ends =
-    inr (own_quiet n old new turn held same (held_full n old new line k good held turn.some same wants ends))
+    inr (own_quiet n old new turn held same (held_full n old new line k good held turn.alone.some same wants ends))
 
 own_turn : (n : ℕ) (old new : Working) → WorksByTurns old.core → IsSteadyTurn n old new → (held : Held n old new)
     → AsksFirst n held.trace.p2 held.trace.c2 held.trace.e3 (new.policies n) new.core → FreeTurn n n old new ⊎ QuietTurn n n old new
@@ -177,7 +177,7 @@ any_turn n i old new good some turn = elim (cases_eq i n) [
       inr (record {
         steady = turn;
         size = held.size;
-        lanes = λ b below apart. other_lanes n i b old new held turn.some some (λ e. other (sym e)) below;
+        lanes = λ b below apart. other_lanes n i b old new held turn.alone.some some (λ e. other (sym e)) below;
         full = λ same. absurd (other same);
       })
 ]

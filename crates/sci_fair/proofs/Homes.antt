@@ -1,32 +1,32 @@
 -- In steady turns no request changes a list at its home: where nobody joins, the home keeps the node that asks as the head, and answers
 -- wbok; and that changes the node's rank.
-use Rattle.std.proofs.Common.{◌≡◌, ◌≢◌, ◌<◌, ◌≤◌, ◌+◌, ◌==◌, ◌&&◌, ◌||◌, ◌⊎◌, ◌%◌, ◌*◌, ℕ, Bool, true, false, if◌then◌else◌, arith, List, [], ◌∷◌, ◌++◌}
+use Rattle.std.proofs.Common.{◌≡◌, ◌≢◌, ◌<◌, ◌+◌, ◌==◌, ◌⊎◌, ◌%◌, ◌*◌, ℕ, Bool, true, false, if◌then◌else◌, arith, List, [], ◌∷◌, ◌++◌}
 use Rattle.std.proofs.Common.{Option, Some, None, refl, sym, ap, subst, ◌∙◌, inl, inr, rules}
 use Rattle.std.proofs.lemmas.Bool.{cases_Bool, cases_eq, eq-eqb}
 use Rattle.std.specs.Prelude.{IfSome, is_some, slice_get, unwrap_or}
 use Rattle.sci_history.specs.Seen.{IsAmong}
 use Rattle.sci_words.specs.declared.{event.{AskKind.{AskKind}, Event.{Event}}, stamped.Stamped.{Stamped}}
 use Rattle.sci_packets.specs.{declared.body.Body.{Body, TheVariants.{Claim, Clear, Wback, Wbno, Wbok}}, Table.{is_request}}
-use Rattle.sci_home.specs.{declared.state.HomeState.{HomeState}, Serving.{head_of, home_serving, is_for_home}}
+use Rattle.sci_home.specs.{declared.state.HomeState.{HomeState}, Serving.{head_of, home_serving}}
 use Rattle.sci_cache.specs.{State.{CacheState, Asking, Below, Claiming, Clearing, Fading, FreshHead, FreshJoining, Head, Joining, Out, Purging, Returning, Rolling, Telling}, Accepting.{accepting, settled}, Asking.{Asked, asking}}
-use Rattle.sci_cache.specs.{Kinds.{joins}, Member.{is_fresh, link_of}, Serving.{serving}, Cache.{Letter, line_of}}
+use Rattle.sci_cache.specs.{Kinds.{joins}, Member.{is_fresh}, Serving.{serving}, Cache.{Letter, line_of}}
 use Rattle.sci_core.specs.declared.lane.LaneKind.TheVariants.{Requests, Answers}
 use Rattle.sci_core.specs.Core.{Core, lane_of, lane_place, node_at}
 use Rattle.sci_core.specs.{Node.{NodeOf, answering, home_of, node_serving}, Reached.{IsReached}, Shape.{IsGoneStale, is_home_fresh}}
 use Rattle.sci_core.specs.Sharing.{answer_in, answer_to, home_at, is_about, packets_of, settled_at}
 use Rattle.sci_core.specs.{SharingList.{LinkedFrom}, Size.{Size}, Tidy.{IsSentIn}}
-use Rattle.sci_core.proofs.{Basics.Options.{found, of_some}, FirstCome.Turns.{led_of}, ReachedLaws.{any_shaped, reached_accepted}}
+use Rattle.sci_core.proofs.{Basics.Options.{found, of_some}, FirstCome.Turns.{led_of}, ReachedLaws.{any_shaped}}
 use Rattle.sci_core.proofs.Shape.{Led.{IsLed, following_in, fresh_in, role_in, roles_differ}, ShapeClauses.{member_below}, ShapeSteps.{view_of}}
 use Rattle.sci_core.proofs.Shape.{Shapes.{IsShaped}, Standings.{Coming, Following, Leading, role_of}, StaleFronts.{any_stale}, Views.{View, link_in}}
 use Rattle.sci_core.proofs.{Step.{NodeSides.{At_home, In_cache, ServedAs, serve_as}, Places.{place_requests, place_to}}, Tidy.{TidyRuns.{reached_tidy}, TidySteps.{about_asker, about_from, about_line, answer_asker, request_asker}}}
 use Rattle.sci_core.proofs.WellFormed.WellFormedSteps.{reachable, reached_well}
-use Rattle.sci_policy.specs.{Lines.{can_drain, state_on}, Policy.{PolicyOf, awaits_home, is_cread}, Turn.{is_ask}}
+use Rattle.sci_policy.specs.{Lines.{state_on}, Policy.{PolicyOf, awaits_home, is_cread}, Turn.{is_ask}}
 use Rattle.sci_turn.specs.Moves.{taking_event}
-use Rattle.sci_fair.specs.{Lanes.{changes_list}, Rank.{rank, work_on}, Retries.{is_tried_once}, Steady.{AreSteadyTurns, IsSteadyTurn, Working, WorksByTurns}}
+use Rattle.sci_fair.specs.{Lanes.{changes_list}, Rank.{rank, work_on}, Retries.{is_tried_once}, Steady.{AreSteadyTurns, IsSteadyTurn, Working}}
 use Rattle.sci_fair.proofs.Ahead.{Ahead, Amid, InLane, after_it, earlier, fewer, on_from}
 use Rattle.sci_fair.proofs.{Descents.{turns_part, windows_fewer}, HomeAnswers.{awaits_sent}}
 use Rattle.sci_fair.proofs.{AnswersGo.{Since, since_step}, Awaiting.{Awaits, ask_no_accept, await_all, taking_no_accept}}
-use Rattle.sci_fair.proofs.{Joins.{coming_is, coming_links, leading_links, none_needy, taker_keeps}, Kept.{Class, IsIn, is_needy, leads, needy}}
+use Rattle.sci_fair.proofs.{Joins.{coming_is, coming_links, leading_links, none_needy, taker_keeps}, Kept.{Class, IsIn, is_needy, needy}}
 use Rattle.sci_fair.proofs.LaneTurns.{among_gained, among_tail, asks_keep, take_answers}
 use Rattle.sci_fair.proofs.{Promised.{never_on}, ReadSteps.{refuses_cread, refuses_it, replied_sent}}
 use Rattle.sci_fair.proofs.Requests.{LetterTaken, request_taken, size_along, stands_in}

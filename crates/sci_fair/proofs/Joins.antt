@@ -1,22 +1,22 @@
 -- In steady turns no line joins a list for long. Of the lines on which some node joins, take the least, and on it the node directly before
 -- the one that leads: it asks its Cread, the Cread is taken, and the leader serves it.
-use Rattle.std.proofs.Common.{◌≡◌, ◌≢◌, ◌<◌, ◌≤◌, ◌+◌, ◌==◌, ◌&&◌, ◌||◌, ◌⊎◌, ◌%◌, ◌*◌, ℕ, zero, suc, Bool, true, false, not, if◌then◌else◌, arith, List, [], ◌∷◌, ◌++◌}
+use Rattle.std.proofs.Common.{◌≡◌, ◌≢◌, ◌<◌, ◌+◌, ◌==◌, ◌&&◌, ◌||◌, ◌⊎◌, ◌%◌, ◌*◌, ℕ, zero, suc, Bool, true, false, not, if◌then◌else◌, arith, List, [], ◌∷◌, ◌++◌}
 use Rattle.std.proofs.Common.{Option, Some, None, refl, sym, ap, subst, ◌∙◌, inl, inr, rules}
 use Rattle.std.proofs.lemmas.Bool.{cases_Bool, cases_eq, cases_lt, eqb-true, eq-eqb, ne_eqb}
 use Rattle.std.proofs.lemmas.List.{get_or_past}
 use Rattle.std.specs.Prelude.{IfSome, is_some, slice_get}
 use Rattle.sci_history.specs.Seen.{IsAmong}
 use Rattle.sci_words.specs.declared.{event.{AskKind.{AskKind}, Event.{Event}}, stamped.Stamped.{Stamped}}
-use Rattle.sci_packets.specs.{declared.body.Body.{Body, TheVariants.{Cread}}, Table.{is_request}}
+use Rattle.sci_packets.specs.{declared.body.Body.{Body, TheVariants.{Cread}}}
 use Rattle.sci_cache.specs.{State.{CacheState, Claiming, Clearing, FreshHead, FreshJoining, Head, Joining, Purging, Returning, Telling, waits}, Accepting.{accepting}, Asking.{Asked, asking}}
 use Rattle.sci_cache.specs.{Kinds.{joins, must_send}, Member.{link_of}, Serving.{serving}, Line.{LineState, untouched}, Cache.{Letter, line_of}}
-use Rattle.sci_core.specs.declared.lane.LaneKind.TheVariants.{Requests, Answers}
+use Rattle.sci_core.specs.declared.lane.LaneKind.TheVariants.{Requests}
 use Rattle.sci_core.specs.Core.{Core, lane_of, lane_place, node_at}
 use Rattle.sci_core.specs.{Node.{NodeOf, lines_of}, Reached.{IsReached}, Rounds.{is_telling, joins_before}, Sharing.{home_at, is_about, settled_at}}
 use Rattle.sci_core.specs.{SharingList.{LinkedFrom}, Size.{Size}, Tidy.{IsSentIn}}
 use Rattle.sci_core.proofs.{Basics.Options.{of_some}, FirstCome.Turns.{led_of}, ReachedLaws.{any_shaped}, Step.Places.{place_requests, place_to}}
-use Rattle.sci_core.proofs.Shape.{Led.{AreFollowing, IsLed, following_in, role_in, roles_differ}, ShapeClauses.{member_below}, ShapeSteps.{view_of}}
-use Rattle.sci_core.proofs.Shape.{Standings.{Coming, Following, Leading, Role, role_of}, Views.{View, link_in}}
+use Rattle.sci_core.proofs.Shape.{Led.{IsLed, following_in, role_in, roles_differ}, ShapeClauses.{member_below}, ShapeSteps.{view_of}}
+use Rattle.sci_core.proofs.Shape.{Standings.{Coming, Following, Leading, role_of}, Views.{View, link_in}}
 use Rattle.sci_core.proofs.{Tidy.TidySteps.{about_line}, WellFormed.WellFormedSteps.{reachable, reached_well}}
 use Rattle.sci_policy.specs.declared.{decision.Decision.{Decision}, want.Want.TheVariants.{Ask}}
 use Rattle.sci_policy.specs.Lines.{can_drain, has_maker, least, own_ask, state_on}

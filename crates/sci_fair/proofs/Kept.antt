@@ -1,6 +1,6 @@
 -- What steady turns keep of a line: whatever is true of its state, and of what is pending, if each row of the tables that leaves the rank
 -- keeps it.
-use Rattle.std.proofs.Common.{◌≡◌, ◌<◌, ◌==◌, ◌||◌, ℕ, Bool, true, false, List, [], ◌∷◌, Option, Some, None, refl, sym, ap, subst, ◌∙◌, inl, inr, rules, arith}
+use Rattle.std.proofs.Common.{◌≡◌, ◌==◌, ℕ, Bool, true, false, List, [], ◌∷◌, Option, Some, sym, subst, inl, inr, rules}
 use Rattle.std.proofs.lemmas.Bool.{cases_eq}
 use Rattle.std.specs.Prelude.{IfSome}
 use Rattle.sci_words.specs.declared.event.{AskKind.{AskKind}, Event.{Event}}

@@ -37,3 +37,4 @@ pub mod Promised
 pub mod Joins
 pub mod Homes
 pub mod Standstill
+pub mod Stretches

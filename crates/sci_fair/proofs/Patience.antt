@@ -1,8 +1,8 @@
 -- Patience: a line that is long enough the head of a list with a next entry is marked, and stays so. Each turn of its node calls the policy
 -- once at least, and after 64 calls each such line has its mark.
-use Rattle.std.proofs.Common.{◌≡◌, ◌≢◌, ◌<◌, ◌≤◌, ◌+◌, ◌⊎◌, ◌==◌, ◌||◌, ◌&&◌, ℕ, zero, suc, nat_lt, Bool, true, false, arith, List, [], ◌∷◌, ◌++◌, set, length}
+use Rattle.std.proofs.Common.{◌≡◌, ◌≢◌, ◌<◌, ◌≤◌, ◌+◌, ◌⊎◌, ◌==◌, ◌||◌, ℕ, zero, suc, nat_lt, Bool, true, false, arith, List, [], ◌∷◌, ◌++◌, set, length}
 use Rattle.std.proofs.Common.{Option, Some, None, refl, sym, ap, subst, ◌∙◌, inl, inr, rules, get_or-set_same, get_or-set_other}
-use Rattle.std.proofs.lemmas.{Bool.{and_parts, cases_Bool, cases_eq, ltb-true}}
+use Rattle.std.proofs.lemmas.{Bool.{cases_Bool, cases_eq, ltb-true}}
 use Rattle.std.proofs.lemmas.List.FromFn.{length-map-range_with_len}
 use Rattle.std.specs.Prelude.{IfSome, is_some}
 use Rattle.sci_history.specs.Seen.{IsAmong}
@@ -14,7 +14,7 @@ use Rattle.sci_core.specs.{Core.{Core, node_at}, Node.{NodeOf, node_performing},
 use Rattle.sci_core.proofs.Basics.Options.{of_some}
 use Rattle.sci_policy.specs.declared.{policy.TheConstants.{PATIENCE}, want.Want.{Want, TheVariants.{Perform, Ask}}}
 use Rattle.sci_policy.specs.Lines.{can_be_due, can_drain, state_on}
-use Rattle.sci_policy.specs.Policy.{IsEnabledWant, PolicyOf, draining_at_last, due_at_last, has, next_policy, next_wanted, noted, set_of, still_draining, still_due}
+use Rattle.sci_policy.specs.Policy.{IsEnabledWant, PolicyOf, draining_at_last, due_at_last, has, next_policy, next_wanted, noted, still_draining, still_due}
 use Rattle.sci_policy.specs.Policy.{ticked, turned}
 use Rattle.sci_policy.specs.Turn.{is_accept, is_ask}
 use Rattle.sci_policy.proofs.{Marks.{in_set}, PolicyLaws.{due_stays, ticked_if}, Wants.{wanted_enabled}}
@@ -22,10 +22,10 @@ use Rattle.sci_turn.specs.Moves.{IsOwn}
 use Rattle.sci_fair.specs.{Rank.{rank}}
 use Rattle.sci_fair.specs.Steady.{AreSteadyTurns, HasWindows, IsSteadyTurn, Working, WorksByTurns}
 use Rattle.sci_fair.proofs.{Kept.{Class, IsIn, drain_accepts, drain_asks, drain_serves, fresh_accepts, fresh_asks, fresh_serves, has_fresh_next, kept_along, kept_event, kept_in}}
-use Rattle.sci_fair.proofs.{ReadCarries.{asks_free}, StateSteps.{By_accept, By_ask, By_serve, StateStep, Stays, state_step}}
+use Rattle.sci_fair.proofs.{StateSteps.{state_step}}
 use Rattle.sci_fair.proofs.{Steadied.{IsSteady, Steadily}, SteadyTurns.{Held, steady_turn}, Trace.{AreAll, AsksFirst, Ends_there, Makes_ask, is_taking}}
 use Rattle.sci_fair.proofs.Awaiting.{accept_no_ask, taking_no_ask, waiting_step}
-use Rattle.sci_fair.proofs.{Descents.{Comes, turns_join, turns_part, windows_fewer, windows_part}, HeldUp.{FreeTurn, IsFree, free_turn}, Requests.{good_along, size_along}}
+use Rattle.sci_fair.proofs.{Descents.{turns_join, turns_part, windows_fewer, windows_part}, HeldUp.{IsFree, free_turn}, Requests.{good_along, size_along}}
 use Rattle.std.proofs.lemmas.List.{append_assoc}
 use Rattle.sci_words.specs.declared.event.AskKind.TheVariants as kind
 use Rattle.sci_words.specs.declared.event.Event.TheVariants as event
@@ -448,7 +448,7 @@ module _ (m : Marking) (n line : ℕ) (small : line < MAX_LINES) where
   any_called : (k i : ℕ) (order : List ℕ) (first next last : Working) → WorksByTurns first.core → IsSteadyTurn i first next → AreSteadyTurns order next last
       → CalledAt k first → CalledAt k next ⊎ Stopped m n line (i ∷ order) first last
   any_called k i order first next last good turn later called = elim (cases_eq n i) [
-    | inr other ↦ inl (other_called k i first next (steady_turn i first next good turn) other (turn.others n other) called)
+    | inr other ↦ inl (other_called k i first next (steady_turn i first next good turn) other (turn.alone.others n other) called)
     | inl same ↦
         let held = steady_turn n first next good (subst (λ (j : ℕ). IsSteadyTurn j first next) (sym same) turn) in
         elim (own_called k first next held called) [

@@ -1,8 +1,8 @@
 -- An answer that is on its way keeps the rank of its line: the node accepts it in its next turn.
-use Rattle.std.proofs.Common.{◌≡◌, ◌≢◌, ◌<◌, ◌==◌, ◌&&◌, ◌⊎◌, ◌%◌, ℕ, Bool, true, false, arith, List, [], ◌∷◌, ◌++◌, if◌then◌else◌, get_or-set_same, get_or-set_other}
-use Rattle.std.proofs.Common.{Option, Some, None, refl, sym, ap, subst, ◌∙◌, inl, inr, rules}
-use Rattle.std.proofs.lemmas.Bool.{cases_Bool, cases_eq, eq-eqb}
-use Rattle.std.specs.Prelude.{IfSome, IsSome, unwrap_or}
+use Rattle.std.proofs.Common.{◌≡◌, ◌≢◌, ◌<◌, ◌==◌, ℕ, Bool, true, false, List, [], ◌∷◌, if◌then◌else◌, get_or-set_same, get_or-set_other}
+use Rattle.std.proofs.Common.{Option, Some, None, refl, sym, ap, subst, ◌∙◌, inl, inr}
+use Rattle.std.proofs.lemmas.Bool.{cases_Bool, cases_eq}
+use Rattle.std.specs.Prelude.{unwrap_or}
 use Rattle.sci_history.specs.Seen.{IsAmong}
 use Rattle.sci_words.specs.declared.event.Event.{Event}
 use Rattle.sci_packets.specs.{declared.body.Body.{Body}, Table.{is_request}}
@@ -10,15 +10,14 @@ use Rattle.sci_cache.specs.{State.{CacheState}, Accepting.{accepting, settled}, 
 use Rattle.sci_core.specs.declared.lane.LaneKind.TheVariants.{Requests, Answers}
 use Rattle.sci_core.specs.Core.{Core, lane_of, lane_place, node_at}
 use Rattle.sci_core.specs.{Node.{NodeOf, lines_of, node_accepting}, Reached.{IsReached}, Sharing.{answer_in, answer_to, is_about, packets_of, settled_at}}
-use Rattle.sci_core.specs.{Size.{Size}, Tidy.{HasItsPackets, IsAccepted}}
+use Rattle.sci_core.specs.{Size.{Size}, Tidy.{IsAccepted}}
 use Rattle.sci_core.proofs.{Basics.Options.{found, of_some}, ReachedLaws.{reached_accepted}, Step.{NodeSides.{AcceptedAs, accept_as}, Places.{place_answers, place_to}}}
-use Rattle.sci_core.proofs.{Tidy.{TidyRuns.{reached_tidy}, TidySteps.{about_from, about_line, answer_asker}}, WellFormed.WellFormedSteps.{reached_well}}
+use Rattle.sci_core.proofs.{Tidy.{TidySteps.{about_from, about_line, answer_asker}}, WellFormed.WellFormedSteps.{reached_well}}
 use Rattle.sci_policy.specs.{Lines.{state_on}, Policy.{PolicyOf, turned}, Turn.{is_accept}}
 use Rattle.sci_fair.specs.{Rank.{rank, work_on}, Steady.{AreSteadyTurns, IsSteadyTurn, Working, WorksByTurns}}
 use Rattle.sci_fair.proofs.{Ahead.{Ahead}, Awaiting.{same_rank, same_work}, Descents.{turns_part}, HomeAnswers.{answers_kept}, LaneTurns.{among_gained}}
-use Rattle.sci_fair.proofs.{OneStep.{TakesOne}, StateSteps.{accept_one, size_kept}, Steadied.{IsSteady, Steadily}, SteadyTurns.{Held, steady_turn}, Trace.{AreAll}}
+use Rattle.sci_fair.proofs.{StateSteps.{accept_one, size_kept}, Steadied.{IsSteady, Steadily}, SteadyTurns.{Held, steady_turn}, Trace.{AreAll}}
 use Rattle.sci_fair.proofs.Whereabouts.{Answered_from, Asked_at, Where, among_where, in_lane, lane_packets, same_packet}
-use Rattle.sci_fair.proofs.WholeTurns.{sole}
 use Rattle.sci_words.specs.declared.event.Event.TheVariants as event
 
 -- ---- an answer is accepted
@@ -164,7 +163,7 @@ module _ (n line from : ℕ) (letter : Letter) (s t : CacheState) (work : Option
         | inr other ↦ elim among [
           | inl same ↦ absurd (other (sym same))
           | inr later ↦ never_on window next last held.good (subst (λ (z : Size). n < z.nodes) (sym held.size) some) later turns.2
-              (other_on i first next held other turns.1.some some way)
+              (other_on i first next held other turns.1.alone.some some way)
         ]
       ]
 

@@ -211,7 +211,7 @@ through nodes count n to k letter (i ∷ before) after first mid last good all s
     let held = steady_turn i first next good leads.1 in
     let n0 : n < first.core.size.nodes = subst (λ (m : ℕ). n < m) (sym all) some in
     let t0 : to < first.core.size.nodes = subst (λ (m : ℕ). to < m) (sym all) t in
-    elim (letter_turn i n to k first next letter good held leads.1.some n0 t0 at) [
+    elim (letter_turn i n to k first next letter good held leads.1.alone.some n0 t0 at) [
       | inr took ↦ Was_taken (record {
         before = [];
         node = i;
@@ -300,7 +300,7 @@ front_gone nodes k n to later extra letter front order first last some t again c
     let n0 : n < c.old.core.size.nodes = subst (λ (m : ℕ). n < m) (sym all) some in
     let t0 : to < c.old.core.size.nodes = subst (λ (m : ℕ). to < m) (sym all) t in
     comes_behind (LetterTaken n to letter) nodes extra c.before (c.node ∷ c.after) first c.old last c.leads
-    (elim (server_letter c.node n to k c.old c.new letter stood.after held c.done.server c.turn.some n0 stood.at) [
+    (elim (server_letter c.node n to k c.old c.new letter stood.after held c.done.server c.turn.alone.some n0 stood.at) [
       | inr took ↦ record {
         before = [];
         node = c.node;
@@ -511,7 +511,7 @@ answer_step size n line some k h i old new at turn =
       | inl same ↦ inl (record { server = same; good = at.good; held = held; answered = at.answered })
       | inr other ↦
           let n0 : n < old.core.size.nodes = subst (λ (z : Size). n < z.nodes) (sym at.size_is) some in
-          let kept = answers_kept i n at.answered.from old new held other turn.some n0 at.answered.sender in
+          let kept = answers_kept i n at.answered.from old new held other turn.alone.some n0 at.answered.sender in
           inr (Stays (λ e. other (e ∙ at.node)) (record {
             none = at.none;
             node = at.node;

@@ -2,28 +2,27 @@
 -- another rank when its answer comes; and so does the line that a Purge reaches. So in steady turns there is none of them for long.
 use Rattle.std.proofs.Common.{◌≡◌, ◌<◌, ◌%◌, ◌==◌, ◌⊎◌, ℕ, Bool, true, false, arith, List, [], ◌∷◌}
 use Rattle.std.proofs.Common.{Option, Some, None, refl, sym, ap, subst, ◌∙◌, inl, inr, rules, get_or-set_same}
-use Rattle.std.proofs.lemmas.Bool.{cases_eq}
 use Rattle.std.specs.Prelude.{IfSome, is_some, slice_get}
 use Rattle.sci_history.specs.Seen.{IsAmong}
-use Rattle.sci_words.specs.declared.event.{AskKind.{AskKind}, Event.{Event}}
+use Rattle.sci_words.specs.declared.event.{Event.{Event}}
 use Rattle.sci_packets.specs.{declared.body.Body.{Body, TheVariants.{Purge}}, Table.{is_request}}
 use Rattle.sci_home.specs.Serving.{is_for_home}
-use Rattle.sci_cache.specs.{State.{CacheState, waits}, Accepting.{accepting}, Asking.{asking}, Serving.{serving}}
+use Rattle.sci_cache.specs.{State.{CacheState, waits}, Serving.{serving}}
 use Rattle.sci_cache.specs.{Line.{LineState, line_in, untouched}, Cache.{Letter, line_of}}
 use Rattle.sci_core.specs.declared.lane.LaneKind.TheVariants.{Requests}
 use Rattle.sci_core.specs.{Core.{Core, lane_of, lane_place, node_at}, Node.{NodeOf, lines_of, node_serving}, Size.{Size}}
 use Rattle.sci_core.specs.{Shape.{follows, state_at}, Sharing.{answer_in, answer_to, is_about, packets_of}}
 use Rattle.sci_core.proofs.{Basics.Options.{of_some}, Step.{NodeSides.{At_home, In_cache, ServedAs, serve_as}, Places.{place_to}}}
 use Rattle.sci_core.proofs.{Tidy.TidyRuns.{reached_tidy}, WellFormed.WellFormedSteps.{reached_well}}
-use Rattle.sci_policy.specs.{Lines.{state_on}, Policy.{PolicyOf, is_cread, turned}}
+use Rattle.sci_policy.specs.{Lines.{state_on}, Policy.{PolicyOf, is_cread}}
 use Rattle.sci_turn.specs.Moves.{taking_event}
 use Rattle.sci_fair.specs.{Rank.{rank, work_on}, Steady.{AreSteadyTurns, HasWindows, Working, WorksByTurns}}
 use Rattle.sci_fair.specs.Retries.{is_tried_once}
 use Rattle.sci_fair.proofs.{Awaiting.{accepted_idle, same_rank}, Followers.{purge_finds}, Kept.{IsIn, kept_along, kept_in, once}, LaneTurns.{among_stands}}
 use Rattle.sci_fair.proofs.{ReadSteps.{refuses_cread, refuses_it}, Requests.{AnswerTurn, answer_within, request_taken, stands_in}}
 use Rattle.sci_fair.proofs.Requests.{size_along}
-use Rattle.sci_fair.proofs.{StateSteps.{By_accept, By_ask, By_serve, StateStep, Stays, serve_one, state_step}, Steadied.{IsSteady, Steadily}}
-use Rattle.sci_fair.proofs.{SteadyTurns.{Held, steady_turn}, Whereabouts.{in_lane, lane_packets}, WholeTurns.{request_alone, sent_purge, sole}}
+use Rattle.sci_fair.proofs.{StateSteps.{serve_one}, Steadied.{IsSteady}}
+use Rattle.sci_fair.proofs.{SteadyTurns.{Held}, Whereabouts.{in_lane, lane_packets}, WholeTurns.{request_alone, sent_purge, sole}}
 use Rattle.sci_words.specs.declared.event.Event.TheVariants as event
 
 -- ---- the tables

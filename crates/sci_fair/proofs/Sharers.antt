@@ -1,18 +1,18 @@
 -- In steady turns no list that may write has two entries for long: patience marks its head, which then purges; and no Purge is under way for
 -- long.
-use Rattle.std.proofs.Common.{◌≡◌, ◌<◌, ◌≤◌, ◌⊎◌, ◌&&◌, ◌||◌, ℕ, Bool, true, false, arith, List, [], ◌∷◌, ◌++◌, Option, Some, None, refl, sym, ap, subst, ◌∙◌, inl, inr, rules}
+use Rattle.std.proofs.Common.{◌≡◌, ◌<◌, ◌&&◌, ◌||◌, ℕ, Bool, true, false, arith, List, [], ◌∷◌, Some, None, refl, sym, ap, subst, ◌∙◌, inl, inr, rules}
 use Rattle.std.proofs.lemmas.{Bool.{cases_Bool, cases_lt}, List.{get_or_past}}
 use Rattle.std.specs.Prelude.{IfSome, is_some}
 use Rattle.sci_words.specs.declared.{event.AskKind.{AskKind}, limits.TheConstants.{MAX_LINES}}
 use Rattle.sci_cache.specs.{State.{CacheState, waits}, Asking.{Asked, asking}, Kinds.{has_sharers}, Line.{LineState, untouched}, Cache.{line_of}}
-use Rattle.sci_core.specs.{Core.{Core, node_at}, Node.{NodeOf, lines_of, node_performing}, Reached.{IsReached}, Size.{Size}}
+use Rattle.sci_core.specs.{Core.{Core, node_at}, Node.{lines_of, node_performing}, Reached.{IsReached}, Size.{Size}}
 use Rattle.sci_core.proofs.{Basics.Options.{of_some}, WellFormed.WellFormedSteps.{reached_well}}
-use Rattle.sci_policy.specs.declared.{policy.TheConstants.{PATIENCE}, want.Want.{Want, TheVariants.{Perform, Ask}}}
-use Rattle.sci_policy.specs.{Lines.{can_drain, has_pending, state_on}, Policy.{IsEnabledWant, PolicyOf, has, is_purged, next_wanted, ticked}}
+use Rattle.sci_policy.specs.declared.{want.Want.{TheVariants.{Perform, Ask}}}
+use Rattle.sci_policy.specs.{Lines.{can_drain, has_pending, state_on}, Policy.{IsEnabledWant, has, is_purged, next_wanted, ticked}}
 use Rattle.sci_policy.proofs.Wants.{wanted_enabled}
-use Rattle.sci_fair.specs.Steady.{AreSteadyTurns, HasWindows, IsSteadyTurn, Working, WorksByTurns}
+use Rattle.sci_fair.specs.Steady.{IsSteadyTurn, Working, WorksByTurns}
 use Rattle.sci_fair.proofs.Ahead.{Ahead, Amid, asked_at_last, asked_now, earlier, fewer, firm, firm_asked, firm_before, performs_none, purges_none}
-use Rattle.sci_fair.proofs.{FirstWants.{PerformsNot, wants_purge}, HeldUp.{Asks_it, FreeTurn, IsFree, Performs_it, Wants_none}}
+use Rattle.sci_fair.proofs.{FirstWants.{PerformsNot, wants_purge}, HeldUp.{Asks_it, IsFree, Performs_it, Wants_none}}
 use Rattle.sci_fair.proofs.{Patience.{MarkedTurn, Stopped, draining, marked_turn, still_marked}}
 use Rattle.sci_fair.proofs.{ReadCarries.{asks_free}, Requests.{size_along}, SteadyTurns.{Held}}
 use Rattle.sci_words.specs.declared.event.AskKind.TheVariants as kind
@@ -116,7 +116,7 @@ stopped_never : (n line : ℕ) (order : List ℕ) (first mid last : Working) →
 stopped_never n line order first mid last some good stopped ahead =
     let new = stopped.new in
     let there = earlier 280 stopped.after new mid last stopped.held.good stopped.turns ahead in
-    let n_old : n < stopped.old.core.size.nodes = stopped.turn.some in
+    let n_old : n < stopped.old.core.size.nodes = stopped.turn.alone.some in
     elim stopped.stops [
       | inl held ↦ none_purging n line stopped.old new last stopped.turn stopped.good stopped.held n_old there held.0 held.1
       | inr works ↦ performs_none n works.0 new last (subst (λ (z : Size). n < z.nodes) (sym stopped.held.size) n_old)
@@ -129,7 +129,7 @@ marked_never n line first mid last marked ahead =
     let t = held.trace in
     let node = node_at t.c2 n in
     let s = state_on node line in
-    let some = marked.turn.some in
+    let some = marked.turn.alone.some in
     let there = earlier 280 marked.later marked.new mid last held.good marked.turns ahead in
     elim (cases_Bool (has_sharers s)) [
       | inr none ↦

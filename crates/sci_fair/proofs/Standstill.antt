@@ -1,11 +1,11 @@
 -- Steady turns don't go on while something is pending: no list has two entries for long; then no line awaits an answer, and what is pending
 -- asks for something.
-use Rattle.std.proofs.Common.{◌≡◌, ◌≢◌, ◌<◌, ◌≤◌, ◌+◌, ◌==◌, ◌&&◌, ◌||◌, ◌⊎◌, ◌%◌, ℕ, Bool, true, false, arith, List, [], ◌∷◌, ◌++◌}
+use Rattle.std.proofs.Common.{◌≡◌, ◌<◌, ◌≤◌, ◌+◌, ◌==◌, ◌&&◌, ◌||◌, ◌⊎◌, ℕ, Bool, true, false, arith, List, [], ◌∷◌, ◌++◌}
 use Rattle.std.proofs.Common.{Option, Some, None, refl, sym, ap, subst, ◌∙◌, inl, inr, rules}
 use Rattle.std.proofs.lemmas.{Bool.{and_parts, cases_Bool, cases_lt}, List.{get_or_past}}
 use Rattle.std.specs.Prelude.{IfSome, is_some}
 use Rattle.sci_history.specs.Seen.{IsAmong}
-use Rattle.sci_words.specs.declared.{event.AskKind.{AskKind}, limits.TheConstants.{MAX_LINES}, stamped.Stamped.{Stamped}}
+use Rattle.sci_words.specs.declared.{event.AskKind.{AskKind}, stamped.Stamped.{Stamped}}
 use Rattle.sci_packets.specs.declared.body.Body.{Body}
 use Rattle.sci_cache.specs.{State.{Below, CacheState, Claiming, FreshHead, Head, Purging, Rolling, waits}, Accepting.{accepting}, Asking.{Asked, asking}, Kinds.{has_fresh_sharers, joins, must_send}}
 use Rattle.sci_cache.specs.{Member.{link_of}, Serving.{serving}, Line.{LineState, untouched}, Cache.{line_of}}
@@ -14,17 +14,16 @@ use Rattle.sci_core.specs.{declared.pending.Pending.{Pending}, SharingList.{Link
 use Rattle.sci_core.proofs.{Basics.Options.{of_some}, FirstCome.Turns.{led_of}, ReachedLaws.{any_shaped}}
 use Rattle.sci_core.proofs.Shape.{Led.{IsLed, role_in, roles_differ}, ShapeClauses.{member_below}, ShapeSteps.{view_of}, Standings.{Coming, Following, Leading, role_of}, Views.{View, link_in}}
 use Rattle.sci_core.proofs.WellFormed.WellFormedSteps.{reachable, reached_well}
-use Rattle.sci_policy.specs.declared.want.Want.{TheVariants.{Ask}}
-use Rattle.sci_policy.specs.Lines.{can_be_due, can_drain, has_pending, state_on}
-use Rattle.sci_policy.specs.{Policy.{awaits_home, has, is_claimed, next_wanted, ticked}, Rest.{Awaits, MayRest, NothingPending}}
+use Rattle.sci_policy.specs.Lines.{can_be_due, can_drain, state_on}
+use Rattle.sci_policy.specs.{Policy.{awaits_home, has, is_claimed, ticked}, Rest.{Awaits, MayRest, NothingPending}}
 use Rattle.sci_policy.proofs.AlwaysWants.{may_rest}
 use Rattle.sci_fair.specs.{Rank.{rank, work_in, work_on}, Retries.{is_tried_once}, Steady.{AreSteadyTurns, HasWindows, IsSteadyTurn, Working, WorksByTurns}}
 use Rattle.sci_fair.proofs.Ahead.{Ahead, Amid, after_it, asked_waits, earlier, fewer, firm, firm_asked, firm_before, lines_inside, on_from, performs_none, windows_on}
 use Rattle.sci_fair.proofs.{Descents.{turns_join, turns_part, windows_fewer, windows_part}, FirstWants.{wants_claim}, HeldUp.{Asks_it, FreeTurn, IsFree, Performs_it, Wants_none, free_turn}}
-use Rattle.sci_fair.proofs.{Homes.{none_changes}, Joins.{coming_is, none_needy}}
-use Rattle.sci_fair.proofs.Kept.{Class, IsIn, has_fresh_next, is_needy, kept_along, kept_in, needy, not_draining, once}
+use Rattle.sci_fair.proofs.{Homes.{none_changes}, Joins.{none_needy}}
+use Rattle.sci_fair.proofs.Kept.{Class, has_fresh_next, is_needy, kept_along, kept_in, needy, not_draining, once}
 use Rattle.sci_fair.proofs.{Patience.{MarkedTurn, Stopped, due, fresh_due, marked_turn, still_due_marked}, Promised.{As_it_is, By_answer, SettlesTo, settles}}
-use Rattle.sci_fair.proofs.{ReadCarries.{asks_free}, Requests.{good_along, size_along}, Retries.{never_once}}
+use Rattle.sci_fair.proofs.{Requests.{good_along, size_along}, Retries.{never_once}}
 use Rattle.sci_fair.proofs.{Sharers.{asks_it, lines_small, no_sharers, none_purged, performs_not}, SteadyTurns.{Held}}
 use Rattle.sci_words.specs.declared.event.AskKind.TheVariants as kind
 
@@ -74,9 +73,9 @@ pub none_await : (n line : ℕ) (old new last : Working) → IsSteadyTurn n old 
 none_await n line old new last turn held amid_old amid is =
     let s = state_on (node_at new.core n) line in
     let parts = and_parts (firm s) (awaits_home s) is in
-    elim (firm_asked n line old new amid_old.ahead.good held turn.some parts.0) [
-      | inl before ↦ none_changes n line s old last turn.some amid_old parts.1 before
-      | inr now ↦ none_changes n line s new last (subst (λ (z : Size). n < z.nodes) (sym held.size) turn.some) amid parts.1 now
+    elim (firm_asked n line old new amid_old.ahead.good held turn.alone.some parts.0) [
+      | inl before ↦ none_changes n line s old last turn.alone.some amid_old parts.1 before
+      | inr now ↦ none_changes n line s new last (subst (λ (z : Size). n < z.nodes) (sym held.size) turn.alone.some) amid parts.1 now
     ]
 
 claim_next : (s : CacheState) → IfSome (asking s kind.Claim) (λ (asked : Asked). (firm asked.next && awaits_home asked.next) ≡ true)
@@ -97,7 +96,7 @@ claimed_never n line old new last turn held free amid_old amid due_ next shares 
     let node = node_at t.c2 n in
     let since = t.taken.so.since in
     let good = amid_old.ahead.good in
-    let some = turn.some in
+    let some = turn.alone.some in
     let n2 : n < t.c2.size.nodes = subst (λ (z : Size). n < z.nodes) (sym since.size) some in
     let inside = fresh_inside t.c2 n line since.reached n2 next in
     let all = ((reached_well t.c2 since.reached).each_part n n2).each in
@@ -136,7 +135,7 @@ fresh_stopped n line order base w last amid stopped ahead =
     let amid_new = amid_between base new w last (stopped.before ++ n ∷ []) stopped.after amid to_new stopped.turns ahead in
     elim stopped.stops [
       | inl held ↦ none_await n line old new last turn stopped.held amid_old amid_new (claiming_firm (state_on (node_at new.core n) line) held.0 held.1)
-      | inr works ↦ performs_none n works.0 new last (subst (λ (z : Size). n < z.nodes) (sym stopped.held.size) turn.some)
+      | inr works ↦ performs_none n works.0 new last (subst (λ (z : Size). n < z.nodes) (sym stopped.held.size) turn.alone.some)
           (fewer 1 912 new last (omega arith) amid_new.ahead) works.1
     ]
 
@@ -155,7 +154,7 @@ fresh_marked n line base w last amid marked ahead =
       | inl shares ↦ claimed_never n line old new last turn held marked.free amid_old amid_new marked.marked marked.is shares
       | inr none ↦
           let parts = and_parts (firm s) (awaits_home s) (claiming_firm s marked.is none) in
-          none_changes n line s old last turn.some amid_old parts.1 (firm_before n line old new marked.good held turn.some parts.0)
+          none_changes n line s old last turn.alone.some amid_old parts.1 (firm_before n line old new marked.good held turn.alone.some parts.0)
     ]
 
 -- late in steady turns no fresh list has two entries
@@ -340,7 +339,7 @@ record LateTurn (n : ℕ) (old new last : Working) : Type 0 where
 
 module _ (n : ℕ) (old new last : Working) (t : LateTurn n old new last) where
   some_new : n < new.core.size.nodes
-  some_new = subst (λ (z : Size). n < z.nodes) (sym t.held.size) t.turn.some
+  some_new = subst (λ (z : Size). n < z.nodes) (sym t.held.size) t.turn.alone.some
 
   never_tried : (line : ℕ) → is_tried_once (state_on (node_at new.core n) line) ≡ true → ⊥
   never_tried line once_ =
@@ -364,7 +363,7 @@ module _ (n : ℕ) (old new last : Working) (t : LateTurn n old new last) where
   none_waits_then : (line : ℕ) → waits (state_on (node_at t.held.trace.c2 n) line) ≡ true → ⊥
   none_waits_then line waiting =
       let s = state_on (node_at t.held.trace.c2 n) line in
-      let some = t.turn.some in
+      let some = t.turn.alone.some in
       let amid = amid_of 912 old last t.was in
       let needs = kept_in (needy false) n line old new t.held in
       let drains = kept_in not_draining n line old new t.held in
@@ -383,7 +382,7 @@ module _ (n : ℕ) (old new last : Working) (t : LateTurn n old new last) where
   -- so a free turn finds nothing pending
   free_none : (line : ℕ) → IsFree n old new t.held → is_some (work_on (node_at old.core n) line) ≡ true → ⊥
   free_none line (Performs_it at performs same) pending =
-      performs_not n old new last t.held t.turn.some (Performs_it at performs same) (fewer 1 912 new last (omega arith) t.is.ahead) at performs
+      performs_not n old new last t.held t.turn.alone.some (Performs_it at performs same) (fewer 1 912 new last (omega arith) t.is.ahead) at performs
   free_none line (Asks_it at k rest wants events) pending =
       let s = state_on (node_at t.held.trace.c2 n) at in
       let asked = asks_it n old new t.held at k (Asks_it at k rest wants events) wants in
@@ -392,7 +391,7 @@ module _ (n : ℕ) (old new last : Working) (t : LateTurn n old new last) where
       let c2 = t.held.trace.c2 in
       let node = node_at c2 n in
       let since = t.held.trace.taken.so.since in
-      let n2 : n < c2.size.nodes = subst (λ (z : Size). n < z.nodes) (sym since.size) t.turn.some in
+      let n2 : n < c2.size.nodes = subst (λ (z : Size). n < z.nodes) (sym since.size) t.turn.alone.some in
       let kept = kept_in pends n line old new t.held in
       let there = kept.taken (kept.accepted pending) in
       rests_never node line (may_rest (ticked t.held.trace.p2 node) node n (record { core = c2; reached = since.reached; some = n2; here = refl }) none)

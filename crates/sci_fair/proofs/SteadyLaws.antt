@@ -14,7 +14,7 @@ use Rattle.sci_fair.proofs.{Descents.{Comes}, HomeAnswers.{AnsweredAt}, LaneTurn
 use Rattle.sci_fair.proofs.Requests.{AnswerTurn, LetterTaken, answer_within, request_taken, size_along, stands_in, taken_answered}
 use Rattle.sci_fair.specs.Retries.{is_tried_once}
 use Rattle.sci_fair.proofs.Retries.{never_once, never_purge}
-use Rattle.sci_fair.proofs.{Whereabouts.{in_lane, lane_packets, same_packet, stands}, WholeTurns.{sole}}
+use Rattle.sci_fair.proofs.{Whereabouts.{in_lane, lane_packets, same_packet}, WholeTurns.{sole}}
 
 -- the turn that comes
 turn_of : (n : ℕ) (P : Working → Working → Type 0) (Done : ℕ → Working → Working → Type 0) (nodes count : ℕ) (order : List ℕ) (first last : Working)

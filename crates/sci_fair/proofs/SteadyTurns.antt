@@ -3,7 +3,7 @@ use Rattle.std.proofs.Common.{◌≡◌, ◌<◌, ℕ, Bool, List, [], ◌∷◌
 use Rattle.sci_words.specs.declared.event.Event.{Event}
 use Rattle.sci_core.specs.{Core.{Core, node_at}, Reached.{IsReached}, Size.{Size}}
 use Rattle.sci_policy.specs.{Lines.{state_on}, Policy.{PolicyOf, turned}}
-use Rattle.sci_fair.specs.{Lanes.{AreOpen}, Rank.{CannotPerform, rank, work_in, work_on}, Steady.{IsSteadyTurn, Working, WorksByTurns}}
+use Rattle.sci_fair.specs.{Lanes.{AreOpen}, Rank.{CannotPerform, rank, work_in, work_on}, Steady.{IsSteadyTurn, IsTurnAlone, Working, WorksByTurns}}
 use Rattle.sci_fair.proofs.{Opens.{turn_open}, Steadied.{Steadily, steady_from}, Trace.{Does, Trace, does_then, trace}}
 use Rattle.sci_fair.proofs.AnswersGo.{between_last}
 use Rattle.sci_fair.proofs.WholeTurns.{HasTurned, lower_itself, turns_on}
@@ -32,8 +32,19 @@ module _ (n : ℕ) (old : Core) (reached : IsReached old) (some : n < old.size.n
       does_open does.0 does.1 events q y (turns_on n old reached some cannot x does.1 p does.0 e turned does.2 does.3)
       (turn_open x does.1 p does.0 n e turned.reached opened here does.2 does.3) does.4
 
-pub steady_turn : (n : ℕ) (old new : Working) → WorksByTurns old.core → IsSteadyTurn n old new → Held n old new
-steady_turn n old new good turn =
+-- how far a whole turn of a node that has the machine for itself has come, at each part of it
+pub record Turned (n : ℕ) (old new : Working) : Type 0 where
+  pub trace : Trace n (old.policies n) old.core (new.policies n) new.core
+  pub begun : HasTurned n old.core old.core
+  pub accepted : HasTurned n old.core trace.c1
+  pub accepted_open : AreOpen trace.c1
+  pub taken : HasTurned n old.core trace.c2
+  pub taken_open : AreOpen trace.c2
+  pub ended : HasTurned n old.core new.core
+  pub good : WorksByTurns new.core
+
+pub turned_alone : (n : ℕ) (old new : Working) → WorksByTurns old.core → IsTurnAlone n old new → Turned n old new
+turned_alone n old new good turn =
     let before = old.core in
     let after = new.core in
     let t = trace n (old.policies n) (new.policies n) before after turn.progress good.reached turn.some good.between turn.whole in
@@ -47,39 +58,56 @@ steady_turn n old new good turn =
       lost = λ j f other. ([], refl);
     } in
     let begins = turned (old.policies n) in
-    let r = t.p3 in
-    let late = does_then n t.p1 t.c1 t.e2 t.p2 t.c2 t.e3 r after t.takes t.asks in
     let first = does_turned n before good.reached turn.some turn.cannot begins before t.e1 t.p1 t.c1 begun t.accepts in
     let first_open = does_open n before good.reached turn.some turn.cannot begins before t.e1 t.p1 t.c1 begun good.opened t.accepts in
     let second = does_turned n before good.reached turn.some turn.cannot t.p1 t.c1 t.e2 t.p2 t.c2 first t.takes in
     let second_open = does_open n before good.reached turn.some turn.cannot t.p1 t.c1 t.e2 t.p2 t.c2 first first_open t.takes in
-    let third = does_turned n before good.reached turn.some turn.cannot t.p2 t.c2 t.e3 r after second t.asks in
-    let third_open = does_open n before good.reached turn.some turn.cannot t.p2 t.c2 t.e3 r after second second_open t.asks in
-    let same : (line : ℕ) → rank (work_on (node_at before n) line) (state_on (node_at after n) line) ≡ rank (work_on (node_at before n) line)
-    (state_on (node_at before n) line) =
-    λ line. ap (λ (w : Option Bool). rank w (state_on (node_at after n) line)) (sym (ap work_in (third.work line))) ∙ turn.same n line in
+    let third = does_turned n before good.reached turn.some turn.cannot t.p2 t.c2 t.e3 t.p3 after second t.asks in
     record {
       trace = t;
-      accepts = steady_from n before good.reached turn.some turn.cannot r after same begins before t.e1 t.p1 t.c1
-          (t.e2 ++ t.e3) begun good.opened t.accepts late;
-      takes = steady_from n before good.reached turn.some turn.cannot r after same t.p1 t.c1 t.e2 t.p2 t.c2 t.e3 first first_open t.takes t.asks;
+      begun = begun;
+      accepted = first;
+      accepted_open = first_open;
+      taken = second;
+      taken_open = second_open;
+      ended = third;
+      good = record {
+        reached = third.reached;
+        fit = third.fit;
+        opened = does_open n before good.reached turn.some turn.cannot t.p2 t.c2 t.e3 t.p3 after second second_open t.asks;
+        between = between_last n before after turn.some good.between turn.short t.asked;
+      };
+    }
+
+pub steady_turn : (n : ℕ) (old new : Working) → WorksByTurns old.core → IsSteadyTurn n old new → Held n old new
+steady_turn n old new good turn =
+    let before = old.core in
+    let after = new.core in
+    let some = turn.alone.some in
+    let cannot = turn.alone.cannot in
+    let is = turned_alone n old new good turn.alone in
+    let t = is.trace in
+    let r = t.p3 in
+    let same : (line : ℕ) → rank (work_on (node_at before n) line) (state_on (node_at after n) line) ≡ rank (work_on (node_at before n) line)
+    (state_on (node_at before n) line) =
+    λ line. ap (λ (w : Option Bool). rank w (state_on (node_at after n) line)) (sym (ap work_in (is.ended.work line))) ∙ turn.same n line in
+    record {
+      trace = t;
+      accepts = steady_from n before good.reached some cannot r after same (turned (old.policies n)) before t.e1 t.p1 t.c1 (t.e2 ++ t.e3) is.begun good.opened
+          t.accepts (does_then n t.p1 t.c1 t.e2 t.p2 t.c2 t.e3 r after t.takes t.asks);
+      takes = steady_from n before good.reached some cannot r after same t.p1 t.c1 t.e2 t.p2 t.c2 t.e3 is.accepted is.accepted_open t.takes t.asks;
       before = λ j f. (
           let look = t.looks j f in
-          steady_from n before good.reached turn.some turn.cannot r after same t.p1 t.c1 look.first look.p look.c (look.second ++ t.e3) first first_open
+          steady_from n before good.reached some cannot r after same t.p1 t.c1 look.first look.p look.c (look.second ++ t.e3) is.accepted is.accepted_open
           look.before (does_then n look.p look.c look.second t.p2 t.c2 t.e3 r after look.after t.asks)
           );
       after = λ j f. (
           let look = t.looks j f in
-          let there = does_turned n before good.reached turn.some turn.cannot t.p1 t.c1 look.first look.p look.c first look.before in
-          let there_open = does_open n before good.reached turn.some turn.cannot t.p1 t.c1 look.first look.p look.c first first_open look.before in
-          steady_from n before good.reached turn.some turn.cannot r after same look.p look.c look.second t.p2 t.c2 t.e3 there there_open look.after t.asks
+          let there = does_turned n before good.reached some cannot t.p1 t.c1 look.first look.p look.c is.accepted look.before in
+          let there_open = does_open n before good.reached some cannot t.p1 t.c1 look.first look.p look.c is.accepted is.accepted_open look.before in
+          steady_from n before good.reached some cannot r after same look.p look.c look.second t.p2 t.c2 t.e3 there there_open look.after t.asks
           );
-      asks = steady_from n before good.reached turn.some turn.cannot r after same t.p2 t.c2 t.e3 r after [] second second_open t.asks (refl, refl);
-      good = record {
-        reached = third.reached;
-        fit = third.fit;
-        opened = third_open;
-        between = between_last n before after turn.some good.between turn.short t.asked;
-      };
-      size = third.size;
+      asks = steady_from n before good.reached some cannot r after same t.p2 t.c2 t.e3 r after [] is.taken is.taken_open t.asks (refl, refl);
+      good = is.good;
+      size = is.ended.size;
     }

@@ -8,3 +8,4 @@ pub mod Changes
 pub mod Between
 pub mod Steady
 pub mod Retries
+pub mod Later
