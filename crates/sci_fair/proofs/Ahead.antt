@@ -121,7 +121,7 @@ cannot_perform n line w last some ahead = elim (cases_Bool (can_perform (work_on
       let c = turn_comes n 0 w last some ahead in
       let then_ = kept_along performable n line c.before w c.old ahead.good c.leads can in
       let never = subst (λ (m : ℕ). can_perform (work_on (node_at c.old.core m) line) (state_on (node_at c.old.core m) line) ≡ false) c.done
-      (c.turn.alone.cannot line) in
+      (c.turn.cannot line) in
       let clash : true ≡ false = sym then_ ∙ never in cc
 ]
 

@@ -13,7 +13,7 @@ use Rattle.sci_core.proofs.{Basics.Options.{of_some}, History.Pendings.{issue_pu
 use Rattle.sci_core.proofs.WellFormed.WellFormedSteps.{reached_stepping, reached_well, size_either}
 use Rattle.sci_policy.specs.Lines.{state_on}
 use Rattle.sci_turn.proofs.Working.{stepped}
-use Rattle.sci_fair.specs.{Changes.{rank_at}, Lanes.{IsWork}, Later.{AreWorked, HasRest, IsLaterTurn, NothingPends, performs_in}, Rank.{rank, work_in, work_on}}
+use Rattle.sci_fair.specs.{Changes.{rank_at}, Lanes.{IsWork}, Later.{AreWorked, HasRest, IsLaterTurn, NothingPends, performs_in}, Rank.{CannotPerform, rank, work_in, work_on}}
 use Rattle.sci_fair.specs.Steady.{AreSteadyTurns, AreTurns, HasWindows, IsSteadyTurn, IsTurnAlone, Working, WorksByTurns}
 use Rattle.sci_fair.proofs.Betweens.{drained_between, opening_between, work_between}
 use Rattle.sci_fair.proofs.{Descents.{turns_join, turns_part, windows_fewer, windows_part}, Few.{issued_rank, node_total, sum_least, sum_less, sum_to, total}}
@@ -177,9 +177,9 @@ past_same old new n line one two size some past work =
     let state : state_on (node_at new n) line ≡ state_on (node_at old n) line = ap (λ (l : LineState). l.state) (is ∙ sym was) in
     ap (λ (w : Option Bool). rank w (state_on (node_at new n) line)) (ap work_in work) ∙ ap (rank (work_on (node_at old n) line)) state
 
-module _ (n : ℕ) (old new : Working) (good : WorksByTurns old.core) (turn : IsTurnAlone n old new) where
+module _ (n : ℕ) (old new : Working) (good : WorksByTurns old.core) (cannot : CannotPerform (node_at old.core n)) (turn : IsTurnAlone n old new) where
   is_turned : Turned n old new
-  is_turned = turned_alone n old new good turn
+  is_turned = turned_alone n old new good cannot turn
 
   turn_lowers : IsLowered old.core new.core
   turn_lowers m line =
@@ -197,6 +197,7 @@ module _ (n : ℕ) (old new : Working) (good : WorksByTurns old.core) (turn : Is
   turn_steady : ranks new.core ≡ ranks old.core → IsSteadyTurn n old new
   turn_steady same = record {
     alone = turn;
+    cannot = cannot;
     same = λ m line. (
         let ended = is_turned.ended in
         elim (cases_eq m n) [
@@ -225,8 +226,8 @@ later_kept : (performed n : ℕ) (old new : Working) → WorksByTurns old.core �
 later_kept performed n old new good later =
     let mid : Working = record { core = later.mid; policies = old.policies } in
     let worked = worked_kept later.works old.core later.mid good later.worked in
-    let is = is_turned n mid new worked.good later.turn in
-    let ranks_turn = turn_ranks n mid new worked.good later.turn in
+    let is = is_turned n mid new worked.good later.cannot later.turn in
+    let ranks_turn = turn_ranks n mid new worked.good later.cannot later.turn in
     record {
       good = is.good;
       size = is.ended.size ∙ worked.size;
@@ -235,7 +236,7 @@ later_kept performed n old new good later =
           let low = worked.lower (later.many ∙ none) in
           let stays : ranks later.mid ≡ ranks old.core = omega (arith, low, ranks_turn, same) in
           let issued = worked.issues (later.many ∙ none) stays in
-          let then_ = turn_steady n mid new worked.good later.turn (omega (arith, low, ranks_turn, same)) in
+          let then_ = turn_steady n mid new worked.good later.cannot later.turn (omega (arith, low, ranks_turn, same)) in
           subst (λ (c : Core). IsSteadyTurn n (record { core = c; policies = old.policies }) new) (sym issued.1) then_
           );
     }
@@ -285,8 +286,8 @@ abbrev Stop : ℕ → Type 0
 Stop wide = (order : List ℕ) (first last : Working) → WorksByTurns first.core → AreSteadyTurns order first last → HasWindows first.core.size.nodes wide order
     → NothingPends first.core
 
--- a stretch in which nothing is issued or performed and all turns are steady, and at whose beginning nothing is pending
-pub record Still {X : Type 0} (at : X → Working) (IsTurn : ℕ → X → X → Type 0) (nodes wide : ℕ) (order : List ℕ) (first last : X) : Type 0 where
+-- a stretch in which nothing changes and all turns are steady, and at whose beginning nothing is pending
+pub record Still {X : Type 0} (at : X → Working) (left : X → ℕ) (IsTurn : ℕ → X → X → Type 0) (nodes wide : ℕ) (order : List ℕ) (first last : X) : Type 0 where
   pub before : List ℕ
   pub still : List ℕ
   pub after : List ℕ
@@ -298,10 +299,16 @@ pub record Still {X : Type 0} (at : X → Working) (IsTurn : ℕ → X → X →
   pub later : AreTurns IsTurn after end last
   pub windows : HasWindows nodes wide still
   pub steady : AreSteadyTurns still (at begin) (at end)
+  pub kept : left end ≡ left begin
   pub rests : NothingPends (at begin).core
 
+-- A turn changes something for good: something was issued or performed. Or it only tries.
+pub data Advances {X : Type 0} (at : X → Working) (left : X → ℕ) (n : ℕ) (a b : X) : Type 0 where
+  Changes : WorksByTurns (at b).core → (at b).core.size ≡ (at a).core.size → left b < left a → Advances at left n a b
+  Tries : IsLaterTurn 0 n (at a) (at b) → left b ≤ left a → Advances at left n a b
+
 module _ (wide : ℕ) (stops : Stop wide) {X : Type 0} (at : X → Working) (left : X → ℕ) (IsTurn : ℕ → X → X → Type 0)
-    (later : (n : ℕ) (a b : X) → IsTurn n a b → (p : ℕ) × IsLaterTurn p n (at a) (at b) × (left b + p ≤ left a)) where
+    (later : (n : ℕ) (a b : X) → WorksByTurns (at a).core → IsTurn n a b → Advances at left n a b) where
   -- what is left of turns that change something
   abbrev rest_of : Size → X → ℕ
   rest_of size a = budget (46 * size.lines * size.nodes) (left a) + ranks (at a).core
@@ -310,30 +317,45 @@ module _ (wide : ℕ) (stops : Stop wide) {X : Type 0} (at : X → Working) (lef
   within size a is =
       subst (λ (z : Size). ranks (at a).core ≤ 46 * z.lines * z.nodes) is (total_within (at a).core (at a).core.size.nodes (at a).core.size.lines)
 
-  rest_lowers : (size : Size) (n p : ℕ) (a b : X) → (at a).core.size ≡ size → (at b).core.size ≡ size → LaterKept p n (at a) (at b) → left b + p ≤ left a
-      → (rest_of size b ≤ rest_of size a) × (rest_of size b ≡ rest_of size a → p ≡ 0)
-  rest_lowers size n zero a b was is kept fewer =
-      let low = kept.lower refl in
-      let least = budget_least (46 * size.lines * size.nodes) (left a) (left b) (omega (arith, fewer)) in
-      (omega (arith, low, least), λ same. refl)
-  rest_lowers size n (suc p) a b was is kept fewer =
-      let most = 46 * size.lines * size.nodes in
-      let less = budget_less most (left a) (left b) (omega (arith, fewer)) in
-      let low = within size b is in
-      let falls : rest_of size b < rest_of size a = omega (arith, less, low) in
-      (omega (arith, falls), λ same. absurd (omega (arith, falls, same)))
+  -- what a turn leaves
+  record Step (size : Size) (n : ℕ) (a b : X) : Type 0 where
+    good : WorksByTurns (at b).core
+    sized : (at b).core.size ≡ size
+    lower : rest_of size b ≤ rest_of size a
+    steady : rest_of size b ≡ rest_of size a → IsSteadyTurn n (at a) (at b) × (left b ≡ left a)
 
-  ranks_stay : (size : Size) (a b : X) → left b ≤ left a → ranks (at b).core ≤ ranks (at a).core → rest_of size b ≡ rest_of size a
-      → ranks (at b).core ≡ ranks (at a).core
-  ranks_stay size a b fewer low same =
-      let least = budget_least (46 * size.lines * size.nodes) (left a) (left b) fewer in
-      omega (arith, least, low, same)
+  same_left : (most a b x y : ℕ) → b ≤ a → y ≤ x → budget most b + y ≡ budget most a + x → b ≡ a
+  same_left most a b x y le low same = elim (cases_lt b a) [
+    | inl lt ↦ (let less = budget_less most a b lt in absurd (omega (arith, less, low, same)))
+    | inr high ↦ omega (arith, le, high)
+  ]
+
+  step_by : (size : Size) (n : ℕ) (a b : X) → WorksByTurns (at a).core → (at a).core.size ≡ size → Advances at left n a b → Step size n a b
+  step_by size n a b good is (Changes works same fewer) =
+      let less = budget_less (46 * size.lines * size.nodes) (left a) (left b) fewer in
+      let low = within size b (same ∙ is) in
+      let falls : rest_of size b < rest_of size a = omega (arith, less, low) in
+      record { good = works; sized = same ∙ is; lower = omega (arith, falls); steady = λ stays. absurd (omega (arith, falls, stays)) }
+  step_by size n a b good is (Tries turn fewer) =
+      let most = 46 * size.lines * size.nodes in
+      let kept = later_kept 0 n (at a) (at b) good turn in
+      let low = kept.lower refl in
+      let least = budget_least most (left a) (left b) fewer in
+      record {
+        good = kept.good;
+        sized = kept.size ∙ is;
+        lower = omega (arith, low, least);
+        steady = λ stays. (
+          kept.steady refl (omega (arith, low, least, stays)),
+          same_left most (left a) (left b) (ranks (at a).core) (ranks (at b).core) fewer low stays,
+        );
+      }
 
   record Going (size : Size) (order : List ℕ) (first last : X) : Type 0 where
     good : WorksByTurns (at last).core
     sized : (at last).core.size ≡ size
     lower : rest_of size last ≤ rest_of size first
-    steady : rest_of size last ≡ rest_of size first → AreSteadyTurns order (at first) (at last)
+    steady : rest_of size last ≡ rest_of size first → AreSteadyTurns order (at first) (at last) × (left last ≡ left first)
 
   goes : (size : Size) (order : List ℕ) (first last : X) → WorksByTurns (at first).core → (at first).core.size ≡ size → AreTurns IsTurn order first last
       → Going size order first last
@@ -341,34 +363,29 @@ module _ (wide : ℕ) (stops : Stop wide) {X : Type 0} (at : X → Working) (lef
     good = subst (λ (x : X). WorksByTurns (at x).core) turns good;
     sized = subst (λ (x : X). (at x).core.size ≡ size) turns is;
     lower = (let same = ap (rest_of size) turns in omega (arith, same));
-    steady = λ same. ap at turns;
+    steady = λ same. (ap at turns, ap left (sym turns));
   }
   goes size (n ∷ order) first last good is turns =
       let next = turns.0 in
-      let turn = later n first next turns.1 in
-      let kept = later_kept turn.0 n (at first) (at next) good turn.1 in
-      let sized = kept.size ∙ is in
-      let lowers = rest_lowers size n turn.0 first next is sized kept turn.2 in
-      let rest = goes size order next last kept.good sized turns.2 in
+      let step = step_by size n first next good is (later n first next good turns.1) in
+      let rest = goes size order next last step.good step.sized turns.2 in
       let low = rest.lower in
-      let low_one = lowers.0 in
+      let low_one = step.lower in
       record {
         good = rest.good;
         sized = rest.sized;
         lower = omega (arith, low, low_one);
         steady = λ same. (
-            let stays : rest_of size next ≡ rest_of size first = omega (arith, low, low_one, same) in
-            let none = lowers.1 stays in
-            let fewer = turn.2 in
-            let ranks_ = ranks_stay size first next (omega (arith, fewer)) (kept.lower none) stays in
-            (at next, kept.steady none ranks_, rest.steady (omega (arith, low, low_one, same)))
+            let one = step.steady (omega (arith, low, low_one, same)) in
+            let others = rest.steady (omega (arith, low, low_one, same)) in
+            ((at next, one.0, others.0), others.1 ∙ one.1)
             );
       }
 
-  -- here, where nothing changes in 1,253 windows
+  -- here, where nothing changes in so many windows
   still_here : (size : Size) (order before after : List ℕ) (first mid last : X) → order ≡ before ++ after → WorksByTurns (at first).core
       → (at first).core.size ≡ size → AreTurns IsTurn before first mid → AreTurns IsTurn after mid last → HasWindows size.nodes wide before
-      → AreSteadyTurns before (at first) (at mid) → Still at IsTurn size.nodes wide order first last
+      → AreSteadyTurns before (at first) (at mid) × (left mid ≡ left first) → Still at left IsTurn size.nodes wide order first last
   still_here size order before after first mid last whole good is turns later windows steady = record {
     before = [];
     still = before;
@@ -380,12 +397,13 @@ module _ (wide : ℕ) (stops : Stop wide) {X : Type 0} (at : X → Working) (lef
     turns = turns;
     later = later;
     windows = windows;
-    steady = steady;
-    rests = stops before (at first) (at mid) good steady (subst (λ (z : Size). HasWindows z.nodes wide before) (sym is) windows);
+    steady = steady.0;
+    kept = steady.1;
+    rests = stops before (at first) (at mid) good steady.0 (subst (λ (z : Size). HasWindows z.nodes wide before) (sym is) windows);
   }
 
   still_later : (nodes : ℕ) (order before rest : List ℕ) (first mid last : X) → order ≡ before ++ rest → AreTurns IsTurn before first mid
-      → Still at IsTurn nodes wide rest mid last → Still at IsTurn nodes wide order first last
+      → Still at left IsTurn nodes wide rest mid last → Still at left IsTurn nodes wide order first last
   still_later nodes order before rest first mid last whole turns is = record {
     before = before ++ is.before;
     still = is.still;
@@ -398,11 +416,12 @@ module _ (wide : ℕ) (stops : Stop wide) {X : Type 0} (at : X → Working) (lef
     later = is.later;
     windows = is.windows;
     steady = is.steady;
+    kept = is.kept;
     rests = is.rests;
   }
 
   still_by : (k : ℕ) (size : Size) (order : List ℕ) (first last : X) → WorksByTurns (at first).core → (at first).core.size ≡ size
-      → AreTurns IsTurn order first last → rest_of size first ≤ k → HasWindows size.nodes (suc k * wide) order → Still at IsTurn size.nodes wide order first last
+      → AreTurns IsTurn order first last → rest_of size first ≤ k → HasWindows size.nodes (suc k * wide) order → Still at left IsTurn size.nodes wide order first last
   still_by zero size order first last good is turns few windows =
       let nodes = size.nodes in
       let part = windows_part nodes wide 0 order (windows_fewer nodes (wide + 0) (1 * wide) order (omega (arith, one-mul wide)) windows) in
@@ -429,7 +448,7 @@ module _ (wide : ℕ) (stops : Stop wide) {X : Type 0} (at : X → Working) (lef
   pub has_still : (order : List ℕ) (first last : X) → WorksByTurns (at first).core → AreTurns IsTurn order first last
       → HasWindows (at first).core.size.nodes
       ((left first + 1) * (46 * (at first).core.size.lines * (at first).core.size.nodes + 1) * wide) order
-      → Still at IsTurn (at first).core.size.nodes wide order first last
+      → Still at left IsTurn (at first).core.size.nodes wide order first last
   has_still order first last good turns windows =
       let size = (at first).core.size in
       let most = 46 * size.lines * size.nodes in
@@ -453,7 +472,7 @@ pub rests_before_long : (order : List ℕ) (first last : Working) → WorksByTur
 rests_before_long order first last good turns windows =
     let most = 46 * first.core.size.lines * first.core.size.nodes in
     let one : (0 + 1) * (most + 1) ≡ most + 1 = one-mul (most + 1) in
-    let still = has_still 1253 steady_none (λ (w : Working). w) (λ (w : Working). 0) (IsLaterTurn 0) (λ n a b turn. (0, turn, omega arith)) order first last good turns
+    let still = has_still 1253 steady_none (λ (w : Working). w) (λ (w : Working). 0) (IsLaterTurn 0) (λ n a b works turn. Tries turn (omega arith)) order first last good turns
     (subst (λ (c : ℕ). HasWindows first.core.size.nodes (c * 1253) order) (sym one) windows) in
     record {
       before = still.before;

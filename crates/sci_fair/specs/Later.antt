@@ -2,7 +2,7 @@
 use Rattle.std.specs.Prelude.{◌≡◌, ◌<◌, ℕ, suc, List, [], ◌∷◌, ◌++◌, Some, None}
 use Rattle.sci_words.specs.declared.event.Event.{Event}
 use Rattle.sci_core.specs.{Core.{Core, node_at, stepping}, Node.{pending_on}}
-use Rattle.sci_fair.specs.{Lanes.{IsWork}, Steady.{AreTurns, IsTurnAlone, Working}}
+use Rattle.sci_fair.specs.{Lanes.{IsWork}, Rank.{CannotPerform}, Steady.{AreTurns, IsTurnAlone, Working}}
 use Rattle.sci_words.specs.declared.event.Event.TheVariants as event
 
 -- operations are issued or performed, one after another
@@ -16,12 +16,14 @@ performs_in [] = 0
 performs_in (event.Perform n line ∷ events) = suc (performs_in events)
 performs_in (e ∷ events) = performs_in events
 
--- node n takes a whole turn by itself, and before it operations were issued and performed, this many of them performed
+-- node n takes a whole turn by itself when it can perform nothing; before it operations were issued and performed, this many of them
+-- performed
 pub record IsLaterTurn (performed n : ℕ) (old new : Working) : Type 0 where
   pub works : List Event
   pub mid : Core
   pub worked : AreWorked works old.core mid
   pub many : performs_in works ≡ performed
+  pub cannot : CannotPerform (node_at mid n)
   pub turn : IsTurnAlone n (record { core = mid; policies = old.policies }) new
 
 abbrev pub NothingPends : Core → Type 0

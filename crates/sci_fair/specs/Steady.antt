@@ -18,18 +18,18 @@ pub record Working : Type 0 where
   pub core : Core
   pub policies : ℕ → PolicyOf
 
--- A whole turn of node n, which has the machine for itself and can perform nothing. No lane has more packets than it has cells.
+-- A whole turn of node n, which has the machine for itself. No lane has more packets than it has cells.
 pub record IsTurnAlone (n : ℕ) (old new : Working) : Type 0 where
   pub some : n < old.core.size.nodes
-  pub cannot : CannotPerform (node_at old.core n)
   pub progress : Progress
   pub whole : IsWholeTurn (old.policies n) (post_at n old.core) (new.policies n) (post_at n new.core) progress
   pub others : (m : ℕ) → m ≢ n → new.policies m ≡ old.policies m
   pub short : AreShort new.core
 
--- and each line of each node has the rank that it had
+-- and the node can perform nothing, and each line of each node has the rank that it had
 pub record IsSteadyTurn (n : ℕ) (old new : Working) : Type 0 where
   pub alone : IsTurnAlone n old new
+  pub cannot : CannotPerform (node_at old.core n)
   pub same : (m line : ℕ) → rank_at new.core m line ≡ rank_at old.core m line
 
 -- turns of these nodes, one after another
