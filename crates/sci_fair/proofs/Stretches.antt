@@ -13,12 +13,12 @@ use Rattle.sci_core.proofs.{Basics.Options.{of_some}, History.Pendings.{issue_pu
 use Rattle.sci_core.proofs.WellFormed.WellFormedSteps.{reached_stepping, reached_well, size_either}
 use Rattle.sci_policy.specs.Lines.{state_on}
 use Rattle.sci_turn.proofs.Working.{stepped}
-use Rattle.sci_fair.specs.{Changes.{rank_at}, Lanes.{IsWork}, Later.{AreWorked, HasRest, IsLaterTurn, NothingPends, performs_in}, Rank.{CannotPerform, rank, work_in, work_on}}
+use Rattle.sci_fair.specs.{Changes.{rank_at}, Lanes.{IsWork}, Later.{AreWorked, HasRest, IsCountedTurn, IsLaterTurn, NothingPends, Remaining, performs_in}, Rank.{CannotPerform, rank, work_in, work_on}}
 use Rattle.sci_fair.specs.Steady.{AreSteadyTurns, AreTurns, HasWindows, IsSteadyTurn, IsTurnAlone, Working, WorksByTurns}
 use Rattle.sci_fair.proofs.Betweens.{drained_between, opening_between, work_between}
 use Rattle.sci_fair.proofs.{Descents.{turns_join, turns_part, windows_fewer, windows_part}, Few.{issued_rank, node_total, sum_least, sum_less, sum_to, total}}
 use Rattle.sci_fair.proofs.{Few.{total_within}, Opens.{drained_open, opening_open, work_open}, RankTables.{issue_lowers}, ReadCarries.{changed_by, issued_cache}, ReadSteps.{changed_out, drained_reads, opening_reads, work_reads}}
-use Rattle.sci_fair.proofs.{Standstill.{steady_none}, SteadyTurns.{Turned, turned_alone}}
+use Rattle.sci_fair.proofs.{Standstill.{steady_none}, SteadyTurns.{Turned, alone_works, turned_alone}}
 use Rattle.sci_words.specs.declared.event.Event.TheVariants as event
 
 -- ---- sums
@@ -115,7 +115,7 @@ record WorkedKept (events : List Event) (old new : Core) : Type 0 where
   lower : performs_in events ≡ 0 → ranks new ≤ ranks old
   issues : performs_in events ≡ 0 → ranks new ≡ ranks old → (events ≡ []) × (old ≡ new)
 
-work_good : (old new : Core) (e : Event) → WorksByTurns old → IsWork e → stepping old e ≡ Some new → WorksByTurns new
+pub work_good : (old new : Core) (e : Event) → WorksByTurns old → IsWork e → stepping old e ≡ Some new → WorksByTurns new
 work_good old new e good work steps = record {
   reached = reached_stepping old new e good.reached steps;
   fit = work_reads old new e good.reached good.fit work steps;
@@ -242,8 +242,8 @@ later_kept performed n old new good later =
     }
 
 -- so a machine works by turns
-pub later_works : (performed n : ℕ) (old new : Working) → WorksByTurns old.core → IsLaterTurn performed n old new → WorksByTurns new.core
-later_works performed n old new good later = (later_kept performed n old new good later).good
+pub turn_works : (n : ℕ) (old new : Working) → WorksByTurns old.core → IsTurnAlone n old new → WorksByTurns new.core
+turn_works n old new good turn = (alone_works n old new good turn).0
 
 pub drained_works : (core : Core) → IsReached core → IsDrained core → WorksByTurns core
 drained_works core reached drained =
@@ -465,21 +465,27 @@ module _ (wide : ℕ) (stops : Stop wide) {X : Type 0} (at : X → Working) (lef
 
 -- ---- the law
 
--- where nothing is performed for so many windows, nothing was pending at some moment of them
-pub rests_before_long : (order : List ℕ) (first last : Working) → WorksByTurns first.core → AreTurns (IsLaterTurn 0) order first last
-    → HasWindows first.core.size.nodes ((46 * first.core.size.lines * first.core.size.nodes + 1) * 1253) order
-    → HasRest (IsLaterTurn 0) order first last
+-- a turn before which something was performed leaves fewer to perform, and another tries
+counted_advances : (n performed : ℕ) (a b : Remaining) → WorksByTurns a.working.core → IsLaterTurn performed n a.working b.working
+    → b.performs + performed ≡ a.performs → Advances (λ (r : Remaining). r.working) (λ (r : Remaining). r.performs) n a b
+counted_advances n zero a b good turn count = Tries turn (omega (arith, count))
+counted_advances n (suc performed) a b good turn count =
+    let kept = later_kept (suc performed) n a.working b.working good turn in Changes kept.good kept.size (omega (arith, count))
+
+-- in so many windows for each operation that is performed, and as many more, nothing was pending at some moment
+pub rests_before_long : (order : List ℕ) (first last : Remaining) → WorksByTurns first.working.core → AreTurns IsCountedTurn order first last
+    → HasWindows first.working.core.size.nodes
+    ((first.performs + 1) * (46 * first.working.core.size.lines * first.working.core.size.nodes + 1) * 1253) order
+    → HasRest order first last
 rests_before_long order first last good turns windows =
-    let most = 46 * first.core.size.lines * first.core.size.nodes in
-    let one : (0 + 1) * (most + 1) ≡ most + 1 = one-mul (most + 1) in
-    let still = has_still 1253 steady_none (λ (w : Working). w) (λ (w : Working). 0) (IsLaterTurn 0) (λ n a b works turn. Tries turn (omega arith)) order first last good turns
-    (subst (λ (c : ℕ). HasWindows first.core.size.nodes (c * 1253) order) (sym one) windows) in
+    let still = has_still 1253 steady_none (λ (r : Remaining). r.working) (λ (r : Remaining). r.performs) IsCountedTurn
+    (λ n a b works turn. counted_advances n turn.0 a b works turn.1 turn.2) order first last good turns windows in
     record {
       before = still.before;
       after = still.still ++ still.after;
       whole = still.whole;
       moment = still.begin;
       leads = still.leads;
-      later = turns_join (IsLaterTurn 0) still.still still.after still.begin still.end last still.turns still.later;
+      later = turns_join IsCountedTurn still.still still.after still.begin still.end last still.turns still.later;
       rests = still.rests;
     }

@@ -1,5 +1,5 @@
 -- Turns between which operations are issued and performed, at any nodes.
-use Rattle.std.specs.Prelude.{◌≡◌, ◌<◌, ℕ, suc, List, [], ◌∷◌, ◌++◌, Some, None}
+use Rattle.std.specs.Prelude.{◌≡◌, ◌<◌, ◌+◌, ℕ, suc, List, [], ◌∷◌, ◌++◌, Some, None}
 use Rattle.sci_words.specs.declared.event.Event.{Event}
 use Rattle.sci_core.specs.{Core.{Core, node_at, stepping}, Node.{pending_on}}
 use Rattle.sci_fair.specs.{Lanes.{IsWork}, Rank.{CannotPerform}, Steady.{AreTurns, IsTurnAlone, Working}}
@@ -26,15 +26,23 @@ pub record IsLaterTurn (performed n : ℕ) (old new : Working) : Type 0 where
   pub cannot : CannotPerform (node_at mid n)
   pub turn : IsTurnAlone n (record { core = mid; policies = old.policies }) new
 
+-- a machine between turns, and how many operations are performed in the turns that are left
+pub record Remaining : Type 0 where
+  pub working : Working
+  pub performs : ℕ
+
+abbrev pub IsCountedTurn : ℕ → Remaining → Remaining → Type 0
+IsCountedTurn n old new = (performed : ℕ) × IsLaterTurn performed n old.working new.working × (new.performs + performed ≡ old.performs)
+
 abbrev pub NothingPends : Core → Type 0
 NothingPends core = (n line : ℕ) → n < core.size.nodes → pending_on (node_at core n) line ≡ None
 
 -- among turns of these nodes comes a moment at which nothing is pending
-pub record HasRest (IsTurn : ℕ → Working → Working → Type 0) (order : List ℕ) (first last : Working) : Type 0 where
+pub record HasRest (order : List ℕ) (first last : Remaining) : Type 0 where
   pub before : List ℕ
   pub after : List ℕ
   pub whole : order ≡ before ++ after
-  pub moment : Working
-  pub leads : AreTurns IsTurn before first moment
-  pub later : AreTurns IsTurn after moment last
-  pub rests : NothingPends moment.core
+  pub moment : Remaining
+  pub leads : AreTurns IsCountedTurn before first moment
+  pub later : AreTurns IsCountedTurn after moment last
+  pub rests : NothingPends moment.working.core

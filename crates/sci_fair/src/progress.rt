@@ -1,18 +1,20 @@
 //! While something is pending, turns don't go on for long until an operation is performed.
 
-ghost use Rattle.std.specs.Prelude.{◌+◌, ◌*◌, ℕ, List};
-ghost use Rattle.sci_core.specs.{Core.{Core, opening}, Draining.{IsDrained}, Reached.{IsReached}, Size.{IsMachineSize, Size}};
-ghost use Rattle.sci_fair.specs.Later.{HasRest, IsLaterTurn, NothingPends};
-ghost use Rattle.sci_fair.specs.Steady.{AreSteadyTurns, AreTurns, HasWindows, Working, WorksByTurns};
+ghost use Rattle.std.specs.Prelude.{◌≡◌, ◌+◌, ◌*◌, ℕ, List, Some};
+ghost use Rattle.sci_words.specs.declared.event.Event.{Event};
+ghost use Rattle.sci_core.specs.{Core.{Core, opening, stepping}, Draining.{IsDrained}, Reached.{IsReached}, Size.{IsMachineSize, Size}};
+ghost use Rattle.sci_fair.specs.{Lanes.{IsWork}, Later.{HasRest, IsCountedTurn, NothingPends, Remaining}};
+ghost use Rattle.sci_fair.specs.Steady.{AreSteadyTurns, AreTurns, HasWindows, IsTurnAlone, Working, WorksByTurns};
 
 /// A machine that opens works by turns, and one in which nothing is under way. So does one after a whole turn that a node takes
-/// by itself when it can perform nothing, and that leaves no lane longer than four. Before it operations may be issued and
-/// performed, at any nodes.
+/// by itself and that leaves no lane longer than four, after an Issue, and after a Perform.
 pub fn machines_work_by_turns()
     ensures first { (size : Size) → IsMachineSize size → WorksByTurns (opening size) }
     ensures drained { (core : Core) → IsReached core → IsDrained core → WorksByTurns core }
-    ensures turns { (performed n : ℕ) (old new : Working) → WorksByTurns old.core
-        → IsLaterTurn performed n old new → WorksByTurns new.core }
+    ensures turns { (n : ℕ) (old new : Working) → WorksByTurns old.core
+        → IsTurnAlone n old new → WorksByTurns new.core }
+    ensures works { (core new : Core) (e : Event) → WorksByTurns core
+        → IsWork e → stepping core e ≡ Some new → WorksByTurns new }
 {}
 
 /// Turns that change no rank don't go on while something is pending: if 1,253 windows of them lie ahead, nothing is.
@@ -22,13 +24,13 @@ pub fn steady_turns_find_nothing_pending()
 {}
 
 /// There is no livelock. Let nodes take whole turns, each by itself and when it can perform nothing, in any order and each as
-/// often as it likes; and let operations be issued between them. Before so many windows have passed, in each of which each
-/// node takes a turn, an operation can be performed, or at some moment nothing is pending: 1,253 for each of 46 changes of a
-/// rank for each line of each node, and 1,253 more.
+/// often as it likes; and let operations be issued and performed between them. Count windows, in each of which each node takes
+/// a turn. Between two Performs at most 46 turns for each line of each node change a rank, and while something is pending at
+/// most 1,253 windows pass until one does. So before so many windows nothing is pending at some moment.
 pub fn operations_are_performed()
-    ensures { (order : List ℕ) (first last : Working) → WorksByTurns first.core
-        → AreTurns (IsLaterTurn 0) order first last
-        → HasWindows first.core.size.nodes
-        ((46 * first.core.size.lines * first.core.size.nodes + 1) * 1253) order
-        → HasRest (IsLaterTurn 0) order first last }
+    ensures { (order : List ℕ) (first last : Remaining) → WorksByTurns first.working.core
+        → AreTurns IsCountedTurn order first last
+        → HasWindows first.working.core.size.nodes ((first.performs + 1)
+        * (46 * first.working.core.size.lines * first.working.core.size.nodes + 1) * 1253) order
+        → HasRest order first last }
 {}
