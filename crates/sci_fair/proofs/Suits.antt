@@ -15,7 +15,7 @@ use Rattle.sci_policy.specs.Lines.{has_maker, has_pending, is_maker_of, oldest, 
 use Rattle.sci_policy.specs.Policy.{PolicyOf, ask_of, asked_in, contents_wanted, due_wanted, held_back, lacks_slot, next_wanted, operation_asks}
 use Rattle.sci_policy.specs.Policy.{perform_wanted, purge_wanted, read_kind, ruled, send_wanted, slot_for, slot_wanted, ticked}
 use Rattle.sci_policy.proofs.{Found.{oldest_fits, oldest_some}, Wants.{and_then, either, held_enabled, mapped}}
-use Rattle.sci_fair.specs.Rank.{can_perform, suits, work_in, work_on}
+use Rattle.sci_fair.specs.Rank.{CannotPerform, can_perform, suits, work_in, work_on}
 use Rattle.sci_words.specs.declared.event.AskKind.TheVariants as kind
 
 -- ---- what suits
@@ -171,6 +171,19 @@ not_ready n node line is none = elim (cases_Bool (can_perform (work_on node line
         out_idle (work_on node line) (state_on node line) out)
   ]
   | inr idle ↦ idle
+]
+
+-- where no line is performed, none can be
+pub cannot_by : (n : ℕ) (node : NodeOf) → IsReachedNode n node → ((line : ℕ) → node_performing node line ≡ None) → CannotPerform node
+cannot_by n node is none line = elim (cases_Bool (can_perform (work_on node line) (state_on node line))) [
+  | inr idle ↦ idle
+  | inl can ↦ elim (cases_lt line (lines_of node)) [
+    | inl below ↦
+        let performs = pending_performs n node line (pending_on node line) is below refl can in
+        let clash : true ≡ false = sym performs ∙ ap is_some (none line) in cc
+    | inr past ↦ (let out : state_on node line ≡ Out = ap (λ (l : LineState). l.state) (get_or_past node.cache.lines line untouched past) in
+        out_idle (work_on node line) (state_on node line) out)
+  ]
 ]
 
 pub wanted_suits : (policy : PolicyOf) (n : ℕ) (node : NodeOf) (line : ℕ) (k : AskKind) → IsReachedNode n node → next_wanted policy node ≡ Some (Ask line k)

@@ -16,7 +16,7 @@ after_both nodes zero first all order is = let same : all ≡ first = omega (ari
 after_both nodes (suc second) first zero order is = absurd (omega (arith, is))
 after_both nodes (suc second) first (suc all) order is = ap (next_order nodes) (after_both nodes second first all order (omega (arith, is)))
 
-turns_both : (nodes second first all : ℕ) (order : Order) → all ≡ second + first
+pub turns_both : (nodes second first all : ℕ) (order : Order) → all ≡ second + first
     → turns_in nodes all order ≡ turns_in nodes first order ++ turns_in nodes second (order_after nodes first order)
 turns_both nodes zero first all order is =
     let same : all ≡ first = omega (arith, is) in
@@ -72,10 +72,10 @@ place_next : (nodes from k : ℕ) → from < nodes → suc k < nodes → next_no
 place_next nodes from k lt below = grind (arith, cases_lt)
 
 -- an order that goes in a circle
-abbrev IsCircle : Order → Type 0
+abbrev pub IsCircle : Order → Type 0
 IsCircle order = (next : ℕ) × (order ≡ Circle next)
 
-circle_after : (nodes turns : ℕ) (order : Order) → IsCircle order → IsCircle (order_after nodes turns order)
+pub circle_after : (nodes turns : ℕ) (order : Order) → IsCircle order → IsCircle (order_after nodes turns order)
 circle_after nodes zero order is = is
 circle_after nodes (suc turns) order is =
     let before = circle_after nodes turns order is in (next_node nodes (Circle before.0) + 1, ap (next_order nodes) before.1)
@@ -98,7 +98,7 @@ comes nodes from n lt below = elim (cases_lt n from) [
   | inr high ↦ (n - from, omega (arith, high, below), grind (arith, cases_lt, high, below))
 ]
 
-circle_has : (nodes n : ℕ) (order : Order) → n < nodes → IsCircle order → 1 ≤ count_by (λ m. m == n) (turns_in nodes nodes order)
+pub circle_has : (nodes n : ℕ) (order : Order) → n < nodes → IsCircle order → 1 ≤ count_by (λ m. m == n) (turns_in nodes nodes order)
 circle_has nodes n order below is =
     let some : 0 < nodes = omega (arith, below) in
     let from = wrapped_below nodes is.0 some in

@@ -106,7 +106,7 @@ submits_script old new before after calls deeds (OneMore op room next is asked i
 submits_script old new before after calls deeds (NoneNow held is same done) = ap (λ (driver : DriverOf). driver.script) is
 
 module _ (script : ScriptValue) (limit : ℕ) where
-  round_stands : (n : ℕ) (old new : Moment) → Stands script limit old → IsRound n old new → Stands script limit new
+  pub round_stands : (n : ℕ) (old new : Moment) → Stands script limit old → IsRound n old new → Stands script limit new
   round_stands n old new stands round =
       let gone = deeds_on n round.deeds (standing (policy_at old n) (course_at old)) (standing (policy_at new n) (course_at new)) round.some
       stands.reached stands.opened round.does in
@@ -144,7 +144,7 @@ played_grows nodes (suc rounds) order later old new played =
     let last = deeds_grow n round.deeds (standing (policy_at played.0 n) (course_at played.0)) (standing (policy_at new n) (course_at new)) round.does in
     omega (arith, first, last)
 
-played_order : (nodes rounds : ℕ) (order later : Order) (old new : Moment) → Played nodes rounds order old later new → later ≡ order_after nodes rounds order
+pub played_order : (nodes rounds : ℕ) (order later : Order) (old new : Moment) → Played nodes rounds order old later new → later ≡ order_after nodes rounds order
 played_order nodes zero order later old new played = sym played.0
 played_order nodes (suc rounds) order later old new played =
     played.4 ∙ ap (next_order nodes) (played_order nodes rounds order played.1 old played.0 played.2)
@@ -163,7 +163,7 @@ split nodes (suc second) first (suc all) order later old new sum played =
     let parts = split nodes second first all order played.1 old played.0 (omega (arith, sum)) played.2 in
     (parts.0, parts.1, (played.0, played.1, parts.2, played.3, played.4, played.5))
 
-begins_awaiting : (nodes rounds : ℕ) (order later : Order) (old new : Moment) → Played nodes (suc rounds) order old later new → AwaitsEntries old
+pub begins_awaiting : (nodes rounds : ℕ) (order later : Order) (old new : Moment) → Played nodes (suc rounds) order old later new → AwaitsEntries old
 begins_awaiting nodes zero order later old new played = subst AwaitsEntries (sym played.2.1) played.3
 begins_awaiting nodes (suc rounds) order later old new played = begins_awaiting nodes rounds order played.1 old played.0 played.2
 
@@ -189,7 +189,7 @@ record Quiet (nodes rounds : ℕ) (order : Order) (old new : Moment) : Type 0 wh
   stalled : (n : ℕ) (d : DriverOf) → 1 ≤ count_by (λ m. m == n) (turns_in nodes rounds order) → IsStalled (driver_at new n d) (node_at new.core n)
 
 -- some driver: none is looked at
-no_driver : DriverOf
+pub no_driver : DriverOf
 no_driver = opening_driver [] Ahead
 
 quiet_on : (nodes rounds : ℕ) (order : Order) (old mid new : Moment) → Quiet nodes rounds order old mid
@@ -231,7 +231,7 @@ quiet nodes (suc rounds) order later old new played few =
 
 module _ (script : ScriptValue) (good : IsScript script) (limit : ℕ)
     (room : (node : ℕ) → node < script.nodes → length (operations_of node script.operations) ≤ limit) where
-  within_node : (n : ℕ) (node : NodeOf) → lines_of node ≡ script.lines → All (IsOnNode node) (operations_of n script.operations)
+  pub within_node : (n : ℕ) (node : NodeOf) → lines_of node ≡ script.lines → All (IsOnNode node) (operations_of n script.operations)
   within_node n node lines =
       All-map (IsOnNode node) (λ (p : ℕ × Op). p.1) _ (All-filter (λ (p : ℕ × Op). p.0 == n) (λ (p : ℕ × Op). IsOnNode node p.1) script.operations
       (All-weaker (λ (p : ℕ × Op). IsWithin script.nodes script.lines p.0 p.1) (λ (p : ℕ × Op). IsOnNode node p.1)
@@ -272,7 +272,7 @@ module _ (script : ScriptValue) (good : IsScript script) (limit : ℕ)
 
 -- ---- a run
 
-turns_long : (nodes rounds : ℕ) (order : Order) → length (turns_in nodes rounds order) ≡ rounds
+pub turns_long : (nodes rounds : ℕ) (order : Order) → length (turns_in nodes rounds order) ≡ rounds
 turns_long nodes zero order = refl
 turns_long nodes (suc rounds) order =
     let more = length_push (turns_in nodes rounds order) (next_node nodes (order_after nodes rounds order)) in

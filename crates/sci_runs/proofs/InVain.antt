@@ -55,7 +55,7 @@ none_performed n (entry ∷ entries) last x y did few =
     absurd (omega (arith, more, grows, few))
 
 -- and nothing was submitted
-record IsHeld (old driver : DriverOf) (before node : NodeOf) (calls : List Call) (first : List Deed) : Type 0 where
+pub record IsHeld (old driver : DriverOf) (before node : NodeOf) (calls : List Call) (first : List Deed) : Type 0 where
   held : IsHeldBack old before calls
   driver_is : driver ≡ old
   node_is : node ≡ before
@@ -143,14 +143,14 @@ idle_alone n before after old new few same idle = record {
 
 -- ---- nothing can be performed where each line was tried in vain
 
-performed_long : (x : NodeOf) (entries : List Entry) (y : NodeOf) → ArePerformed x entries y → length y.log ≡ length x.log + length entries
+pub performed_long : (x : NodeOf) (entries : List Entry) (y : NodeOf) → ArePerformed x entries y → length y.log ≡ length x.log + length entries
 performed_long x [] y are = let same : length x.log ≡ length y.log = ap (λ (node : NodeOf). length node.log) are in omega (arith, same)
 performed_long x (entry ∷ entries) y are =
     let more : length are.0.log ≡ length x.log + 1 = ap length are.1.log ∙ length_push x.log entry in
     let rest = performed_long are.0 entries y are.2 in
     omega (arith, more, rest)
 
-tried_none : (line : ℕ) (x y : NodeOf) → x ≡ y → IsTried line x y → node_performing y line ≡ None
+pub tried_none : (line : ℕ) (x y : NodeOf) → x ≡ y → IsTried line x y → node_performing y line ≡ None
 tried_none line x y same tried =
     let first = performed_long x tried.earlier tried.node tried.first in
     let later = performed_long tried.node tried.later y tried.rest in
@@ -186,7 +186,7 @@ pub record IsStalled (driver : DriverOf) (node : NodeOf) : Type 0 where
   pub driven : IsDriven driver node
 
 -- an open gate forbids nothing
-never_forbids : (asked rest : List Call) (index : ℕ) → All IsOpen (asked ++ rest) → asked ≡ MayIssue index false ∷ [] → ⊥
+pub never_forbids : (asked rest : List Call) (index : ℕ) → All IsOpen (asked ++ rest) → asked ≡ MayIssue index false ∷ [] → ⊥
 never_forbids asked rest index all is =
     let first : false ≡ true = All-head IsOpen (MayIssue index false) rest (subst (λ (calls : List Call). All IsOpen (calls ++ rest)) is all) in
     cc
@@ -316,7 +316,7 @@ answered_once node serial none (inl once) = once
 answered_once node serial none (inr pends) =
     absurd (never_both (pending_on node pends.0.line) (record { serial = serial; op = pends.0 }) (none pends.0.line) pends.1)
 
-none_pends : (driver : DriverOf) (node : NodeOf) → IsDriven driver node → ((line : ℕ) → pending_on node line ≡ None) → driver.pending ≡ []
+pub none_pends : (driver : DriverOf) (node : NodeOf) → IsDriven driver node → ((line : ℕ) → pending_on node line ≡ None) → driver.pending ≡ []
 none_pends driver node driven none =
     let long = answered_long driver.next node.log (λ serial lt. answered_once node serial none (driven.submitted serial lt)) in
     let within = count_by-le-length (λ (e : Entry). nat_lt e.serial driver.next) node.log in

@@ -10,3 +10,6 @@ pub mod Posting
 pub mod InVain
 pub mod Ending
 pub mod Circles
+pub mod Stripping
+pub mod Finishing
+pub mod Finished

@@ -1,8 +1,9 @@
 -- A node's post on a machine whose events are recorded.
-use Rattle.std.proofs.Common.{◌≡◌, ℕ, List, [], ◌∷◌, ◌++◌, Some, Result, Ok, Err, IfOk, refl, sym, subst}
+use Rattle.std.proofs.Common.{◌≡◌, ℕ, List, [], ◌∷◌, ◌++◌, Some, Result, Ok, Err, IfOk, refl, sym, subst, arith}
 use Rattle.std.specs.Prelude.{IsErr}
 use Rattle.sci_words.specs.declared.event.Event.{Event}
-use Rattle.sci_core.specs.{declared.lane.LaneKind.{LaneKind}, Core.{node_of, stepping}}
+use Rattle.sci_core.specs.{declared.lane.LaneKind.{LaneKind}, Core.{Core, node_of, stepping}}
+use Rattle.sci_locked.specs.Lent.{KeepsRoom}
 use Rattle.sci_turn.specs.Posts.{HasTakenFront, IsMade, MayTakeFront}
 use Rattle.sci_turn.proofs.Stills.{still_itself}
 use Rattle.sci_runs.specs.{Deeds.{AddsOwn, post_on}, Goings.{adds_itself}, Recorded.{Course}}
@@ -31,3 +32,9 @@ pub adds_either : {T E : Type 0} (result : Result T E) (n : ℕ) (old new : List
     → IfOk result (λ _. new ≡ old ++ e ∷ []) → (IsErr result → new ≡ old) → AddsOwn n old new
 adds_either (Ok x) n old new e own more same = adds_one n old new e own more
 adds_either (Err x) n old new e own more same = subst (AddsOwn n old) (sym (same refl)) (adds_itself n old)
+
+-- no lane grows beyond its cells by an event, nor where it was refused
+pub room_either : {T E : Type 0} (result : Result T E) (old new : Core) → (e : Event) → (stepping old e ≡ Some new → KeepsRoom old new)
+    → (IsErr result → new ≡ old) → IfOk result (λ _. stepping old e ≡ Some new) → KeepsRoom old new
+room_either (Ok x) old new e room same steps = room steps
+room_either (Err x) old new e room same steps = subst (KeepsRoom old) (sym (same refl)) (λ place many. omega arith)

@@ -5,6 +5,7 @@ use Rattle.sci_words.specs.declared.{event.Event.{Event}, limits.TheConstants.{M
 use Rattle.sci_core.specs.Core.{node_of, stepping}
 use Rattle.sci_policy.specs.{declared.progress.Progress.{Progress}, Deeds.{Deed, DoesBy, Issues, Performs, Turns}, Policy.{PolicyOf}, Turn.{is_idle}}
 use Rattle.sci_turn.specs.{Idle.{IsIdleTurn}, Moves.{IsTurn}, Posts.{PostOf}, Whole.{IsWholeTurn}}
+use Rattle.sci_locked.specs.Lent.{KeepsRoom}
 use Rattle.sci_runs.specs.Recorded.{Course}
 use Rattle.sci_words.specs.declared.event.Event.TheVariants as event
 
@@ -21,10 +22,11 @@ pub record IsTurnSoFar (n : ℕ) (before : PolicyOf) (old : Course) (after : Pol
   pub turn : IsTurn before (post_on n old) after (post_on n new) progress
   pub own : AddsOwn n old.events new.events
 
--- a turn of node n to its end; one that reports nothing has found nothing to do
+-- a turn of node n to its end, which leaves no lane longer than its cells; one that reports nothing has found nothing to do
 pub record IsTurnDone (n : ℕ) (before : PolicyOf) (old : Course) (after : PolicyOf) (new : Course) (progress : Progress) : Type 0 where
   pub so_far : IsTurnSoFar n before old after new progress
   pub whole : IsWholeTurn before (post_on n old) after (post_on n new) progress
+  pub room : KeepsRoom old.core new.core
   pub idle : is_idle progress ≡ true → IsIdleTurn before (post_on n old) after (post_on n new)
 
 -- what a node's policy remembers, and the machine's state with the events so far

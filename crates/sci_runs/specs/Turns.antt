@@ -1,7 +1,8 @@
 -- In which order nodes take their turns.
-use Rattle.std.specs.Prelude.{◌<◌, ◌≤◌, ◌==◌, ◌+◌, ◌*◌, ℕ, zero, suc, List, [], ◌∷◌, ◌++◌, Option, Some, None, count_by, nat_lt, if◌then◌else◌}
+use Rattle.std.specs.Prelude.{◌<◌, ◌≤◌, ◌==◌, ◌+◌, ◌*◌, ℕ, zero, suc, List, [], ◌∷◌, ◌++◌, Option, Some, None, count_by, length, nat_lt, if◌then◌else◌}
 use Rattle.sci_chance.specs.Drawing.{after, drawn, seeded}
 use Rattle.sci_words.specs.declared.limits.TheConstants.{MAX_EVENTS}
+use Rattle.sci_text.specs.Script.{ScriptValue}
 use Rattle.sci_policy.specs.declared.policy.TheConstants.{PATIENCE}
 use Rattle.sci_runs.specs.declared.order.Order.{Order, TheVariants.{Circle, Drawn}}
 
@@ -38,3 +39,8 @@ GivesTurns nodes window order =
 -- as many turns as a run in a circle may take: 64 of each node for each event that a schedule can have, and 64 more
 abbrev pub circle_turns : ℕ → ℕ
 circle_turns nodes = PATIENCE * nodes * (MAX_EVENTS + 1)
+
+-- As many windows of turns, in each of which each node has one, as finish a script whatever comes: an operation is issued and
+-- performed, so that as much is done at most 2 times its operations, and between two such rounds machines change few times.
+abbrev pub finishing_windows : ScriptValue → ℕ
+finishing_windows script = (2 * length script.operations + 1) * (46 * script.lines * script.nodes + 1) * 1253

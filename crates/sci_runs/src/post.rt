@@ -20,7 +20,8 @@ pub(crate) struct Lent<'a> {
 impl<'a> Post for Lent<'a> {
     ghost use Rattle.std.specs.Prelude.{◌≡◌, ◌≢◌, [], None};
     ghost use Rattle.sci_core.specs.Core.{lane_of};
-    ghost use Rattle.std.proofs.Common.{refl, ◌∙◌};
+    ghost use Rattle.std.proofs.Common.{refl, arith, ◌∙◌};
+    ghost use Rattle.sci_locked.specs.Lent.{KeepsRoom};
     ghost use Rattle.sci_runs.specs.{Deeds.{AddsOwn, post_on}, Goings.{adds_itself, adds_then}, Recorded.{KeepsLoss, SparesOthers, course_of}};
 
     type Stop = AllocError;
@@ -30,7 +31,8 @@ impl<'a> Post for Lent<'a> {
     ghost stays = { λ old new. (new.node ≡ old.node) × (new.recorder.ghost_name ≡ old.recorder.ghost_name)
         × SparesOthers old.node old.recorder.now.core new.recorder.now.core
         × AddsOwn old.node old.recorder.now.schedule.events new.recorder.now.schedule.events
-        × KeepsLoss old.recorder.now new.recorder.now };
+        × KeepsLoss old.recorder.now new.recorder.now
+        × KeepsRoom old.recorder.now.core new.recorder.now.core };
 
     ghost sees = { λ lent kind from. lane_of lent.recorder.now.core kind from lent.node ≡ [] → ⊥ };
 
@@ -81,6 +83,7 @@ impl<'a> Post for Lent<'a> {
       record { size = refl; others = λ m apart. refl },
       adds_itself x.node x.recorder.now.schedule.events,
       λ fault is. (is, refl),
+      λ place many. omega arith,
     ) };
 
     ghost stays_through = { λ x y z one two. (
@@ -96,5 +99,10 @@ impl<'a> Post for Lent<'a> {
         (two.4 fault (one.4 fault is).0).0,
         (two.4 fault (one.4 fault is).0).1 ∙ (one.4 fault is).1,
       ),
+      λ place many. (
+          let last = two.5 place many in
+          let first = one.5 place (omega (arith, many, last)) in
+          omega (arith, first, last)
+          ),
     ) };
 }

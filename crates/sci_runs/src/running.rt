@@ -5,7 +5,8 @@ ghost use Rattle.sci_words.specs.declared.limits.TheConstants.{MAX_OPERATIONS};
 ghost use Rattle.sci_core.specs.Core.{run as run_of};
 ghost use Rattle.sci_drive.specs.ScriptLogs.{size_for};
 ghost use Rattle.sci_runs.specs.{declared.fault.RunFault.TheVariants.{TooMany}, Played.{IsPlayed, IsTooLong}, Recorded.{raised}, Runs.{IsRunOf}};
-ghost use Rattle.sci_runs.specs.Turns.{GivesTurns, circle_turns, first_order};
+ghost use Rattle.sci_runs.specs.Turns.{GivesTurns, circle_turns, finishing_windows, first_order, turns_in};
+ghost use Rattle.sci_fair.specs.Steady.{HasWindows};
 
 use crate::fault::RunFault;
 use crate::order::Order;
@@ -42,7 +43,13 @@ pub struct Run {
 /// Runs a script by the policy on a new machine, whose nodes take one turn after another. It ends with the round in which the
 /// last operation of the script is performed, whose turn is still taken, or when the turns are used up. While it isn't done, it
 /// makes an event before each node has taken 64 turns. So in a circle 64 turns of each node for each of 500,001 events are
-/// always enough: then the run is done, or has too many events. The same script and plan give the same run. Refused if memory is, or if there are more than 500,000 events.
+/// always enough: then the run is done, or has too many events.
+///
+/// And it is done in a time that depends on its size alone, however many events there may be: with S operations on L lines of
+/// N nodes, (2S + 1)(46LN + 1) times 1,253 windows are enough. A window is a stretch of turns in which each node has one; in a
+/// circle it is one turn of each node.
+///
+/// The same script and plan give the same run. Refused if memory is, or if there are more than 500,000 events.
 pub fn run_script(alloc: Global, script: &Script, plan: Plan) -> Result<Run, RunFault>
     ensures run { IfOk result (λ run. IsRunOf script.now plan.issuing run.done run.schedule) }
     ensures played { IfOk result (λ run.
@@ -55,6 +62,12 @@ pub fn run_script(alloc: Global, script: &Script, plan: Plan) -> Result<Run, Run
         GivesTurns script.now.nodes window (first_order plan.seed) → run.done ≡ false →
         run.turns < window * (length run.schedule.events + 1)) }
     ensures circle { plan.seed ≡ None → circle_turns script.now.nodes ≤ plan.turns →
+        IfOk result (λ run. run.done ≡ true) }
+    ensures windows { IfOk result (λ run.
+        HasWindows script.now.nodes (finishing_windows script.now)
+        (turns_in script.now.nodes run.turns (first_order plan.seed)) → run.done ≡ true) }
+    ensures finishes { plan.seed ≡ None →
+        finishing_windows script.now * script.now.nodes ≤ plan.turns →
         IfOk result (λ run. run.done ≡ true) }
     ensures led { IfOk result (λ run. run_of (size_for script.now) run.schedule.events
         ≡ raised MAX_OPERATIONS run.machine) }

@@ -2,7 +2,7 @@ use Rattle.std.proofs.Common.{◌∙◌, rules, subst}
 use Rattle.sci_text.specs.Script.{ScriptValue}
 use Rattle.sci_drive.specs.declared.driver.Issuing.{Issuing}
 use Rattle.sci_runs.specs.{Played.{IsPlayed}, Runs.{IsRunOf}}
-use Rattle.sci_runs.proofs.{Ending.{circle_done, has_ended}, RunEnds.{run_if}}
+use Rattle.sci_runs.proofs.{Ending.{circle_done, has_ended}, Finished.{circle_finishes, finishes}, RunEnds.{run_if}}
 use Rattle.sci_runs.proofs.running.run_script.Goals as goal
 
 pub returns-clause-run : goal.returns-clause-run
@@ -28,3 +28,13 @@ pub returns-clause-circle : goal.returns-clause-circle
 returns-clause-circle c = λ none enough.
     circle_done c.args.script.now c.args.plan.issuing c.args.plan.seed c.in_ok-ran.ran.turns c.args.plan.turns c.in_ok-ran.ran.done
     c.finish-ended.result.schedule c.operations-all.ensures.good c.finish-ended.ensures.run.good (played c) none enough (λ is. c.in_ok-ran.ensures.all is)
+
+pub returns-clause-windows : goal.returns-clause-windows
+returns-clause-windows c = λ windows.
+    finishes c.args.script.now c.args.plan.issuing c.args.plan.seed c.in_ok-ran.ran.turns c.in_ok-ran.ran.done c.finish-ended.result.schedule
+    c.operations-all.ensures.good (played c) windows
+
+pub returns-clause-finishes : goal.returns-clause-finishes
+returns-clause-finishes c = λ none enough.
+    circle_finishes c.args.script.now c.args.plan.issuing c.args.plan.seed c.in_ok-ran.ran.turns c.args.plan.turns c.in_ok-ran.ran.done
+    c.finish-ended.result.schedule c.operations-all.ensures.good (played c) none enough (λ is. c.in_ok-ran.ensures.all is)

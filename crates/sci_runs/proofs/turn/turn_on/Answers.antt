@@ -42,6 +42,7 @@ returns-clause-done c =
       so_far = so_far (goal.at.returns-clause-done c).After-take_turn;
       whole = subst (λ (m : ℕ). IsWholeTurn before (post_on n old) after (post_on m new) progress) c.take_turn.ensures.stays.0
           (c.in_ok-take_turn.ensures.whole refl);
+      room = c.take_turn.ensures.stays.5;
       idle = λ is. subst (λ (m : ℕ). IsIdleTurn before (post_on n old) after (post_on m new)) c.take_turn.ensures.stays.0
           (c.in_ok-take_turn.ensures.idle refl is);
     } in
