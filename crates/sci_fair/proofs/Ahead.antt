@@ -182,7 +182,8 @@ pub waiting_asks : (n line : ℕ) (p : PolicyOf) (x : Core) (events : List Event
 waiting_asks n line p x [] q y kinds steady waiting = ap (λ (c : Core). state_on (node_at c n) line) (sym steady.1)
 waiting_asks n line p x (e ∷ events) q y kinds steady waiting =
     let mid = steady.1 in
-    let same = waiting_step e line (state_on (node_at x n) line) (state_on (node_at mid n) line) (state_step n p x steady.0 mid line e steady.2) kinds.0 waiting in
+    let same = waiting_step e line (state_on (node_at x n) line) (state_on (node_at mid n) line) (state_step n p x steady.0 mid line e steady.2) kinds.0
+    waiting in
     waiting_asks n line steady.0 mid events q y kinds.1 steady.3 (subst (λ (s : CacheState). waits s ≡ true) (sym same) waiting) ∙ same
 
 -- the request of a line that waits, when the node's turn has accepted answers: no answer is on its way
@@ -193,7 +194,8 @@ firm_lane core n line reached some inside free never waiting = elim (where_is co
   | Answered_from from letter f answers about among ↦ absurd (never from letter f answers about among)
   | Asked_at to letter t asks about among ↦
       let packet = lane_packets core Requests n to n line letter reached some t about among in
-      let alone = sole (line % core.size.nodes) (line_of (node_at core n).cache line) (packets_of core n line) letter (reached_tidy core reached n line some inside)
+      let alone = sole (line % core.size.nodes) (line_of (node_at core n).cache line) (packets_of core n line) letter
+      (reached_tidy core reached n line some inside)
       packet in
       record { to = to; receiver = t; letter = letter; asks = asks; about = about; among = among; sent = alone.awaited.sent asks }
 ]

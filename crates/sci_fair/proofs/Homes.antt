@@ -8,7 +8,9 @@ use Rattle.sci_history.specs.Seen.{IsAmong}
 use Rattle.sci_words.specs.declared.{event.{AskKind.{AskKind}, Event.{Event}}, stamped.Stamped.{Stamped}}
 use Rattle.sci_packets.specs.{declared.body.Body.{Body, TheVariants.{Claim, Clear, Wback, Wbno, Wbok}}, Table.{is_request}}
 use Rattle.sci_home.specs.{declared.state.HomeState.{HomeState}, Serving.{head_of, home_serving}}
-use Rattle.sci_cache.specs.{State.{CacheState, Asking, Below, Claiming, Clearing, Fading, FreshHead, FreshJoining, Head, Joining, Out, Purging, Returning, Rolling, Telling}, Accepting.{accepting, settled}, Asking.{Asked, asking}}
+use Rattle.sci_cache.specs.State.{CacheState, Asking, Below, Claiming, Clearing, Fading, FreshHead, FreshJoining, Head, Joining, Out, Purging, Returning}
+use Rattle.sci_cache.specs.State.{Rolling, Telling}
+use Rattle.sci_cache.specs.{Accepting.{accepting, settled}, Asking.{Asked, asking}}
 use Rattle.sci_cache.specs.{Kinds.{joins}, Member.{is_fresh}, Serving.{serving}, Cache.{Letter, line_of}}
 use Rattle.sci_core.specs.declared.lane.LaneKind.TheVariants.{Requests, Answers}
 use Rattle.sci_core.specs.Core.{Core, lane_of, lane_place, node_at}
@@ -18,7 +20,8 @@ use Rattle.sci_core.specs.{SharingList.{LinkedFrom}, Size.{Size}, Tidy.{IsSentIn
 use Rattle.sci_core.proofs.{Basics.Options.{found, of_some}, FirstCome.Turns.{led_of}, ReachedLaws.{any_shaped}}
 use Rattle.sci_core.proofs.Shape.{Led.{IsLed, following_in, fresh_in, role_in, roles_differ}, ShapeClauses.{member_below}, ShapeSteps.{view_of}}
 use Rattle.sci_core.proofs.Shape.{Shapes.{IsShaped}, Standings.{Coming, Following, Leading, role_of}, StaleFronts.{any_stale}, Views.{View, link_in}}
-use Rattle.sci_core.proofs.{Step.{NodeSides.{At_home, In_cache, ServedAs, serve_as}, Places.{place_requests, place_to}}, Tidy.{TidyRuns.{reached_tidy}, TidySteps.{about_asker, about_from, about_line, answer_asker, request_asker}}}
+use Rattle.sci_core.proofs.Step.{NodeSides.{At_home, In_cache, ServedAs, serve_as}, Places.{place_requests, place_to}}
+use Rattle.sci_core.proofs.Tidy.{TidyRuns.{reached_tidy}, TidySteps.{about_asker, about_from, about_line, answer_asker, request_asker}}
 use Rattle.sci_core.proofs.WellFormed.WellFormedSteps.{reachable, reached_well}
 use Rattle.sci_policy.specs.{Lines.{state_on}, Policy.{PolicyOf, awaits_home, is_cread}, Turn.{is_ask}}
 use Rattle.sci_turn.specs.Moves.{taking_event}
@@ -147,7 +150,8 @@ none_comes line x reached nobody m comes =
     let linked = coming_links (settled_at x line m) comes in
     let below = member_below x line m linked.0 (reached_well x reached) linked.1 in
     let none = nobody m below in
-    let clash : true ≡ false = sym (coming_is (settled_at x line m) comes) ∙ settled_comes (state_on (node_at x m) line) (answer_to x m line) none.0 none.1 in cc
+    let clash : true ≡ false = sym (coming_is (settled_at x line m) comes)
+    ∙ settled_comes (state_on (node_at x m) line) (answer_to x m line) none.0 none.1 in cc
 
 -- ---- the answer goes out, and comes
 
@@ -211,7 +215,8 @@ word_waits : (node : NodeOf) (letter : Letter) (next : NodeOf) → changes_list 
     → IfSome (home_serving (home_of node letter.line) letter.source letter.body) (λ (served : HomeState × Body). served.1 ≡ Wbok)
     → next.waiting ≡ Some (answering letter Wbok)
 word_waits node letter next changes (At_home served is serves made) word =
-    let wbok = of_some (λ (served : HomeState × Body). served.1 ≡ Wbok) (home_serving (home_of node letter.line) letter.source letter.body) served serves word in
+    let wbok = of_some (λ (served : HomeState × Body). served.1 ≡ Wbok) (home_serving (home_of node letter.line) letter.source letter.body) served serves
+    word in
     ap (λ (part : NodeOf). part.waiting) (sym made) ∙ ap (λ (b : Body). Some (answering letter b)) wbok
 word_waits node letter next changes (In_cache served serves made) word =
     let clash : None ≡ Some served = sym (no_cache (state_on node letter.line) letter.source letter.body changes) ∙ serves in cc
@@ -397,11 +402,13 @@ module _ (n h i : ℕ) (old new last : Working) (letter : Letter) (taken : Lette
       let window = ahead.windows.0 in
       let rest = ahead.windows.1 in
       let cut = turns_part IsSteadyTurn window rest new last (subst (λ (l : List ℕ). AreSteadyTurns l new last) ahead.windows.2 ahead.turns) in
-      never_on n line h reply t to_.0 work refl (about_from n line reply refl (answer_asker reply refl ∙ source)) to_.1 differs window new cut.0 ahead.good n_new
+      never_on n line h reply t to_.0 work refl (about_from n line reply refl (answer_asker reply refl ∙ source)) to_.1 differs window new cut.0 ahead.good
+      n_new
       (ahead.windows.3 n n_new) cut.1 (record { state = refl; pending = refl; sender = h_new; inside = l_new; among = goes })
 
 -- so amid steady turns no node has asked its home to change a list
-pub none_changes : (n line : ℕ) (s : CacheState) (w last : Working) → n < w.core.size.nodes → Amid 912 w last → awaits_home s ≡ true → InLane n line s w.core → ⊥
+pub none_changes : (n line : ℕ) (s : CacheState) (w last : Working) → n < w.core.size.nodes → Amid 912 w last → awaits_home s ≡ true → InLane n line s w.core
+    → ⊥
 none_changes n line s w last some amid awaits at =
     let ahead = amid.ahead in
     let nodes = w.core.size.nodes in
@@ -414,7 +421,8 @@ none_changes n line s w last some amid awaits at =
     let to : at.to ≡ letter.line % nodes =
     sym (is.to ∙ place_to nodes Requests n at.to at.receiver) ∙ (sent.1 ∙ ap (λ (l : ℕ). l % nodes) (sym here)) in
     let c = request_taken 3 3 nodes n at.to 632 letter ahead.order w last (omega arith) ahead.good refl some at.receiver
-    (stands_in w.core n at.to letter ahead.good.between at.among) ahead.turns (windows_fewer nodes (70 * 4 + 632) 912 ahead.order (omega arith) ahead.windows) in
+    (stands_in w.core n at.to letter ahead.good.between at.among) ahead.turns
+    (windows_fewer nodes (70 * 4 + 632) 912 ahead.order (omega arith) ahead.windows) in
     let end = after_it (LetterTaken n at.to letter) 632 ahead.order w last ahead.good c in
     let back = earlier 632 (c.node ∷ []) c.old c.new last c.done.good (c.new, c.turn, refl) end in
     let amid_c = on_from 912 632 c.before w c.old last amid c.leads back in

@@ -1,6 +1,7 @@
 -- In steady turns no line joins a list for long. Of the lines on which some node joins, take the least, and on it the node directly before
 -- the one that leads: it asks its Cread, the Cread is taken, and the leader serves it.
-use Rattle.std.proofs.Common.{◌≡◌, ◌≢◌, ◌<◌, ◌+◌, ◌==◌, ◌&&◌, ◌||◌, ◌⊎◌, ◌%◌, ◌*◌, ℕ, zero, suc, Bool, true, false, not, if◌then◌else◌, arith, List, [], ◌∷◌, ◌++◌}
+use Rattle.std.proofs.Common.{◌≡◌, ◌≢◌, ◌<◌, ◌+◌, ◌==◌, ◌&&◌, ◌||◌, ◌⊎◌, ◌%◌, ◌*◌, ℕ, zero, suc, Bool, true, false, not, if◌then◌else◌, arith, List, [], ◌∷◌}
+use Rattle.std.proofs.Common.{◌++◌}
 use Rattle.std.proofs.Common.{Option, Some, None, refl, sym, ap, subst, ◌∙◌, inl, inr, rules}
 use Rattle.std.proofs.lemmas.Bool.{cases_Bool, cases_eq, cases_lt, eqb-true, eq-eqb, ne_eqb}
 use Rattle.std.proofs.lemmas.List.{get_or_past}
@@ -8,7 +9,8 @@ use Rattle.std.specs.Prelude.{IfSome, is_some, slice_get}
 use Rattle.sci_history.specs.Seen.{IsAmong}
 use Rattle.sci_words.specs.declared.{event.{AskKind.{AskKind}, Event.{Event}}, stamped.Stamped.{Stamped}}
 use Rattle.sci_packets.specs.{declared.body.Body.{Body, TheVariants.{Cread}}}
-use Rattle.sci_cache.specs.{State.{CacheState, Claiming, Clearing, FreshHead, FreshJoining, Head, Joining, Purging, Returning, Telling, waits}, Accepting.{accepting}, Asking.{Asked, asking}}
+use Rattle.sci_cache.specs.State.{CacheState, Claiming, Clearing, FreshHead, FreshJoining, Head, Joining, Purging, Returning, Telling, waits}
+use Rattle.sci_cache.specs.{Accepting.{accepting}, Asking.{Asked, asking}}
 use Rattle.sci_cache.specs.{Kinds.{joins, must_send}, Member.{link_of}, Serving.{serving}, Line.{LineState, untouched}, Cache.{Letter, line_of}}
 use Rattle.sci_core.specs.declared.lane.LaneKind.TheVariants.{Requests}
 use Rattle.sci_core.specs.Core.{Core, lane_of, lane_place, node_at}
@@ -149,7 +151,8 @@ joined n line w last some inside ahead joins_now =
     let shaped = any_shaped core (reachable core reached) line inside in
     let ns = shaped.1.0 in
     let comes : role_in view n ≡ Some Coming = joins_role (settled_at core line n)
-    (settled_joins (work_on (node_at core n) line) (state_on (node_at core n) line) (settled_at core line n) (settles n line w last some inside ahead) joins_now) in
+    (settled_joins (work_on (node_at core n) line) (state_on (node_at core n) line) (settled_at core line n) (settles n line w last some inside ahead)
+    joins_now) in
     let linked = coming_links (settled_at core line n) comes in
     let among = shaped.1.1.list.all n linked.0 linked.1 in
     let led = led_of view (home_at core line) shaped.0 ns n shaped.1.1 among in

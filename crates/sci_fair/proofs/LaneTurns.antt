@@ -270,7 +270,8 @@ asks_keep n p x (e ∷ events) q y a b kinds steady f t =
     (λ other. rest.0 other ∙ first.0 other, rest.1 ∙ first.1)
 
 -- answers to a node are only sent, by another that takes requests
-pub take_answers : (n : ℕ) (p : PolicyOf) (x : Core) (q : PolicyOf) (y : Core) (b : ℕ) (e : Event) → IsSteady n p x e q y → is_taking e ≡ true → b < x.size.nodes
+pub take_answers : (n : ℕ) (p : PolicyOf) (x : Core) (q : PolicyOf) (y : Core) (b : ℕ) (e : Event) → IsSteady n p x e q y → is_taking e ≡ true
+    → b < x.size.nodes
     → HasGained (lane_of x Answers n b) (lane_of y Answers n b)
 take_answers n p x q y b (event.Reply i) st kind f =
     let one = reply_one n p x q y i st in

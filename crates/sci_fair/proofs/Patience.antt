@@ -21,7 +21,8 @@ use Rattle.sci_policy.proofs.{Marks.{in_set}, PolicyLaws.{due_stays, ticked_if},
 use Rattle.sci_turn.specs.Moves.{IsOwn}
 use Rattle.sci_fair.specs.{Rank.{rank}}
 use Rattle.sci_fair.specs.Steady.{AreSteadyTurns, HasWindows, IsSteadyTurn, Working, WorksByTurns}
-use Rattle.sci_fair.proofs.{Kept.{Class, IsIn, drain_accepts, drain_asks, drain_serves, fresh_accepts, fresh_asks, fresh_serves, has_fresh_next, kept_along, kept_event, kept_in}}
+use Rattle.sci_fair.proofs.Kept.{Class, IsIn, drain_accepts, drain_asks, drain_serves, fresh_accepts, fresh_asks, fresh_serves, has_fresh_next, kept_along}
+use Rattle.sci_fair.proofs.Kept.{kept_event, kept_in}
 use Rattle.sci_fair.proofs.{StateSteps.{state_step}}
 use Rattle.sci_fair.proofs.{Steadied.{IsSteady, Steadily}, SteadyTurns.{Held, steady_turn}, Trace.{AreAll, AsksFirst, Ends_there, Makes_ask, is_taking}}
 use Rattle.sci_fair.proofs.Awaiting.{accept_no_ask, taking_no_ask, waiting_step}
@@ -331,7 +332,8 @@ module _ (m : Marking) (n line : ℕ) (small : line < MAX_LINES) where
 
   -- ---- the rest of a turn
 
-  own_policy : (p : PolicyOf) (x : Core) (e : Event) (q : PolicyOf) → IsOwn n p x e q → (is_ask e ≡ true → ⊥) → (m.marks q ≡ m.marks p) × (q.patience ≡ p.patience)
+  own_policy : (p : PolicyOf) (x : Core) (e : Event) (q : PolicyOf) → IsOwn n p x e q → (is_ask e ≡ true → ⊥)
+      → (m.marks q ≡ m.marks p) × (q.patience ≡ p.patience)
   own_policy p x (event.Serve from i) q own other =
       (ap m.marks own.decides.1 ∙ m.served p (Some from), ap (λ (r : PolicyOf). r.patience) own.decides.1)
   own_policy p x (event.Refuse from i) q own other =
@@ -366,9 +368,11 @@ module _ (m : Marking) (n line : ℕ) (small : line < MAX_LINES) where
       let accepted = taken_all k is_accept accept_no_ask (turned p) old.core t.e1 t.p1 t.c1 t.are_accepts held.accepts begun in
       taken_all k is_taking taking_no_ask t.p1 t.c1 t.e2 t.p2 t.c2 t.are_takes held.takes accepted
 
-  performs_there : (p : PolicyOf) (core : Core) (at : ℕ) → next_wanted p (node_at core n) ≡ Some (Perform at) → is_some (node_performing (node_at core n) at) ≡ true
+  performs_there : (p : PolicyOf) (core : Core) (at : ℕ) → next_wanted p (node_at core n) ≡ Some (Perform at)
+      → is_some (node_performing (node_at core n) at) ≡ true
   performs_there p core at performs =
-      of_some (IsEnabledWant (node_at core n)) (next_wanted p (node_at core n)) (Perform at) performs (wanted_enabled (ticked p (node_at core n)) (node_at core n))
+      of_some (IsEnabledWant (node_at core n)) (next_wanted p (node_at core n)) (Perform at) performs
+      (wanted_enabled (ticked p (node_at core n)) (node_at core n))
 
   called_once : (k : ℕ) (p : PolicyOf) (x : Core) (want : Option Want) → next_wanted p (node_at x n) ≡ want → Called m n line k p x
       → Called m n line (pred k) (next_policy p (node_at x n)) x ⊎ Stops m n line x

@@ -11,7 +11,8 @@ use Rattle.sci_core.specs.declared.lane.LaneKind.TheVariants.{Requests, Answers}
 use Rattle.sci_core.specs.Core.{Core, lane_of, lane_place, node_at}
 use Rattle.sci_core.specs.{Node.{NodeOf, lines_of, node_accepting}, Reached.{IsReached}, Sharing.{answer_in, answer_to, is_about, packets_of, settled_at}}
 use Rattle.sci_core.specs.{Size.{Size}, Tidy.{IsAccepted}}
-use Rattle.sci_core.proofs.{Basics.Options.{found, of_some}, ReachedLaws.{reached_accepted}, Step.{NodeSides.{AcceptedAs, accept_as}, Places.{place_answers, place_to}}}
+use Rattle.sci_core.proofs.{Basics.Options.{found, of_some}, ReachedLaws.{reached_accepted}}
+use Rattle.sci_core.proofs.Step.{NodeSides.{AcceptedAs, accept_as}, Places.{place_answers, place_to}}
 use Rattle.sci_core.proofs.{Tidy.{TidySteps.{about_from, about_line, answer_asker}}, WellFormed.WellFormedSteps.{reached_well}}
 use Rattle.sci_policy.specs.{Lines.{state_on}, Policy.{PolicyOf, turned}, Turn.{is_accept}}
 use Rattle.sci_fair.specs.{Rank.{rank, work_on}, Steady.{AreSteadyTurns, IsSteadyTurn, Working, WorksByTurns}}

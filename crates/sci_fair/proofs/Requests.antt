@@ -344,7 +344,8 @@ taken_by nodes k n to later extra letter order first last good all some t at aga
     let lane : lane_of first.core Requests n to ≡ front.0 ∷ front.1 = at.at.lane ∙ sym front.2 in
     let c : Comes (FrontTaken to n front.0) nodes later order first last =
     subst (λ (m : ℕ). Comes (FrontTaken to n front.0) m later order first last) all
-    (front_taken IsSteadyTurn (λ i o w t. t) to n later front.0 front.1 order first last good (subst (λ (m : ℕ). to < m) (sym all) t) (subst (λ (m : ℕ). n < m) (sym all) some) lane turns
+    (front_taken IsSteadyTurn (λ i o w t. t) to n later front.0 front.1 order first last good (subst (λ (m : ℕ). to < m) (sym all) t)
+    (subst (λ (m : ℕ). n < m) (sym all) some) lane turns
     (subst (λ (m : ℕ). HasWindows m (70 + later) order) (sym all) windows)) in
     let rest = c.node ∷ c.after in
     let few : HasWindows nodes extra rest =

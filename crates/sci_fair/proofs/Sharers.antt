@@ -82,7 +82,8 @@ none_purged n old new last held good some free ahead line below =
 -- ---- heads with a next entry
 
 -- a line beyond the machine's is in no list
-pub drains_inside : (core : Core) (n line : ℕ) → IsReached core → n < core.size.nodes → can_drain (state_on (node_at core n) line) ≡ true → line < core.size.lines
+pub drains_inside : (core : Core) (n line : ℕ) → IsReached core → n < core.size.nodes → can_drain (state_on (node_at core n) line) ≡ true
+    → line < core.size.lines
 drains_inside core n line reached some drains = elim (cases_lt line core.size.lines) [
   | inl inside ↦ inside
   | inr past ↦

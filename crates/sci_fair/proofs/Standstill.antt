@@ -7,19 +7,23 @@ use Rattle.std.specs.Prelude.{IfSome, is_some}
 use Rattle.sci_history.specs.Seen.{IsAmong}
 use Rattle.sci_words.specs.declared.{event.AskKind.{AskKind}, stamped.Stamped.{Stamped}}
 use Rattle.sci_packets.specs.declared.body.Body.{Body}
-use Rattle.sci_cache.specs.{State.{Below, CacheState, Claiming, FreshHead, Head, Purging, Rolling, waits}, Accepting.{accepting}, Asking.{Asked, asking}, Kinds.{has_fresh_sharers, joins, must_send}}
+use Rattle.sci_cache.specs.{State.{Below, CacheState, Claiming, FreshHead, Head, Purging, Rolling, waits}, Accepting.{accepting}, Asking.{Asked, asking}}
+use Rattle.sci_cache.specs.Kinds.{has_fresh_sharers, joins, must_send}
 use Rattle.sci_cache.specs.{Member.{link_of}, Serving.{serving}, Line.{LineState, untouched}, Cache.{line_of}}
 use Rattle.sci_core.specs.{Core.{Core, node_at}, Node.{NodeOf, lines_of, pending_on}, Reached.{IsReached}, Shape.{follows}, Sharing.{home_at, settled_at}}
 use Rattle.sci_core.specs.{declared.pending.Pending.{Pending}, SharingList.{LinkedFrom}, Size.{Size}}
 use Rattle.sci_core.proofs.{Basics.Options.{of_some}, FirstCome.Turns.{led_of}, ReachedLaws.{any_shaped}}
-use Rattle.sci_core.proofs.Shape.{Led.{IsLed, role_in, roles_differ}, ShapeClauses.{member_below}, ShapeSteps.{view_of}, Standings.{Coming, Following, Leading, role_of}, Views.{View, link_in}}
+use Rattle.sci_core.proofs.Shape.{Led.{IsLed, role_in, roles_differ}, ShapeClauses.{member_below}, ShapeSteps.{view_of}}
+use Rattle.sci_core.proofs.Shape.{Standings.{Coming, Following, Leading, role_of}, Views.{View, link_in}}
 use Rattle.sci_core.proofs.WellFormed.WellFormedSteps.{reachable, reached_well}
 use Rattle.sci_policy.specs.Lines.{can_be_due, can_drain, state_on}
 use Rattle.sci_policy.specs.{Policy.{awaits_home, has, is_claimed, ticked}, Rest.{Awaits, MayRest, NothingPending}}
 use Rattle.sci_policy.proofs.AlwaysWants.{may_rest}
 use Rattle.sci_fair.specs.{Rank.{rank, work_in, work_on}, Retries.{is_tried_once}, Steady.{AreSteadyTurns, HasWindows, IsSteadyTurn, Working, WorksByTurns}}
-use Rattle.sci_fair.proofs.Ahead.{Ahead, Amid, after_it, asked_waits, earlier, fewer, firm, firm_asked, firm_before, lines_inside, on_from, performs_none, windows_on}
-use Rattle.sci_fair.proofs.{Descents.{turns_join, turns_part, windows_fewer, windows_part}, FirstWants.{wants_claim}, HeldUp.{Asks_it, FreeTurn, IsFree, Performs_it, Wants_none, free_turn}}
+use Rattle.sci_fair.proofs.Ahead.{Ahead, Amid, after_it, asked_waits, earlier, fewer, firm, firm_asked, firm_before, lines_inside, on_from, performs_none}
+use Rattle.sci_fair.proofs.Ahead.{windows_on}
+use Rattle.sci_fair.proofs.{Descents.{turns_join, turns_part, windows_fewer, windows_part}, FirstWants.{wants_claim}}
+use Rattle.sci_fair.proofs.HeldUp.{Asks_it, FreeTurn, IsFree, Performs_it, Wants_none, free_turn}
 use Rattle.sci_fair.proofs.{Homes.{none_changes}, Joins.{none_needy}}
 use Rattle.sci_fair.proofs.Kept.{Class, has_fresh_next, is_needy, kept_along, kept_in, needy, not_draining, once}
 use Rattle.sci_fair.proofs.{Patience.{MarkedTurn, Stopped, due, fresh_due, marked_turn, still_due_marked}, Promised.{As_it_is, By_answer, SettlesTo, settles}}
@@ -52,7 +56,8 @@ amid_fewer few many w last le amid = record {
   ahead = fewer few many w last le amid.ahead;
 }
 
-fresh_inside : (core : Core) (n line : ℕ) → IsReached core → n < core.size.nodes → has_fresh_next (state_on (node_at core n) line) ≡ true → line < core.size.lines
+fresh_inside : (core : Core) (n line : ℕ) → IsReached core → n < core.size.nodes → has_fresh_next (state_on (node_at core n) line) ≡ true
+    → line < core.size.lines
 fresh_inside core n line reached some shares = elim (cases_lt line core.size.lines) [
   | inl inside ↦ inside
   | inr past ↦
@@ -268,7 +273,8 @@ no_follower n line w last some late = elim (cases_Bool (follows (state_on (node_
       let a = on.leader in
       let a_below = member_below core line a (Some on.next) (reached_well core reached) on.link in
       let next = next_linked (settled_at core line a) on.next on.role on.link in
-      let there = settled_next (work_on (node_at core a) line) (state_on (node_at core a) line) (settled_at core line a) (settles a line w last a_below inside ahead)
+      let there = settled_next (work_on (node_at core a) line) (state_on (node_at core a) line) (settled_at core line a)
+      (settles a line w last a_below inside ahead)
       next in
       let none = neither (can_drain (state_on (node_at core a) line)) (has_fresh_next (state_on (node_at core a) line))
       (no_sharers a line w last a_below (amid_fewer 280 912 w last (omega arith) (amid_of 912 w last late))) (no_fresh_sharers a line w last a_below late) in

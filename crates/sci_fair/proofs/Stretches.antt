@@ -7,17 +7,20 @@ use Rattle.std.proofs.lemmas.{Bool.{cases_eq, cases_lt, leb-true}, List.{append_
 use Rattle.sci_words.specs.{declared.{event.Event.{Event}, operation.Op.{Op}}, Operation.{is_maker}}
 use Rattle.sci_core.specs.declared.pending.Pending.{Pending}
 use Rattle.sci_cache.specs.{State.{CacheState}, Line.{LineState, untouched}, Cache.{CacheOf, line_of}}
-use Rattle.sci_core.specs.{Core.{Core, node_at, opening, side, stepping}, Node.{NodeOf, may_issue, node_issuing, pending_on}, Reached.{IsReached}, Size.{IsMachineSize, Size}}
+use Rattle.sci_core.specs.{Core.{Core, node_at, opening, side, stepping}, Node.{NodeOf, may_issue, node_issuing, pending_on}, Reached.{IsReached}}
+use Rattle.sci_core.specs.Size.{IsMachineSize, Size}
 use Rattle.sci_core.specs.Draining.{IsDrained}
 use Rattle.sci_core.proofs.{Basics.Options.{of_some}, History.Pendings.{issue_puts}, Settling.Drains.{some_node}}
 use Rattle.sci_core.proofs.WellFormed.WellFormedSteps.{reached_stepping, reached_well, size_either}
 use Rattle.sci_policy.specs.Lines.{state_on}
 use Rattle.sci_turn.proofs.Working.{stepped}
-use Rattle.sci_fair.specs.{Changes.{rank_at}, Lanes.{IsWork}, Later.{AreWorked, HasRest, IsCountedTurn, IsLaterTurn, NothingPends, Remaining, performs_in}, Rank.{CannotPerform, rank, work_in, work_on}}
+use Rattle.sci_fair.specs.{Changes.{rank_at}, Lanes.{IsWork}, Later.{AreWorked, HasRest, IsCountedTurn, IsLaterTurn, NothingPends, Remaining, performs_in}}
+use Rattle.sci_fair.specs.Rank.{CannotPerform, rank, work_in, work_on}
 use Rattle.sci_fair.specs.Steady.{AreSteadyTurns, AreTurns, HasWindows, IsSteadyTurn, IsTurnAlone, Working, WorksByTurns}
 use Rattle.sci_fair.proofs.Betweens.{drained_between, opening_between, work_between}
 use Rattle.sci_fair.proofs.{Descents.{turns_join, turns_part, windows_fewer, windows_part}, Few.{issued_rank, node_total, sum_least, sum_less, sum_to, total}}
-use Rattle.sci_fair.proofs.{Few.{total_within}, Opens.{drained_open, opening_open, work_open}, RankTables.{issue_lowers}, ReadCarries.{changed_by, issued_cache}, ReadSteps.{changed_out, drained_reads, opening_reads, work_reads}}
+use Rattle.sci_fair.proofs.{Few.{total_within}, Opens.{drained_open, opening_open, work_open}, RankTables.{issue_lowers}}
+use Rattle.sci_fair.proofs.{ReadCarries.{changed_by, issued_cache}, ReadSteps.{changed_out, drained_reads, opening_reads, work_reads}}
 use Rattle.sci_fair.proofs.{Standstill.{steady_none}, SteadyTurns.{Turned, alone_works, turned_alone}}
 use Rattle.sci_words.specs.declared.event.Event.TheVariants as event
 
@@ -421,7 +424,8 @@ module _ (wide : ℕ) (stops : Stop wide) {X : Type 0} (at : X → Working) (lef
   }
 
   still_by : (k : ℕ) (size : Size) (order : List ℕ) (first last : X) → WorksByTurns (at first).core → (at first).core.size ≡ size
-      → AreTurns IsTurn order first last → rest_of size first ≤ k → HasWindows size.nodes (suc k * wide) order → Still at left IsTurn size.nodes wide order first last
+      → AreTurns IsTurn order first last → rest_of size first ≤ k → HasWindows size.nodes (suc k * wide) order
+      → Still at left IsTurn size.nodes wide order first last
   still_by zero size order first last good is turns few windows =
       let nodes = size.nodes in
       let part = windows_part nodes wide 0 order (windows_fewer nodes (wide + 0) (1 * wide) order (omega (arith, one-mul wide)) windows) in

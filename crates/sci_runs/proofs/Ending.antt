@@ -144,7 +144,8 @@ played_grows nodes (suc rounds) order later old new played =
     let last = deeds_grow n round.deeds (standing (policy_at played.0 n) (course_at played.0)) (standing (policy_at new n) (course_at new)) round.does in
     omega (arith, first, last)
 
-pub played_order : (nodes rounds : ℕ) (order later : Order) (old new : Moment) → Played nodes rounds order old later new → later ≡ order_after nodes rounds order
+pub played_order : (nodes rounds : ℕ) (order later : Order) (old new : Moment) → Played nodes rounds order old later new
+    → later ≡ order_after nodes rounds order
 played_order nodes zero order later old new played = sym played.0
 played_order nodes (suc rounds) order later old new played =
     played.4 ∙ ap (next_order nodes) (played_order nodes rounds order played.1 old played.0 played.2)

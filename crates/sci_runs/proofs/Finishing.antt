@@ -1,6 +1,7 @@
 -- A run in a circle ends in time: its rounds are turns between which operations are issued and performed, few of them; and where nothing
 -- changes in 1,253 windows, nothing is pending, so that each operation has its entry.
-use Rattle.std.proofs.Common.{◌≡◌, ◌≢◌, ◌≤◌, ◌<◌, ◌+◌, ◌-◌, ◌*◌, ◌==◌, ◌⊎◌, ℕ, zero, suc, Bool, true, false, arith, cond, if◌then◌else◌, List, [], ◌∷◌, ◌++◌, length, map, All}
+use Rattle.std.proofs.Common.{◌≡◌, ◌≢◌, ◌≤◌, ◌<◌, ◌+◌, ◌-◌, ◌*◌, ◌==◌, ◌⊎◌, ℕ, zero, suc, Bool, true, false, arith, cond, if◌then◌else◌, List, [], ◌∷◌, ◌++◌}
+use Rattle.std.proofs.Common.{length, map, All}
 use Rattle.std.proofs.Common.{Option, Some, None, Ok, refl, sym, ap, subst, ◌∙◌, inl, inr}
 use Rattle.std.proofs.Math.Nat.{suc-mul}
 use Rattle.std.proofs.lemmas.{Bool.{cases_eq, cases_lt, eq-eqb, ne_eqb}, List.{append_assoc, append_cancel_left, length_push}}
@@ -9,14 +10,16 @@ use Rattle.std.specs.{Prelude.{IsSome, count_by, get_or, slice_index_or}, List.{
 use Rattle.sci_history.specs.{declared.entry.Entry.{Entry}, Seen.{IsAmong}}
 use Rattle.sci_words.specs.declared.{event.Event.{Event}, operation.Op.{Op}}
 use Rattle.sci_text.specs.{Script.{IsScript, ScriptValue, operations_of}}
-use Rattle.sci_core.specs.{Core.{Core, lane_at, node_at, node_of, stepping}, Node.{NodeOf, lines_of, node_performing, pending_on, performing_pending}, Reached.{IsReached}, Size.{Size}}
+use Rattle.sci_core.specs.{Core.{Core, lane_at, node_at, node_of, stepping}, Node.{NodeOf, lines_of, node_performing, pending_on, performing_pending}}
+use Rattle.sci_core.specs.{Reached.{IsReached}, Size.{Size}}
 use Rattle.sci_core.specs.declared.pending.Pending.{Pending}
 use Rattle.sci_core.proofs.WellFormed.WellFormedSteps.{reached_well, size_either}
 use Rattle.sci_policy.specs.{declared.submit.SubmitFault.{SubmitFault}, Turn.{submit_fault}}
 use Rattle.sci_policy.specs.{Deeds.{Deed, DoesBy, Issues, Performs, Turns}, Policy.{PolicyOf, opening_policy}}
 use Rattle.sci_locked.specs.Lent.{KeepsRoom}
 use Rattle.sci_turn.specs.{Posts.{post_at}, Whole.{IsWholeTurn}}
-use Rattle.sci_fair.specs.{Between.{AreShort}, Lanes.{IsWork}, Later.{IsLaterTurn, NothingPends}, Rank.{CannotPerform}, Steady.{AreTurns, HasWindows, IsTurnAlone, Working, WorksByTurns}}
+use Rattle.sci_fair.specs.{Between.{AreShort}, Lanes.{IsWork}, Later.{IsLaterTurn, NothingPends}, Rank.{CannotPerform}}
+use Rattle.sci_fair.specs.Steady.{AreTurns, HasWindows, IsTurnAlone, Working, WorksByTurns}
 use Rattle.sci_fair.proofs.{Few.{sum_least, sum_less, sum_to}, Stretches.{Advances, Changes, Tries, has_still, turn_works, work_good}}
 use Rattle.sci_fair.proofs.{Descents.{turns_join}, Standstill.{steady_none}, SteadyTurns.{turned_alone}, Suits.{cannot_by}}
 use Rattle.sci_drive.specs.{Calls.{Call, IsOpen, reports}, Driving.{DriverOf, IsAnswered, IsDriven}}
@@ -140,7 +143,8 @@ module _ (n : ℕ) (old new : Moment) (round : IsRound n old new) (d : DriverOf)
   trying_deeds is =
       let goes = round.goes d in
       let worked = goes.worked in
-      let all : DoesBy (IsDeed n) (worked.first ++ (map performed worked.entries ++ Turns round.round.progress ∷ [])) (standing (policy_at old n) (course_at old))
+      let all : DoesBy (IsDeed n) (worked.first ++ (map performed worked.entries ++ Turns round.round.progress ∷ []))
+      (standing (policy_at old n) (course_at old))
       (standing (policy_at new n) (course_at new)) =
       subst (λ (deeds : List Deed). DoesBy (IsDeed n) deeds (standing (policy_at old n) (course_at old)) (standing (policy_at new n) (course_at new)))
       (goes.deeds_are ∙ (ap (λ (works : List Deed). works ++ Turns round.round.progress ∷ []) worked.deeds_are

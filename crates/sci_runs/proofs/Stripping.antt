@@ -201,7 +201,8 @@ strip_whole n xs before after a b progress me knows whole =
     let end = stage after b progress in
     let one = strip_replies n xs _ whole.replied me knows whole.replies in
     let two = strip_in_turn n AcceptsFrom (λ from. strip_up_to n 4 (Accepts from) (FindsNoAnswer from) (λ ys c d i k makes.
-    strip_makes n (event.Accept from c.post.me) ys c d i k makes) (strip_answers n from)) _ one.knows whole.replied whole.accepted one.me one.known whole.accepts in
+    strip_makes n (event.Accept from c.post.me) ys c d i k makes) (strip_answers n from)) _ one.knows whole.replied whole.accepted one.me one.known
+    whole.accepts in
     let three = strip_in_turn n TakesFrom (λ from. strip_up_to n 4 (Takes from) (FindsNoRequest from) (strip_takes n from) (strip_requests n from)) _ two.knows
     whole.accepted whole.taken two.me two.known whole.takes in
     let four = strip_up_to n 4 Asks AsksNoMore (strip_asks n) (strip_no_more n) three.knows whole.taken end three.me three.known whole.asks in

@@ -23,7 +23,8 @@ returns-clause-stays c =
     let cells = c.from.ensures in
     let test = c.if-count-from.false in
     let few : length (lane_of old.core c.args.kind lent.node to) < 4 =
-    subst (λ (core : Core). length (lane_of core c.args.kind lent.node to) < 4) c.machine-2.ensures (subst (λ (t : ℕ). length (lane_of c.machine-2.result.now c.args.kind lent.node t) < 4) c.get-to.ensures.number (omega (arith, long, cells, test)))
+    subst (λ (core : Core). length (lane_of core c.args.kind lent.node to) < 4) c.machine-2.ensures
+    (subst (λ (t : ℕ). length (lane_of c.machine-2.result.now c.args.kind lent.node t) < 4) c.get-to.ensures.number (omega (arith, long, cells, test)))
     in (
       refl,
       refl,
