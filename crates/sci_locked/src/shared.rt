@@ -30,8 +30,8 @@ struct Desk {
 impl Shared {
     ghost use Rattle.sci_core.specs.Coherent.{IsCoherent};
 
-    /// Shares a machine whose nodes have taken no turn yet. From some states that events lead to, turns never go on
-    /// (`turn_on`). After `Machine::drain` they do.
+    /// Shares a machine whose nodes have taken no turn yet. From a new machine, and after `Machine::drain`, turns go on; from
+    /// some other states that events lead to, they never do (`turn_on`).
     pub fn new(machine: Machine) -> Shared {
         let policies = array::from_fn(|_node| Policy::new());
         Shared {

@@ -22,7 +22,10 @@ use std::alloc::AllocError;
 ///   and some line awaits an answer.
 ///
 /// From the state in which a machine begins, and from each that such turns, `submit_on` and `perform_on` lead to, turns go
-/// on: while an operation is pending, some turn reports something before each node has taken 64 (the laws of `sci_fair`).
+/// on: while an operation is pending, some turn reports something before each node has taken 64. And operations are performed
+/// in time, if each node performs what it can before each of its turns (`operations_are_performed` of `sci_fair`): submit,
+/// perform, and then take a turn.
+///
 /// A machine that other events have led here may stand still for ever: two nodes may each keep a Cread of the other until
 /// its home answers, and what the home has to answer stands behind that Cread. After `Machine::drain` turns go on.
 ///
