@@ -12,7 +12,8 @@ use Rattle.sci_history.specs.Placed.{is_making, is_of_node, is_on_line, log_of, 
 use Rattle.sci_history.proofs.Order.{IsInOrder, IsInOrder-filter, all-filter, all_weaker, all-passes, filter_yes, filter-filter}
 use Rattle.sci_history.specs.declared.verdict.FaultKind.{FaultKind, TheVariants.{VersionTwice, VersionMissing, WrongReply, OutOfOrder, LastDiffers}}
 use Rattle.sci_history.proofs.Consequences.{among_all, among_filter, among_whole}
-use Rattle.sci_history.proofs.Histories.{Agrees, history-agrees, line_after-load, maker_of, makers-after, version-load, version-maker, versions-after, versions-within, words_at-start}
+use Rattle.sci_history.proofs.Histories.{Agrees, history-agrees, line_after-load, maker_of, makers-after, version-load, version-maker}
+use Rattle.sci_history.proofs.Histories.{versions-after, versions-within, words_at-start}
 use Rattle.sci_history.proofs.Placement.{pairs-head, pairs-tail}
 use Rattle.sci_windows.specs.declared.line_so_far.{Latest.{Latest}, LineSoFar.{LineSoFar}}
 use Rattle.sci_windows.specs.Scoreboard.{AreTaken, BeginWith, Breaks, IsNext, IsRight, begun_lines, begun_with, contents_of, early_fault, is_before_first}
