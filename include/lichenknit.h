@@ -8,7 +8,7 @@
 **
 **   - No pointer is NULL, not even to an empty buffer. Each is aligned as its type asks, and leads to as much memory as the
 **     type or the length beside it says. No two arguments of a call overlap.
-**   - An object (sci_machine, sci_node, sci_logs) is all zero before its first use: SCI_INIT, or static memory. Only this
+**   - An object (sci_machine, sci_node, sci_logs, sci_scoreboard) is all zero before its first use: SCI_INIT, or static memory. Only this
 **     library changes it. It may be moved, byte by byte, if the old place is not used again: two copies would both own what it
 **     keeps. When it goes out of use it is closed.
 **   - One thread at a time uses an object, also in a call that takes it as const: const says that the object stays as it was, and
@@ -18,9 +18,9 @@
 **
 ** All else is looked at. Any number may be passed in any field, and what can't be done is answered by a status.
 **
-** MEMORY AND STACK. A call takes memory only if SCI_NO_MEMORY is among its statuses. sci_logs_read, sci_logs_explain and
-** sci_machine_logs take at most 32 KB of stack; those that open, clone or replay 24 KB; sci_logs_audit, sci_logs_order and
-** sci_logs_order_kind 20 KB; all others 6 KB.
+** MEMORY AND STACK. A call takes memory only if SCI_NO_MEMORY is among its statuses. sci_logs_explain and
+** sci_logs_wanted take at most 48 KB of stack; sci_logs_read and sci_machine_logs 32 KB; those that open, clone or replay 24 KB;
+** sci_logs_audit, sci_logs_order and sci_logs_order_kind 20 KB; all others 6 KB.
 **
 ** THE PROCESSOR. The library that `make library` builds needs an x86-64 processor of level v2, with SSE4.2, and doesn't look for
 ** one: an older processor ends the program by SIGILL. That of an archive by `make dist` needs any x86-64 processor.
@@ -29,8 +29,8 @@
 ** its other arguments lead to as they were. What is const stays the same in any case. Where more than one status would fit,
 ** they come in this order: SCI_MISUSE, the faults of a packet's bytes, SCI_RANGE, SCI_NOT_ENABLED, SCI_FULL, SCI_NO_MEMORY. The
 ** functions that read a struct of a packet have an order of their own. sci_logs_order, sci_logs_explain, sci_machine_sharing and those
-** that end in _write need memory to know how much room they want, so SCI_FULL comes last there. sci_logs_explain, sci_logs_read and
-** sci_machine_replay answer what they meet first.
+** that end in _write need memory to know how much room they want, so SCI_FULL comes last there. sci_logs_explain, sci_logs_wanted,
+** sci_logs_read and sci_machine_replay answer what they meet first.
 */
 #ifndef LICHENKNIT_H
 #define LICHENKNIT_H
@@ -331,7 +331,7 @@ typedef struct sci_text_fault {
 /** @name Objects
 ** @{ */
 
-/** A machine, in the caller's memory. The three objects differ by name alone, so that a compiler finds a node where a machine is
+/** A machine, in the caller's memory. The four objects differ by name alone, so that a compiler finds a node where a machine is
 ** wanted. The library finds it too. */
 typedef struct sci_machine {
     void *at;
@@ -349,6 +349,12 @@ typedef struct sci_logs {
     void *at;
     uint32_t live;
 } sci_logs;
+
+/** A scoreboard, in the caller's memory. */
+typedef struct sci_scoreboard {
+    void *at;
+    uint32_t live;
+} sci_scoreboard;
 
 /** An empty object. */
 #define SCI_INIT { 0, 0 }
@@ -919,6 +925,16 @@ sci_status sci_logs_audit(const sci_logs *logs, sci_verdict *verdict);
 **   - SCI_MISUSE      The object keeps no logs. */
 sci_status sci_logs_explain(const sci_logs *logs, uint8_t *text, size_t room, size_t *used);
 
+/** Gives the word that one memory of one thread has where the verdict of sci_logs_audit is SCI_WRONG_REPLY, and the entry that made it.
+** has_maker is 0, and maker stays as it was, if the word is the zero that was there at first (sci_reports::ReadLog::wanted).
+**
+**   - SCI_OK          word and has_maker are written, and maker if has_maker is 1.
+**   - SCI_NOT_ENABLED The verdict is another one.
+**   - SCI_RANGE       The logs can't be a text: a serial is 65,536 or more, or they begin with contents that were given.
+**   - SCI_NO_MEMORY
+**   - SCI_MISUSE      The object keeps no logs. */
+sci_status sci_logs_wanted(const sci_logs *logs, uint64_t *word, uint32_t *has_maker, sci_entry *maker);
+
 /** Looks for one order of all entries that keeps the order of each node's log and that one memory of one thread explains, and
 ** writes it over the first entries, or a cycle of entries, each of which would have to come after the next, and the last after
 ** the first. used is how many they are: all entries, or at most 32 (sci_history::sequential_order, sci_windows::order_from).
@@ -953,6 +969,60 @@ sci_status sci_logs_read(sci_logs *logs, const uint8_t *text, size_t length, sci
 **   - SCI_NO_MEMORY
 **   - SCI_MISUSE      The object keeps no logs. */
 sci_status sci_logs_write(const sci_logs *logs, uint8_t *text, size_t room, size_t *used);
+
+/** @} */
+
+/** @name Scoreboards
+** An audit entry by entry, so that a simulation stops at the first fault. A scoreboard is told each operation when it takes effect: on
+** each line in the order of versions. It keeps what each line has and where each node stands on it, and no entries. So a run may be of
+** any length. What it took is lawful, with its contents as the last ones. What it says is at fault is in no lawful logs that begin with
+** the entries that it took, whatever comes after them. What needs the end, such as a version that never came, is said by sci_logs_audit.
+** @{ */
+
+/** Puts a scoreboard into an empty object. Nothing was told, and each line begins with zero words at version 0 (Scoreboard::new).
+**
+**   - SCI_OK          The object keeps the scoreboard, until sci_scoreboard_close.
+**   - SCI_MISUSE      The object isn't empty.
+**   - SCI_RANGE       Not 1 to 16 nodes or 1 to 64 lines.
+**   - SCI_NO_MEMORY */
+sci_status sci_scoreboard_open(sci_scoreboard *scoreboard, uint8_t nodes, uint8_t lines);
+
+/** Lets the scoreboard go, and leaves the object empty: all zero. An empty object stays empty.
+**
+**   - SCI_OK
+**   - SCI_MISUSE      The object keeps something else. */
+sci_status sci_scoreboard_close(sci_scoreboard *scoreboard);
+
+/** Begins a line with these contents. What was told of it is forgotten (Scoreboard::begin).
+**
+**   - SCI_OK
+**   - SCI_RANGE       There is no such line.
+**   - SCI_MISUSE      The object keeps no scoreboard. */
+sci_status sci_scoreboard_begin(sci_scoreboard *scoreboard, uint8_t line, const sci_stamped *contents);
+
+/** Reads the contents that a line has after what was told: the words that the next operation there finds (Scoreboard::contents).
+**
+**   - SCI_OK
+**   - SCI_RANGE       There is no such line.
+**   - SCI_MISUSE      The object keeps no scoreboard. */
+sci_status sci_scoreboard_contents(const sci_scoreboard *scoreboard, uint8_t line, sci_stamped *contents);
+
+/** Tells an entry. If kind is SCI_LAWFUL it goes on from what was told of its line, and is taken. Else the entry is at fault, the
+** scoreboard stays as it was, and the verdict names the entry: kind is the first of these that holds (Scoreboard::tell).
+**
+**   - SCI_VERSION_MISSING  The version is below the one with which the line began, or it is that one and the operation makes a version.
+**   - SCI_VERSION_TWICE    The operation makes a version that was made.
+**   - SCI_OUT_OF_ORDER     The node's latest entry on the line has its serial or a higher one, or a higher version.
+**   - SCI_WRONG_REPLY      The line comes to the version by the operation, which answers another word there.
+**
+** It takes constant time.
+**
+**   - SCI_OK          verdict is written.
+**   - SCI_RANGE       The scoreboard has no such node or line, or the struct says no entry, as of sci_logs_push.
+**   - SCI_NOT_ENABLED Nothing can be said now. The version is ahead of the line: the entry can be told again when those before it were.
+**                     Or it is a load of a version that the line has left: sci_logs_audit judges it at the end.
+**   - SCI_MISUSE      The object keeps no scoreboard. */
+sci_status sci_scoreboard_tell(sci_scoreboard *scoreboard, const sci_entry *entry, sci_verdict *verdict);
 
 /** @} */
 

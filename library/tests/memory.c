@@ -50,6 +50,12 @@ static int run(long refused) {
     sci_node node = SCI_INIT, other = SCI_INIT;
     const sci_stamped first = { 0, { 0, 0, 0, 7, 0, 0, 0, 0 } }, last = { 1, { 0, 0, 0, 42, 0, 0, 0, 0 } };
     sci_logs logs = SCI_INIT, read = SCI_INIT, window = SCI_INIT;
+    const sci_entry bad = { 1, 1, 0, 0, { SCI_LOAD, 0, 3, 0, 0, 0 }, 7, 0 };
+    sci_logs wrong = SCI_INIT;
+    sci_scoreboard board = SCI_INIT;
+    sci_entry maker = made;
+    uint64_t word = 9;
+    uint32_t number = 9;
     sci_verdict verdict = { 9, 9, 9, 9, 9 };
     sci_text_fault fault = { 0, 0, 0 };
     sci_dead dead = { 9, 9, 9 };
@@ -117,6 +123,10 @@ static int run(long refused) {
     MAKE(sci_logs_order(&window, &kind, entries, 4, &used), window);
     MAKE(sci_logs_order_kind(&window, &kind), window);
     MAKE(sci_logs_go_on(&window), window);
+    MAKE(sci_scoreboard_open(&board, 2, 1), board);
+    MAKE(sci_logs_open(&wrong, 2, 1), wrong);
+    MAKE(sci_logs_push(&wrong, &bad), wrong);
+    MAKE(sci_logs_wanted(&wrong, &word, &number, &maker), wrong);
     left = -1;
     if (verdict.kind != SCI_LAWFUL || kind != SCI_ORDER || events == 0 || dead.count != 0) {
         exit(5);
@@ -125,7 +135,7 @@ static int run(long refused) {
         exit(7);
     }
     if (sci_machine_close(&machine) || sci_machine_close(&copy) || sci_logs_close(&logs) || sci_logs_close(&read) ||
-        sci_logs_close(&window) || live != 0) {
+        sci_logs_close(&window) || sci_scoreboard_close(&board) || sci_logs_close(&wrong) || live != 0) {
         printf("%ld blocks are left\n", live);
         exit(6);
     }

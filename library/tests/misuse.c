@@ -6,6 +6,7 @@
 static sci_machine *as_machine(void *object) { return object; }
 static sci_node *as_node(void *object) { return object; }
 static sci_logs *as_logs(void *object) { return object; }
+static sci_scoreboard *as_scoreboard(void *object) { return object; }
 
 /* Every call for a machine on an object that keeps none. */
 static void no_machine(void *object) {
@@ -49,6 +50,7 @@ static void no_logs(void *object) {
     sci_entry found = entry;
     uint8_t nodes = 7, lines = 7, text[4] = { 7, 7, 7, 7 };
     uint32_t number = 7;
+    uint64_t word = 7;
     size_t count = 7;
     EXPECT(sci_logs_push(as_logs(object), &entry), SCI_MISUSE);
     EXPECT(sci_logs_set_last(as_logs(object), 0, &stamped), SCI_MISUSE);
@@ -61,11 +63,22 @@ static void no_logs(void *object) {
     EXPECT(sci_logs_entry(as_logs(object), 0, 0, &found), SCI_MISUSE);
     EXPECT(sci_logs_audit(as_logs(object), &verdict), SCI_MISUSE);
     EXPECT(sci_logs_explain(as_logs(object), text, sizeof text, &count), SCI_MISUSE);
+    EXPECT(sci_logs_wanted(as_logs(object), &word, &number, &found), SCI_MISUSE);
     EXPECT(sci_logs_order(as_logs(object), &number, &found, 1, &count), SCI_MISUSE);
     EXPECT(sci_logs_order_kind(as_logs(object), &number), SCI_MISUSE);
     EXPECT(sci_logs_write(as_logs(object), text, sizeof text, &count), SCI_MISUSE);
-    CHECK(number == 7 && found.version == entry.version);
+    CHECK(number == 7 && word == 7 && found.version == entry.version);
     CHECK(nodes == 7 && lines == 7 && count == 7 && verdict.kind == 7 && stamped.version == 7 && text[0] == 7);
+}
+
+/* Every call for a scoreboard on an object that keeps none. */
+static void no_scoreboard(void *object) {
+    sci_stamped stamped = { 7, { 7, 7, 7, 7, 7, 7, 7, 7 } };
+    sci_verdict verdict = { 7, 7, 7, 7, 7 };
+    EXPECT(sci_scoreboard_begin(as_scoreboard(object), 0, &stamped), SCI_MISUSE);
+    EXPECT(sci_scoreboard_contents(as_scoreboard(object), 0, &stamped), SCI_MISUSE);
+    EXPECT(sci_scoreboard_tell(as_scoreboard(object), &entry, &verdict), SCI_MISUSE);
+    CHECK(stamped.version == 7 && verdict.kind == 7);
 }
 
 /* Every call for a node on an object that keeps none. */
@@ -271,7 +284,10 @@ static void begun(void) {
     sci_logs kept = SCI_INIT;
     sci_stamped stamped = { 7, { 7, 7, 7, 7, 7, 7, 7, 7 } };
     sci_verdict verdict = { 7, 7, 7, 7, 7 };
+    sci_entry maker = entry;
     uint8_t text[128] = { 7 };
+    uint64_t word = 7;
+    uint32_t has_maker = 7;
     size_t used = 7;
     EXPECT(sci_logs_open(&kept, 2, 2), SCI_OK);
     EXPECT(sci_logs_first(&kept, 2, &stamped), SCI_RANGE);
@@ -289,7 +305,8 @@ static void begun(void) {
     EXPECT(sci_logs_set_first(&kept, 1, &stamped), SCI_OK);
     EXPECT(sci_logs_write(&kept, text, sizeof text, &used), SCI_RANGE);
     EXPECT(sci_logs_explain(&kept, text, sizeof text, &used), SCI_RANGE);
-    CHECK(used == 7 && text[0] == 7);
+    EXPECT(sci_logs_wanted(&kept, &word, &has_maker, &maker), SCI_RANGE);
+    CHECK(used == 7 && text[0] == 7 && word == 7 && has_maker == 7);
     EXPECT(sci_logs_set_last(&kept, 1, &stamped), SCI_OK);
     EXPECT(sci_logs_audit(&kept, &verdict), SCI_OK);
     CHECK(verdict.kind == SCI_LAWFUL);
@@ -393,6 +410,81 @@ static void logs(void) {
     EXPECT(sci_logs_close(&kept), SCI_OK);
 }
 
+/* The word that a wrong reply should have had, and who made it. */
+static void wanted(void) {
+    const sci_entry wrong = { 1, 1, 0, 0, { SCI_LOAD, 0, 3, 0, 0, 0 }, 7, 1 };
+    sci_logs kept = SCI_INIT;
+    sci_entry maker = wrong;
+    uint64_t word = 7;
+    uint32_t has_maker = 7;
+    EXPECT(sci_logs_open(&kept, 2, 1), SCI_OK);
+    EXPECT(sci_logs_push(&kept, &entry), SCI_OK);
+    EXPECT(sci_logs_wanted(&kept, &word, &has_maker, &maker), SCI_NOT_ENABLED);
+    CHECK(word == 7 && has_maker == 7 && maker.node == 1);
+    EXPECT(sci_logs_push(&kept, &wrong), SCI_OK);
+    EXPECT(sci_logs_wanted(&kept, &word, &has_maker, &maker), SCI_OK);
+    CHECK(word == 42 && has_maker == 1 && maker.node == 0 && maker.serial == 0 && maker.version == 1 && maker.op.datum == 42);
+    EXPECT(sci_logs_close(&kept), SCI_OK);
+}
+
+/* A scoreboard that is told entries which it can't take. */
+static void scoreboards(void) {
+    sci_scoreboard board = SCI_INIT;
+    sci_stamped stamped = { 5, { 0, 0, 0, 7, 0, 0, 0, 0 } };
+    sci_verdict verdict = { 7, 7, 7, 7, 7 };
+    sci_entry told = { 0, 0, 0, 3, store, 0, 6 };
+    const sci_op load = { SCI_LOAD, 0, 3, 0, 0, 0 };
+    no_scoreboard(&board);
+    EXPECT(sci_scoreboard_open(&board, 0, 1), SCI_RANGE);
+    EXPECT(sci_scoreboard_open(&board, 17, 1), SCI_RANGE);
+    EXPECT(sci_scoreboard_open(&board, 2, 0), SCI_RANGE);
+    EXPECT(sci_scoreboard_open(&board, 2, 65), SCI_RANGE);
+    EXPECT(sci_scoreboard_open(&board, 2, 1), SCI_OK);
+    EXPECT(sci_scoreboard_open(&board, 2, 1), SCI_MISUSE);
+    no_logs(&board);
+    no_node(&board);
+    no_machine(&board);
+    EXPECT(sci_scoreboard_begin(&board, 1, &stamped), SCI_RANGE);
+    EXPECT(sci_scoreboard_begin(&board, 0, &stamped), SCI_OK);
+    stamped.version = 7;
+    EXPECT(sci_scoreboard_contents(&board, 1, &stamped), SCI_RANGE);
+    told.node = 2;
+    EXPECT(sci_scoreboard_tell(&board, &told, &verdict), SCI_RANGE);
+    told.node = 0;
+    told.has_word = 1;
+    EXPECT(sci_scoreboard_tell(&board, &told, &verdict), SCI_RANGE);
+    told.has_word = 0;
+    told.version = 7;
+    EXPECT(sci_scoreboard_tell(&board, &told, &verdict), SCI_NOT_ENABLED);
+    CHECK(stamped.version == 7 && verdict.kind == 7);
+    told.version = 5;
+    EXPECT(sci_scoreboard_tell(&board, &told, &verdict), SCI_OK);
+    CHECK(verdict.kind == SCI_VERSION_MISSING && verdict.has_entry == 1 && verdict.node == 0 && verdict.serial == 3);
+    told.version = 6;
+    EXPECT(sci_scoreboard_tell(&board, &told, &verdict), SCI_OK);
+    CHECK(verdict.kind == SCI_LAWFUL && verdict.has_entry == 0);
+    EXPECT(sci_scoreboard_tell(&board, &told, &verdict), SCI_OK);
+    CHECK(verdict.kind == SCI_VERSION_TWICE);
+    EXPECT(sci_scoreboard_contents(&board, 0, &stamped), SCI_OK);
+    CHECK(stamped.version == 6 && stamped.words[3] == 42);
+    told = (sci_entry){ 1, 1, 0, 0, load, 7, 5 };
+    EXPECT(sci_scoreboard_tell(&board, &told, &verdict), SCI_NOT_ENABLED);
+    told.version = 6;
+    EXPECT(sci_scoreboard_tell(&board, &told, &verdict), SCI_OK);
+    CHECK(verdict.kind == SCI_WRONG_REPLY && verdict.line == 0 && verdict.node == 1 && verdict.serial == 0);
+    told.word = 42;
+    EXPECT(sci_scoreboard_tell(&board, &told, &verdict), SCI_OK);
+    CHECK(verdict.kind == SCI_LAWFUL);
+    told.serial++;
+    told.version = 5;
+    EXPECT(sci_scoreboard_tell(&board, &told, &verdict), SCI_OK);
+    CHECK(verdict.kind == SCI_OUT_OF_ORDER && verdict.node == 1 && verdict.serial == 1);
+    EXPECT(sci_logs_close(as_logs(&board)), SCI_MISUSE);
+    EXPECT(sci_scoreboard_close(&board), SCI_OK);
+    CHECK(board.at == NULL);
+    EXPECT(sci_scoreboard_close(&board), SCI_OK);
+}
+
 static void nodes(void) {
     sci_node node = SCI_INIT, home = SCI_INIT;
     uint8_t packet[SCI_PACKET_BYTES], answer[SCI_PACKET_BYTES];
@@ -418,6 +510,7 @@ static void nodes(void) {
     EXPECT(sci_node_open(&home, 0, 2, 4, 2, 16), SCI_OK);
     no_machine(&node);
     no_logs(&node);
+    no_scoreboard(&node);
     wrong.act = 7;
     EXPECT(sci_node_issue(&node, &wrong, &serial), SCI_RANGE);
     wrong = store;
@@ -522,6 +615,8 @@ int main(void) {
     machines();
     logs();
     begun();
+    wanted();
+    scoreboards();
     nodes();
     return failed;
 }

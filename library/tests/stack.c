@@ -16,7 +16,8 @@ static ucontext_t here, there;
 /* What the calls are made with. */
 static sci_machine machine = SCI_INIT, copy = SCI_INIT, again = SCI_INIT;
 static sci_node node = SCI_INIT, home = SCI_INIT, other = SCI_INIT;
-static sci_logs logs = SCI_INIT, empty = SCI_INIT, read_again = SCI_INIT;
+static sci_logs logs = SCI_INIT, empty = SCI_INIT, read_again = SCI_INIT, wrong = SCI_INIT;
+static sci_scoreboard board = SCI_INIT;
 static const sci_op store = { SCI_STORE, 0, 3, 0, 0, 42 };
 static const sci_event events[] = {
     { SCI_ISSUE, 15, 0, 0, 0, { SCI_STORE, 0, 3, 0, 0, 42 } },
@@ -27,6 +28,8 @@ static const sci_event events[] = {
     { SCI_PERFORM, 15, 0, 0, 0, { 0, 0, 0, 0, 0, 0 } },
 };
 static sci_entry entry = { 0, 0, 0, 1, { SCI_STORE, 0, 3, 0, 0, 42 }, 0, 2 }, entries[64];
+static const sci_entry first = { 0, 0, 0, 0, { SCI_STORE, 0, 3, 0, 0, 42 }, 0, 1 };
+static const sci_entry bad = { 1, 1, 0, 0, { SCI_LOAD, 0, 3, 0, 0, 0 }, 7, 1 };
 static sci_packet packet, came[8], sent[8 + SCI_TURN_ROOM];
 static sci_held held;
 static sci_home home_state;
@@ -83,6 +86,16 @@ static sci_status status;
     CALL(sci_logs_order, &empty, &number, entries, 64, &used)                                                  \
     CALL(sci_logs_order_kind, &empty, &number)                                                                 \
     CALL(sci_logs_go_on, &empty)                                                                               \
+    CALL(sci_logs_open, &wrong, 16, 64)                                                                        \
+    CALL(sci_logs_push, &wrong, &first)                                                                        \
+    CALL(sci_logs_push, &wrong, &bad)                                                                          \
+    CALL(sci_logs_wanted, &wrong, &words[0], &number, &entry)                                                  \
+    CALL(sci_logs_close, &wrong)                                                                               \
+    CALL(sci_scoreboard_open, &board, 16, 64)                                                                  \
+    CALL(sci_scoreboard_tell, &board, &first, &verdict)                                                        \
+    CALL(sci_scoreboard_contents, &board, 0, &stamped)                                                         \
+    CALL(sci_scoreboard_begin, &board, 0, &stamped)                                                            \
+    CALL(sci_scoreboard_close, &board)                                                                         \
     CALL(sci_packet_encode, &packet, bytes, &length)                                                             \
     CALL(sci_packet_decode, bytes, length, &packet, &used)                                                     \
     CALL(sci_packet_to_words, &packet, words, &used)                                                           \
@@ -160,9 +173,10 @@ static size_t stated(const char *name) {
         const char *name;
         size_t kilobytes;
     } deep[] = {
-        { "sci_logs_explain", 32 },  { "sci_logs_read", 32 },      { "sci_machine_logs", 32 }, { "sci_machine_open", 24 },
+        { "sci_logs_explain", 48 },  { "sci_logs_read", 32 },      { "sci_machine_logs", 32 }, { "sci_machine_open", 24 },
         { "sci_machine_clone", 24 }, { "sci_machine_replay", 24 }, { "sci_node_open", 24 },    { "sci_node_clone", 24 },
         { "sci_logs_open", 24 },     { "sci_logs_audit", 20 },     { "sci_logs_order", 20 },   { "sci_logs_order_kind", 20 },
+        { "sci_logs_wanted", 48 },   { "sci_scoreboard_open", 24 },
     };
     for (size_t i = 0; i < sizeof deep / sizeof *deep; i++) {
         if (strcmp(name, deep[i].name) == 0) {

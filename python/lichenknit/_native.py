@@ -67,8 +67,12 @@ class sci_logs(Structure):
     _fields_ = [("at", c_void_p), ("live", c_uint32)]
 
 
+class sci_scoreboard(Structure):
+    _fields_ = [("at", c_void_p), ("live", c_uint32)]
+
+
 # A buffer of the caller's is a pointer and a length; bytes that are only read come as bytes.
-MACHINE, NODE, LOGS = POINTER(sci_machine), POINTER(sci_node), POINTER(sci_logs)
+MACHINE, NODE, LOGS, SCOREBOARD = POINTER(sci_machine), POINTER(sci_node), POINTER(sci_logs), POINTER(sci_scoreboard)
 U8, U32, U64, SIZE = POINTER(c_uint8), POINTER(c_uint32), POINTER(c_uint64), POINTER(c_size_t)
 PACKET_BYTES, PACKET_WORDS = c_uint8 * 88, c_uint64 * 11
 
@@ -144,10 +148,16 @@ FUNCTIONS = {
     "sci_logs_entry": (LOGS, c_uint8, c_size_t, POINTER(sci_entry)),
     "sci_logs_audit": (LOGS, POINTER(sci_verdict)),
     "sci_logs_explain": (LOGS, U8, c_size_t, SIZE),
+    "sci_logs_wanted": (LOGS, U64, U32, POINTER(sci_entry)),
     "sci_logs_order": (LOGS, U32, POINTER(sci_entry), c_size_t, SIZE),
     "sci_logs_order_kind": (LOGS, U32),
     "sci_logs_read": (LOGS, c_char_p, c_size_t, POINTER(sci_text_fault)),
     "sci_logs_write": (LOGS, U8, c_size_t, SIZE),
+    "sci_scoreboard_open": (SCOREBOARD, c_uint8, c_uint8),
+    "sci_scoreboard_close": (SCOREBOARD,),
+    "sci_scoreboard_begin": (SCOREBOARD, c_uint8, POINTER(sci_stamped)),
+    "sci_scoreboard_contents": (SCOREBOARD, c_uint8, POINTER(sci_stamped)),
+    "sci_scoreboard_tell": (SCOREBOARD, POINTER(sci_entry), POINTER(sci_verdict)),
 }
 ANSWERS = {"sci_layout": None, "sci_layout_more": None, "sci_status_text": c_char_p, **{it: c_char_p for it in FUNCTIONS if it.endswith("_name")}}
 LAYOUT = (sci_op, sci_event, sci_packet, sci_stamped, sci_entry, sci_verdict, sci_text_fault, sci_machine, sci_held, sci_home, sci_seen, sci_want,

@@ -1,4 +1,4 @@
-"""What the three kinds of objects have in common."""
+"""What the four kinds of objects have in common."""
 
 from __future__ import annotations
 

@@ -3,14 +3,14 @@
 from __future__ import annotations
 
 from collections.abc import Iterator, Sequence
-from ctypes import byref, c_size_t, c_uint8, c_uint32
+from ctypes import byref, c_size_t, c_uint8, c_uint32, c_uint64
 from typing import overload
 
 from . import _native
 from ._library import buffer, failed, raise_text_fault
 from ._owner import Owner
 from .numbers import MAX_NODES, OrderKind, Status
-from .values import Contents, Entry, Order, Verdict
+from .values import Contents, Entry, Order, Verdict, Wanted
 
 
 class Log(Sequence[Entry]):
@@ -153,6 +153,14 @@ class Logs(Owner):
         verdict = _native.sci_verdict()
         self._call("audit", verdict)
         return Verdict._of(verdict)
+
+    def wanted(self) -> Wanted | None:
+        """Where the verdict of `audit` is a wrong reply, the word that one memory has there, and the entry that made it; None where it is
+        another one."""
+        word, has_maker, maker = c_uint64(), c_uint32(), _native.sci_entry()
+        if not self._is_enabled("wanted", byref(word), byref(has_maker), maker):
+            return None
+        return Wanted(word.value, Entry._of(maker) if has_maker.value else None)
 
     def order(self) -> Order:
         """One order of all entries that keeps each node's log and that one memory explains, or a cycle that shows that none does."""

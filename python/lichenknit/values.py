@@ -320,6 +320,13 @@ class Verdict(NamedTuple):
         return cls(VerdictKind(it.kind), *(() if it.kind == VerdictKind.LAWFUL else (it.line, *entry)))
 
 
+class Wanted(NamedTuple):
+    """The word that one memory has where a reply is wrong, and the entry that made it. None: it is the zero that was there at first."""
+
+    word: int
+    maker: Entry | None
+
+
 class Order(NamedTuple):
     """What a look for one order finds: it is true if there is one. The entries are in that order, or in a cycle that shows that there is
     none: each would have to come after the next, and the last after the first."""

@@ -11,8 +11,8 @@ from copy import deepcopy
 
 import lichenknit
 from lichenknit import (Act, AskKind, BadPacket, BadText, BadTrace, Command, Contents, Dead, Decision, Entry, Event, Full, HomeState, Lane, Logs,
-                        Machine, Misuse, NoMemory, Node, NotEnabled, Obstacle, Op, OrderKind, OutOfRange, Packet, State, Status, TextKind, VerdictKind,
-                        WantKind, judge, packets, size_text)
+                        Machine, Misuse, NoMemory, Node, NotEnabled, Obstacle, Op, OrderKind, OutOfRange, Packet, Scoreboard, State, Status, TextKind,
+                        Verdict, VerdictKind, WantKind, judge, packets, size_text)
 
 LOG = "log 2 2 1\nlast 0 @1 7 0 0 0 0 0 0 0\n0 0 store 0 0 7 = - @1\n1 0 load 0 0 = 7 @1\n"
 EXAMPLES = os.path.join(os.path.dirname(os.path.abspath(__file__)), "..", "..", "examples")
@@ -341,6 +341,15 @@ class Log(unittest.TestCase):
         self.assertRaises(OutOfRange, copy.push, Entry(1, 2, Op.load(0, 0), None, 1))
         self.assertEqual(str(Logs.read(example("last-differs.log")).audit()), "last-differs line 0")
 
+    def test_the_word_that_a_wrong_reply_should_have_had(self):
+        logs = Logs.read(LOG.replace("= 7 @1", "= 8 @1"))
+        self.assertEqual(logs.audit(), Verdict(VerdictKind.WRONG_REPLY, 0, 1, 0))
+        self.assertEqual(logs.wanted(), (7, Entry(0, 0, Op.store(0, 0, 7), None, 1)))
+        self.assertEqual(Logs.read(LOG.replace("load 0 0", "load 0 1")).wanted(), (0, None))
+        self.assertIsNone(Logs.read(LOG).wanted())
+        logs.set_first(0, Contents(0, (0,) * 8))
+        self.assertRaises(OutOfRange, logs.wanted)
+
     def test_orders_and_cycles_are_found(self):
         order = Logs.read(LOG).order()
         self.assertTrue(order)
@@ -359,6 +368,27 @@ def load_tests(loader, tests, pattern):
 def pages():
     with open("/proc/self/statm", encoding="ascii") as file:
         return int(file.read().split()[1])
+
+
+class Scoreboards(unittest.TestCase):
+    def test_entries_are_judged_as_they_come(self):
+        with Scoreboard(nodes=2, lines=2) as board:
+            board.begin(1, Contents(5, (7, 0, 0, 0, 0, 0, 0, 0)))
+            store = Entry(0, 0, Op.store(1, 0, 8), None, 6)
+            load = Entry(1, 0, Op.load(1, 0), 8, 6)
+            self.assertIsNone(board.tell(load))
+            self.assertEqual(board.tell(store), Verdict(VerdictKind.LAWFUL))
+            self.assertEqual(board.contents(1), Contents(6, (8, 0, 0, 0, 0, 0, 0, 0)))
+            self.assertEqual(board.tell(load._replace(word=7)), Verdict(VerdictKind.WRONG_REPLY, 1, 1, 0))
+            self.assertEqual(board.tell(store._replace(node=1)), Verdict(VerdictKind.VERSION_TWICE, 1, 1, 0))
+            self.assertEqual(board.tell(store._replace(version=5)), Verdict(VerdictKind.VERSION_MISSING, 1, 0, 0))
+            self.assertTrue(board.tell(load))
+            self.assertEqual(board.tell(load), Verdict(VerdictKind.OUT_OF_ORDER, 1, 1, 0))
+            with self.assertRaises(OutOfRange):
+                board.tell(load._replace(node=2))
+            with self.assertRaises(OutOfRange):
+                board.contents(2)
+        self.assertRaises(Misuse, board.tell, load)
 
 
 class ManyCalls(unittest.TestCase):

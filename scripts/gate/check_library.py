@@ -77,7 +77,7 @@ def plain(kind):
     kind = re.sub(r"\bconst\b", "", kind).strip()
     kind = re.sub(r"\s*\*", " *", kind)
     kind = re.sub(r"SCI_\w+", lambda it: str(number_of(it[0])), kind)
-    return re.sub(r"^sci_(machine|node|logs) \*$", "object *", kind)
+    return re.sub(r"^sci_(machine|node|logs|scoreboard) \*$", "object *", kind)
 
 
 def check_signatures(tally):
@@ -87,7 +87,7 @@ def check_signatures(tally):
         result, kinds = of_header.get(name, ("", []))
         wrong = [plain(it) for it in kinds] != parameters or (result not in ("sci_status", "uint32_t")) == answers
         tally.count(name, wrong and f"{kinds} in the header, and {parameters} in the crate")
-        const = [it.startswith("const") for it in kinds if "sci_machine" in it or "sci_node" in it or "sci_logs" in it]
+        const = [it.startswith("const") for it in kinds if re.search("sci_(machine|node|logs|scoreboard)", it)]
         kept = "ensures kept {" in contract(name)
         tally.count(f"{name}: const", bool(const) and (const[0] != kept) and "the header's const is not what the contract keeps")
 
@@ -183,7 +183,7 @@ def check_programs(tally, cc, room):
     cxx = next((it for it in (os.environ.get("CXX"), "c++", "g++", "clang++") if it and shutil.which(it)), None)
     tally.run("the header as C11", [cc, *C, *flags, "-fsyntax-only", "-x", "c", HEADER])
     made = [(cc, C, f"library/tests/{name}.c", [memory] if name == "memory" else []) for name in TESTS]
-    made += [(cc, C, f"examples/c/{name}.c", []) for name in ("first", "two_nodes", "any_order", "lock_step", "turns", "record")]
+    made += [(cc, C, f"examples/c/{name}.c", []) for name in ("first", "two_nodes", "any_order", "lock_step", "turns", "record", "scoreboard")]
     if cxx:
         tally.run("the header as C++17", [cxx, *CXX, *flags, "-fsyntax-only", "-x", "c++", HEADER])
         made += [(cxx, CXX, f"examples/c/{name}.cpp", []) for name in ("two_nodes", "machine")]

@@ -13,7 +13,7 @@ from tally import Tally
 
 sys.path.insert(0, f"{TOP}/python")
 sys.dont_write_bytecode = True
-OBJECTS = ("sci_machine", "sci_node", "sci_logs")
+OBJECTS = ("sci_machine", "sci_node", "sci_logs", "sci_scoreboard")
 
 
 def compare(tally, where, of_header, found):

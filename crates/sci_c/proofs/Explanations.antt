@@ -3,7 +3,7 @@ use Rattle.std.proofs.Common.{◌≡◌, ◌≢◌, ℕ, List, refl, subst, sym}
 use Rattle.sci_words.specs.declared.stamped.Stamped.{Stamped}
 use Rattle.sci_history.specs.declared.entry.Entry.{Entry}
 use Rattle.sci_text.specs.declared.fault.{TextFault.{TextFault}, TextFaultKind.{TextFaultKind, TheVariants.{Syntax, Range, TooMany, Read, Write, Memory}}}
-use Rattle.sci_text.specs.{FirstFault.{HasNoFault, IsRefusal, IsRefusalOf}, Log.{log_text}, LogFault.{IsLogFault}, LogValue.{AreLogs, IsLogs}}
+use Rattle.sci_text.specs.{FirstFault.{HasNoFault, IsRefusal, IsRefusalOf}, LogFault.{IsLogFault}, LogValue.{AreLogs, IsLogs}}
 
 refused_at : (kind : TextFaultKind) (input : List ℕ) (line : ℕ) → IsRefusalOf IsLogFault kind input line → kind ≢ Memory → HasNoFault IsLogFault input → ⊥
 refused_at Syntax input line refused not none = none line Syntax refused
@@ -12,10 +12,6 @@ refused_at TooMany input line refused not none = none line TooMany refused
 refused_at Read input line refused not none = absurd refused
 refused_at Write input line refused not none = absurd refused
 refused_at Memory input line refused not none = not refl
-
-pub same_text : {nodes n : ℕ} {logs others : List (List Entry)} {last ends : List Stamped} → nodes ≡ n → logs ≡ others → last ≡ ends
-    → log_text nodes logs last ≡ log_text n others ends
-same_text p q r = cc
 
 same_logs : {nodes n : ℕ} {logs others : List (List Entry)} {last ends : List Stamped} → nodes ≡ n → logs ≡ others → last ≡ ends
     → AreLogs n others ends → AreLogs nodes logs last

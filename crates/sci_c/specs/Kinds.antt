@@ -2,9 +2,10 @@
 use Rattle.std.specs.Prelude.{◌≡◌, Option, Some, None}
 use Rattle.sci_core.specs.{Core.{Core}, Node.{NodeOf}}
 use Rattle.sci_c.specs.{Journal.{JournalOf}, declared.{controller.Controller.{Controller}, thing.Thing.{Thing}}}
-use Rattle.sci_c.specs.declared.thing.Thing.TheVariants.{Machine, Node, Logs}
+use Rattle.sci_windows.specs.Scoreboard.{Board}
+use Rattle.sci_c.specs.declared.thing.Thing.TheVariants.{Machine, Node, Logs, Scoreboard}
 
--- the machine, the node with its policy or the logs, if that is what it keeps
+-- the machine, the node with its policy, the logs or the scoreboard, if that is what it keeps
 abbrev pub machine_in : Option Thing → Option Core
 machine_in (Some (Machine machine)) = Some machine
 machine_in _ = None
@@ -16,6 +17,10 @@ node_in _ = None
 abbrev pub logs_in : Option Thing → Option JournalOf
 logs_in (Some (Logs journal)) = Some journal
 logs_in _ = None
+
+abbrev pub board_in : Option Thing → Option Board
+board_in (Some (Scoreboard board)) = Some board
+board_in _ = None
 
 -- it keeps a thing of a kind, of which this holds
 pub record On {A : Type 0} (kind : Option Thing → Option A) (value : Option Thing) (P : A → Type 0) : Type 0 where

@@ -17,6 +17,7 @@ pub mod Object
 pub mod Order
 pub mod Packet
 pub mod Replaying
+pub mod Scoreboard
 pub mod Seeing
 pub mod Starting
 pub mod Taking

@@ -1,4 +1,4 @@
-//! A machine, a node or logs behind a pointer that C keeps.
+//! A machine, a node, logs or a scoreboard behind a pointer that C keeps.
 
 ghost use Rattle.std.specs.Prelude.{◌≡◌, Option, Some, None};
 ghost use types.Logic.{sem};
@@ -9,6 +9,7 @@ use crate::journal::Journal;
 use crate::loose::{Loose, loosened};
 use crate::thing::Thing;
 use sci_core::Machine;
+use sci_windows::Scoreboard;
 use std::alloc::Global;
 use std::marker::Model;
 use std::ptr::null_mut;
@@ -19,7 +20,7 @@ pub struct SciOpaque {
     nothing: [u8; 0],
 }
 
-/// What C keeps of a machine, a node or logs. All zero, it is empty.
+/// What C keeps of a machine, a node, logs or a scoreboard. All zero, it is empty.
 #[repr(C)]
 pub struct SciObject {
     at: *mut SciOpaque,
@@ -37,8 +38,9 @@ impl SciObject {
     ghost use denote.RawPtr.{null_ptr};
     ghost use Rattle.std.specs.{Borrow.{Lends, LendsIf}, Prelude.{IsSome, MatchOption, option_map}};
     ghost use Rattle.sci_core.specs.contracts.machine.Machine.{the_row as machine_row};
+    ghost use Rattle.sci_windows.specs.contracts.scoreboard.Scoreboard.{the_row as board_row};
     ghost use Rattle.sci_c.specs.contracts.{controller.Controller.{the_row as node_row}, handle.SciObject.{the_row}, journal.Journal.{the_row as journal_row}, thing.Thing.{the_row as thing_row}};
-    ghost use Rattle.sci_c.specs.{Kinds.{logs_in, machine_in, node_in}, Lending.{LendsKept, with_thing}, Object.{live_of}};
+    ghost use Rattle.sci_c.specs.{Kinds.{board_in, logs_in, machine_in, node_in}, Lending.{LendsKept, with_thing}, Object.{live_of}};
     ghost use Rattle.sci_c.specs.declared.thing.Thing.TheVariants as thing;
 
     /// 1 if there is a thing, and else 0.
@@ -114,6 +116,17 @@ impl SciObject {
     {
         match self.thing()? {
             Thing::Logs(journal) => Some(journal),
+            _ => None,
+        }
+    }
+
+    /// The scoreboard, if it keeps one.
+    pub(crate) fn board(&mut self) -> Option<&mut Scoreboard>
+        ensures* writes_back { sem 𝓛 (LendsKept board_row thing.Scoreboard self.entry result) }
+        ensures value { board_in self.old.value ≡ option_map (λ board. board.now) result }
+    {
+        match self.thing()? {
+            Thing::Scoreboard(board) => Some(board),
             _ => None,
         }
     }

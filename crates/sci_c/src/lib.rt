@@ -1,4 +1,4 @@
-//! The C interface: packets, machines, nodes and logs for programs that are not written in Rattle.
+//! The C interface: packets, machines, nodes, logs and scoreboards for programs that are not written in Rattle.
 #![tactic(auto)]
 
 mod cloning;
@@ -19,6 +19,7 @@ mod ordering;
 mod packet;
 mod replaying;
 mod room;
+mod scoreboard;
 mod seeing;
 mod starting;
 mod taking;

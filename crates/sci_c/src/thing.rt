@@ -3,6 +3,7 @@
 use crate::controller::Controller;
 use crate::journal::Journal;
 use sci_core::Machine;
+use sci_windows::Scoreboard;
 
 /// What an object can keep.
 #[derive(Drop)]
@@ -10,4 +11,5 @@ pub enum Thing {
     Machine(Machine),
     Node(Controller),
     Logs(Journal),
+    Scoreboard(Scoreboard),
 }

@@ -5,3 +5,4 @@ mod Orders
 pub mod EntriesOn
 pub mod FoundEntries
 pub mod MadeWords
+mod Wants

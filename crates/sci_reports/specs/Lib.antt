@@ -13,3 +13,4 @@ pub mod NoteText
 pub mod Finding
 pub mod ExplainJson
 pub mod ReadLog
+pub mod Wanted

@@ -22,7 +22,7 @@ use std::alloc::{AllocError, Global};
 use std::io::Read;
 
 /// What a note of a line of memory is about, of a log with this many lines of text before its entries.
-fn subject_of<'a>(
+pub(crate) fn subject_of<'a>(
     alloc: Global,
     before: usize,
     logs: &'a Logs,

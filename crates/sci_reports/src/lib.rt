@@ -11,8 +11,10 @@ mod numbered;
 mod order_json;
 mod ordering;
 mod read_log;
+mod wanted;
 
 pub use checking::check;
 pub use explaining::explain;
 pub use ordering::{NodeOrder, OrderRequest, order};
 pub use read_log::ReadLog;
+pub use wanted::Wanted;

@@ -22,7 +22,7 @@ joined_on : (a b : List (List Entry)) (line node : ℕ) → node < MAX_NODES
 joined_on a b line node lt = ap (filter (is_on_line line)) (joined_at a b node lt) ∙ filter-append (is_on_line line) (log_of a node) (log_of b node)
 
 -- what holds of what is among some holds of each
-all_from_among : (P : Entry → Type 0) (es : List Entry) → ((e : Entry) → IsAmong e es → P e) → AllByRecursion P es
+pub all_from_among : (P : Entry → Type 0) (es : List Entry) → ((e : Entry) → IsAmong e es → P e) → AllByRecursion P es
 all_from_among P [] h = tt
 all_from_among P (e ∷ es) h = (h e (inl refl), all_from_among P es (λ x among. h x (inr among)))
 

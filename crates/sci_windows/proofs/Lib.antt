@@ -11,3 +11,5 @@ pub mod Turns
 pub mod Orders
 pub mod CyclesBack
 pub mod Founds
+pub mod Told
+pub mod Alarms

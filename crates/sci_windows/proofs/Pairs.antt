@@ -11,11 +11,11 @@ use Rattle.sci_windows.specs.Window.{counted_on}
 abbrev pub Rises : List Entry → Type 0
 Rises es = AllPairs (λ (x y : Entry). x.serial < y.serial) es
 
-rises_cons : (x : Entry) (xs : List Entry) → AllByRecursion (λ (y : Entry). x.serial < y.serial) xs → Rises xs → Rises (x ∷ xs)
+pub rises_cons : (x : Entry) (xs : List Entry) → AllByRecursion (λ (y : Entry). x.serial < y.serial) xs → Rises xs → Rises (x ∷ xs)
 rises_cons x xs above rest =
     AllPairs-cons (λ (x y : Entry). x.serial < y.serial) x xs (All-from_recursion (λ (y : Entry). x.serial < y.serial) xs above) rest
 
-no_rises : Rises []
+pub no_rises : Rises []
 no_rises i j d lt below = absurd (omega arith)
 
 -- a map of which each serial follows from the one before

@@ -1,4 +1,5 @@
 pub mod Fault
 pub mod Order
 pub mod Relative
+pub mod Scoreboard
 pub mod Window

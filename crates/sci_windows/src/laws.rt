@@ -1,9 +1,11 @@
 //! Laws of windows, each the contract of a function that does nothing.
 
-ghost use Rattle.std.specs.Prelude.{◌≡◌, ◌↔◌, ℕ, List, Option, length, replicate};
+ghost use Rattle.std.specs.Prelude.{◌≡◌, ◌↔◌, ◌<◌, ◌++◌, ◌∷◌, [], ℕ, List, Option, length, replicate};
 ghost use Rattle.sci_words.specs.{declared.{limits.TheConstants.{MAX_NODES}, stamped.Stamped.{Stamped}}, Stamped.{zero_stamped}};
 ghost use Rattle.sci_history.specs.{declared.{entry.Entry.{Entry}, verdict.FaultKind.{FaultKind}}, Audit.{IsLineFault}, Lawful.{Lawful}, Placed.{AreOwn}};
 ghost use Rattle.sci_windows.specs.{Fault.{IsLineFaultFrom}, Window.{AreIssuedBefore, LawfulFrom, counting_on, joined}};
+ghost use Rattle.sci_windows.specs.declared.line_so_far.LineSoFar.{LineSoFar};
+ghost use Rattle.sci_windows.specs.Scoreboard.{AreTaken, BeginWith, Breaks, begun_lines, contents_of, line_at, logs_told};
 
 /// Logs are lawful from zero words at version 0 exactly if they are lawful, and their faults are then those of an audit.
 pub fn windows_from_zeros()
@@ -25,4 +27,20 @@ pub fn windows_meet()
 pub fn windows_go_on()
     ensures { (counts : ℕ → ℕ) (logs : List (List Entry)) (first last : List Stamped) →
         LawfulFrom logs first last → LawfulFrom (counting_on counts logs) first last }
+{}
+
+/// The entries that a scoreboard took are logs that are lawful, from the contents with which its lines began to those that they
+/// have.
+pub fn what_is_taken_is_lawful()
+    ensures { (first : List Stamped) (told : List Entry) (lines : List LineSoFar) → AreTaken (begun_lines first) told lines →
+        LawfulFrom (logs_told told) first (contents_of lines) }
+{}
+
+/// A scoreboard gives no false alarm: after the entries that it took, no lawful logs have an entry that it says is at fault,
+/// whatever is in them after it, and whatever their last contents are.
+pub fn what_breaks_is_unlawful()
+    ensures { (first last : List Stamped) (told : List Entry) (lines : List LineSoFar) (entry : Entry) (kind : FaultKind)
+        (logs : List (List Entry)) → AreTaken (begun_lines first) told lines →
+        entry.node < MAX_NODES → Breaks (line_at lines entry.op.line) entry kind →
+        BeginWith (told ++ entry ∷ []) logs → LawfulFrom logs first last → ⊥ }
 {}

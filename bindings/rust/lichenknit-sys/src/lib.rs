@@ -173,6 +173,14 @@ pub struct sci_logs {
     pub live: u32,
 }
 
+/// A scoreboard, in the caller's memory.
+#[repr(C)]
+#[derive(Debug)]
+pub struct sci_scoreboard {
+    pub at: *mut c_void,
+    pub live: u32,
+}
+
 unsafe extern "C" {
     pub fn sci_version() -> u32;
     pub fn sci_layout(sizes: *mut [u64; 8]);
@@ -407,6 +415,12 @@ unsafe extern "C" {
         room: usize,
         used: *mut usize,
     ) -> sci_status;
+    pub fn sci_logs_wanted(
+        logs: *const sci_logs,
+        word: *mut u64,
+        has_maker: *mut u32,
+        maker: *mut sci_entry,
+    ) -> sci_status;
     pub fn sci_logs_order(
         logs: *const sci_logs,
         kind: *mut u32,
@@ -426,5 +440,23 @@ unsafe extern "C" {
         text: *mut u8,
         room: usize,
         used: *mut usize,
+    ) -> sci_status;
+    pub fn sci_scoreboard_open(scoreboard: *mut sci_scoreboard, nodes: u8, lines: u8)
+    -> sci_status;
+    pub fn sci_scoreboard_close(scoreboard: *mut sci_scoreboard) -> sci_status;
+    pub fn sci_scoreboard_begin(
+        scoreboard: *mut sci_scoreboard,
+        line: u8,
+        contents: *const sci_stamped,
+    ) -> sci_status;
+    pub fn sci_scoreboard_contents(
+        scoreboard: *const sci_scoreboard,
+        line: u8,
+        contents: *mut sci_stamped,
+    ) -> sci_status;
+    pub fn sci_scoreboard_tell(
+        scoreboard: *mut sci_scoreboard,
+        entry: *const sci_entry,
+        verdict: *mut sci_verdict,
     ) -> sci_status;
 }

@@ -21,6 +21,7 @@ mod logs;
 mod machine;
 mod node;
 mod packet;
+mod scoreboard;
 mod values;
 
 pub use error::{Error, Result, TextFault};
@@ -31,8 +32,10 @@ pub use logs::{Entries, Logs};
 pub use machine::{LanePackets, Machine};
 pub use node::Node;
 pub use packet::{Packet, PacketBytes, Packets};
+pub use scoreboard::Scoreboard;
 pub use values::{
     Act, Contents, Dead, Entry, Event, Held, Home, Op, Order, Seen, Size, Turn, Verdict, Want,
+    Wanted,
 };
 
 /// The version of the library: its first two numbers.

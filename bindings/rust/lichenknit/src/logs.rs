@@ -2,9 +2,9 @@ use std::str::FromStr;
 
 use lichenknit_sys as sys;
 
-use crate::calls::{checked, read, read_text, text_of, written};
+use crate::calls::{checked, found, read, read_text, text_of, written};
 use crate::error::{Error, Result};
-use crate::values::{Contents, Entry, Order, Verdict};
+use crate::values::{Contents, Entry, Order, Verdict, Wanted};
 
 /// The logs of all nodes, with the last contents of each line.
 #[derive(Debug)]
@@ -115,6 +115,17 @@ impl Logs {
     pub fn audit(&self) -> Result<Verdict> {
         let verdict = written(|verdict| unsafe { sys::sci_logs_audit(&self.raw, verdict) })?;
         Verdict::of(&verdict).ok_or(Error::OutOfRange)
+    }
+
+    /// Where the verdict of `audit` is a wrong reply, the word that one memory has there, and the entry that made it; None where it is
+    /// another one.
+    pub fn wanted(&self) -> Result<Option<Wanted>> {
+        let (mut has_maker, mut maker) = (0, sys::sci_entry::default());
+        let word = found(|word| unsafe {
+            sys::sci_logs_wanted(&self.raw, word, &mut has_maker, &mut maker)
+        })?;
+        let maker = (has_maker != 0).then(|| Entry::of(&maker));
+        Ok(word.map(|word| Wanted { word, maker }))
     }
 
     /// One order of all entries that keeps each node's log and that one memory explains, or a cycle that shows that none does.

@@ -344,6 +344,13 @@ impl fmt::Display for Verdict {
     }
 }
 
+/// The word that one memory has where a reply is wrong, and the entry that made it. None: it is the zero that was there at first.
+#[derive(Clone, Copy, Debug, PartialEq, Eq)]
+pub struct Wanted {
+    pub word: u64,
+    pub maker: Option<Entry>,
+}
+
 /// What a look for one order finds.
 #[derive(Clone, Debug, PartialEq, Eq)]
 pub enum Order {

@@ -1,6 +1,8 @@
 //! Logs of any machine: read, written, audited and put in order.
 
-use lichenknit::{Act, Contents, Entry, Error, Logs, Op, Order, TextFault, TextKind, VerdictKind};
+use lichenknit::{
+    Act, Contents, Entry, Error, Logs, Op, Order, TextFault, TextKind, VerdictKind, Wanted,
+};
 
 const LOG: &str =
     "log 2 2 1\nlast 0 @1 7 0 0 0 0 0 0 0\n0 0 store 0 0 7 = - @1\n1 0 load 0 0 = 7 @1\n";
@@ -47,6 +49,8 @@ fn entries_are_pushed_and_judged() {
         (VerdictKind::WrongReply, 0, Some((1, 0)))
     );
     assert_eq!(verdict.kind.to_string(), "wrong-reply");
+    assert_eq!(logs.wanted().unwrap(), Some(Wanted { word: 7, maker: Some(store) }));
+    assert_eq!(LOG.parse::<Logs>().unwrap().wanted(), Ok(None));
     assert_eq!(logs.order().unwrap(), Order::Unlawful);
     assert_eq!(logs.push(&Entry { word: Some(1), ..store }), Err(Error::OutOfRange));
     assert_eq!(logs.push(&Entry { node: 2, ..store }), Err(Error::OutOfRange));
