@@ -3,10 +3,14 @@ use Rattle.std.proofs.Common.{◌≡◌, ◌≤◌, ◌<◌, ℕ, zero, suc, ◌
 use Rattle.std.proofs.{Common.{append_assoc, add-one}, lemmas.List.{append-nil, Concat.{flat_map-append}}}
 use Rattle.std.proofs.lemmas.List.FromFn.{filter_of_map_range_with_len_more, get_or-map-range_with_len, length-map-range_with_len, map-range_with_len_more}
 use Rattle.std.proofs.lemmas.List.Elements.{All-append, All-filter}
-use Rattle.std.specs.{Prelude.{filter}, List.{flat_map, range_with_len}}
-use Rattle.sci_words.specs.declared.{limits.TheConstants.{WORDS_PER_LINE}, operation.Op.{Op}}
+use Rattle.std.proofs.{Math.Bool.{or-false}, lemmas.List.Folds.{list_any_more}}
+use Rattle.std.specs.Cmp.{unsigned_tied}
+use Rattle.std.specs.{Prelude.{filter, length, take, get_or, ◌==◌, ◌&&◌, ◌||◌, Bool}, List.{flat_map, range_with_len}, BTreeSet.{BTreeSet, contains}}
+use Rattle.std.specs.Ordering.{is_eq, nat_cmp, ordering_then}
+use Rattle.std.specs.declared.cmp.Ordering.{Ordering, TheVariants.{Less, Equal, Greater}}
+use Rattle.sci_words.specs.{Operation.{is_maker}, declared.{limits.TheConstants.{WORDS_PER_LINE}, operation.Op.{Op}}}
 use Rattle.sci_allowed.specs.declared.place.Place.{Place}
-use Rattle.sci_allowed.specs.Outcome.{IsPlaceWithin, is_written, written_on, written_places}
+use Rattle.sci_allowed.specs.Outcome.{IsPlaceWithin, IsWritten, is_written, may_write, place_cmp, written_on, written_places}
 
 map_same : {A : Type 0} (xs : List A) → map (λ x. x) xs ≡ xs
 map_same [] = refl
@@ -73,3 +77,47 @@ places_within operations (suc line) lines places le are =
     subst (All (IsPlaceWithin lines))
     (sym (are ∙ (ap (λ n. written_places n operations) (sym (add-one line)) ∙ sym (places_more operations line _ _ refl refl))))
     (All-append (IsPlaceWithin lines) _ _ before (line_within operations line lines (omega (arith, le))))
+
+-- ---- the set of written words
+
+eq_then : (a b : Ordering) → is_eq (ordering_then a b) ≡ (is_eq a && is_eq b)
+eq_then Less b = refl
+eq_then Equal b = refl
+eq_then Greater b = refl
+
+same_place : (a b : Place) → is_eq (place_cmp a b) ≡ ((a.line == b.line) && (a.word == b.word))
+same_place a b =
+    eq_then (nat_cmp a.line b.line) (nat_cmp a.word b.word)
+    ∙ (ap (λ p. p && is_eq (nat_cmp a.word b.word)) (unsigned_tied a.line b.line) ∙ ap (λ p. (a.line == b.line) && p) (unsigned_tied a.word b.word))
+
+or_from : (same there : Bool) → cond same true there ≡ (there || same)
+or_from true true = refl
+or_from true false = refl
+or_from false true = refl
+or_from false false = refl
+
+module _ (operations : List (ℕ × Op)) (i : ℕ) (d : ℕ × Op) (lt : i < length operations) (old : BTreeSet Place)
+    (so_far : IsWritten (take i operations) old) where
+  abbrev op : Op
+  op = (get_or operations i d).1
+
+  more : (place : Place) → (contains place_cmp old place || may_write place op) ≡ is_written (take (i + 1) operations) place
+  more place = ap (λ b. b || may_write place op) (so_far place) ∙ sym (list_any_more (λ p. may_write place p.1) operations i d lt)
+
+  -- the place of one more operation that writes is put into the set
+  pub one_put : (new : BTreeSet Place) → is_maker op ≡ true
+      → ((place : Place)
+      → contains place_cmp new place ≡ cond (is_eq (place_cmp (record { line = op.line; word = op.word }) place)) true (contains place_cmp old place))
+      → IsWritten (take (i + 1) operations) new
+  one_put new is puts = λ place.
+      let own : Place = record { line = op.line; word = op.word } in
+      puts place
+      ∙ (or_from (is_eq (place_cmp own place)) (contains place_cmp old place)
+      ∙ (ap (λ b. contains place_cmp old place || b) (same_place own place)
+      ∙ (ap (λ b. contains place_cmp old place || (b && ((op.line == place.line) && (op.word == place.word)))) (sym is) ∙ more place)))
+
+  -- one that doesn't write is passed over
+  pub one_passed : is_maker op ≡ false → IsWritten (take (i + 1) operations) old
+  one_passed isnt = λ place.
+      sym (or-false (contains place_cmp old place))
+      ∙ (ap (λ b. contains place_cmp old place || (b && ((op.line == place.line) && (op.word == place.word)))) (sym isnt) ∙ more place)

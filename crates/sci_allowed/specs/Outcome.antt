@@ -1,7 +1,7 @@
 -- The outcome of a run: what its operations replied, and the words that they left.
-use Rattle.std.specs.Prelude.{◌<◌, ℕ, ◌+◌, ◌*◌, ◌==◌, ◌&&◌, Bool, List, filter, length, map, Option, Some, None, slice_index_or}
+use Rattle.std.specs.Prelude.{◌≡◌, ◌<◌, ℕ, ◌+◌, ◌*◌, ◌==◌, ◌&&◌, Bool, List, filter, length, map, Option, Some, None, slice_index_or}
 use Rattle.std.specs.List.{filter_map, flat_map, list_any, range_with_len}
-use Rattle.std.specs.{Cmp.Lexicographic.{slice_cmp}, Ordering.{nat_cmp, ordering_then}, declared.cmp.Ordering.{Ordering}}
+use Rattle.std.specs.{BTreeSet.{BTreeSet, contains}, Cmp.Lexicographic.{slice_cmp}, Ordering.{nat_cmp, ordering_then}, declared.cmp.Ordering.{Ordering}}
 use Rattle.sci_words.specs.declared.{limits.TheConstants.{WORDS_PER_LINE}, operation.Op.{Op}}
 use Rattle.sci_words.specs.Operation.{is_maker}
 use Rattle.sci_orders.specs.Positions.{Operations, Position, answer_at, own_of}
@@ -25,6 +25,14 @@ written_on operations line = filter (is_written operations) (map (λ word. recor
 -- the words of this many lines that some of the operations may write, by line, then by place
 abbrev pub written_places : ℕ → List (ℕ × Op) → List Place
 written_places lines operations = flat_map (written_on operations) (range_with_len 0 lines)
+
+-- the order of words: by line, then by place
+abbrev pub place_cmp : Place → Place → Ordering
+place_cmp a b = ordering_then (nat_cmp a.line b.line) (nat_cmp a.word b.word)
+
+-- the set has the words that operations may write
+abbrev pub IsWritten : List (ℕ × Op) → BTreeSet Place → Type 0
+IsWritten operations set = (place : Place) → contains place_cmp set place ≡ is_written operations place
 
 -- the place is one of this many lines
 abbrev pub IsPlaceWithin : ℕ → Place → Type 0

@@ -1,7 +1,9 @@
 pub mod SightingCounts
 pub mod Histograms
+pub mod Joined
 pub mod Ranked
 pub mod Sightings
+pub mod Shares
 pub mod Ran
 pub mod TurnsAreQuiet
 pub mod NodeWorks

@@ -69,7 +69,8 @@ unfolding tally_at
 more_at p seen x zero none is =
     let first : position_or_len p (seen ++ x ∷ []) ≡ length seen = first_none p seen x none is in
     let any : list_any (λ s. p s && s.in_order) (seen ++ x ∷ []) ≡ x.in_order = any_more p seen x is ∙ ap (λ b. b || x.in_order) (any_none p seen none) in
-    rw (first, any) refl
+    let place : length seen + 0 ≡ length seen = omega arith in
+    rw (first, any) (ap (λ (k : ℕ). Some record { runs = 1; first = k; in_order = x.in_order }) place)
 more_at p seen x (suc n) some is =
     let first : position_or_len p (seen ++ x ∷ []) ≡ position_or_len p seen = first_some p seen x n some in
     let later : Some record { runs = suc (suc n); first = position_or_len p seen; in_order = list_any (λ s. p s && s.in_order) seen || x.in_order } ≡ tally_at p

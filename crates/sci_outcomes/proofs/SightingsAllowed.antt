@@ -1,5 +1,5 @@
 -- Each outcome that is seen is one that a run of the script can have.
-use Rattle.std.proofs.Common.{◌≡◌, ◌<◌, ◌≤◌, ℕ, Bool, true, List, [], ◌∷◌, length, All, refl, sym, ap, subst, ◌∙◌, arith}
+use Rattle.std.proofs.Common.{◌≡◌, ◌<◌, ◌≤◌, ◌+◌, ℕ, Bool, true, List, [], ◌∷◌, length, All, refl, sym, ap, subst, ◌∙◌, arith}
 use Rattle.std.proofs.lemmas.List.{Elements.{recursion_from_All}, Sums.{length-filter}}
 use Rattle.std.specs.{List.{AllByRecursion, filter}, Prelude.{Some}}
 use Rattle.sci_history.proofs.Order.{all-filter, all-passes}
@@ -40,7 +40,7 @@ module _ (script : ScriptValue) (good : IsScript script) (within : All (IsPlaceW
   row_allowed trials seen row runs is =
       let test = has_outcome row.outcome in
       let Allows = λ (s : Sighting). IsAllowed script (most_pending trials.issuing) (shown_of s.outcome) in
-      let all = recursion_from_All Allows seen (λ k d lt. sighting_allowed (turns_of_run trials.turns k) trials.issuing _ (runs.each k d lt)) in
+      let all = recursion_from_All Allows seen (λ k d lt. sighting_allowed (turns_of_run trials.turns (k + 0)) trials.issuing _ (runs.each k d lt)) in
       let many = length-filter test seen in
       let counted = is.runs in
       let some = is.some in

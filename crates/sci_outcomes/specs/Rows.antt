@@ -45,10 +45,14 @@ tally_by test seen =
     then None
     else Some record { runs = count_by test seen; first = position_or_len test seen; in_order = list_any (λ sighting. test sighting && sighting.in_order) seen }
 
+-- and those of a tally whose numbers begin at `ahead`
+abbrev pub joined : Option Tally → (ahead : ℕ) → Tally → Tally
+joined None ahead later = record { runs = later.runs; first = ahead + later.first; in_order = later.in_order }
+joined (Some tally) ahead later = record { runs = tally.runs + later.runs; first = tally.first; in_order = tally.in_order || later.in_order }
+
 -- and one more run, with this number
 abbrev pub with_run : Option Tally → ℕ → Bool → Tally
-with_run None number in_order = record { runs = 1; first = number; in_order = in_order }
-with_run (Some tally) number in_order = record { runs = tally.runs + 1; first = tally.first; in_order = tally.in_order || in_order }
+with_run before number in_order = joined before number record { runs = 1; first = 0; in_order = in_order }
 
 -- a histogram of what was seen
 pub record HasCounted (histogram : Histogram) (seen : List Sighting) : Type 0 where

@@ -1,5 +1,5 @@
 -- The outcomes of a script that is run many times.
-use Rattle.std.specs.Prelude.{◌≡◌, ℕ, ◌<◌, ◌+◌, ◌%◌, ◌^◌, ◌⊎◌, Bool, true, false, All, List, Some, length, slice_index_or}
+use Rattle.std.specs.Prelude.{◌≡◌, ℕ, ◌<◌, ◌+◌, ◌%◌, ◌^◌, ◌⊎◌, Bool, true, false, All, List, Some, length, slice_index_or, IfErr, IfOk, Result}
 use Rattle.sci_words.specs.declared.{event.Event.{Event}, limits.TheConstants.{MAX_TURNS}, stamped.Stamped.{Stamped}}
 use Rattle.sci_history.specs.{declared.entry.Entry.{Entry}, Lawful.{Lawful}}
 use Rattle.sci_history.specs.Sequential.{AreInProgramOrder, IsSequentiallyConsistent}
@@ -11,9 +11,10 @@ use Rattle.sci_runs.specs.{Played.{IsPlayed, IsTooLong}, Runs.{IsRunOf, last_beh
 use Rattle.sci_drive.specs.ScriptLogs.{HaveWholeLogsOf, size_for}
 use Rattle.sci_threads.specs.{Shares.{AreLedTo}, Slices.{AreDrivenOpenly}}
 use Rattle.sci_allowed.specs.{Outcome.{IsPlaceWithin, written_places}, declared.place.Place.{Place}}
-use Rattle.sci_outcomes.specs.declared.outcome.Sighting.{Sighting}
+use Rattle.sci_runs.specs.declared.fault.RunFault.{RunFault, TheVariants.{TooMany}}
+use Rattle.sci_outcomes.specs.declared.{histogram.Histogram.{Histogram}, outcome.Sighting.{Sighting}}
 use Rattle.sci_outcomes.specs.declared.trials.{Trials.{Trials}, Turns.{Turns, TheVariants.{Drawn, Threads}}}
-use Rattle.sci_outcomes.specs.Outcomes.{IsSeen}
+use Rattle.sci_outcomes.specs.{Outcomes.{IsSeen}, Rows.{HasCounted}}
 
 -- the places are those of the words that the script may write
 pub record AreWrittenBy (script : ScriptValue) (places : List Place) : Type 0 where
@@ -71,21 +72,39 @@ abbrev pub IsGivenUp : ScriptValue → Turns → Issuing → Type 0
 IsGivenUp script (Drawn seed) issuing = IsTooLong script issuing (Some seed) MAX_TURNS ⊎ IsUnfinished script issuing seed
 IsGivenUp script Threads issuing = IsCutShort script issuing
 
+-- one of the runs with a number below the end is
+abbrev pub OneIsGivenUpBelow : ScriptValue → Turns → Issuing → (end : ℕ) → Type 0
+OneIsGivenUpBelow script turns issuing end = (number : ℕ) × (number < end) × IsGivenUp script (turns_of_run turns number) issuing
+
 -- one of the runs is
 abbrev pub OneIsGivenUp : ScriptValue → Trials → Type 0
-OneIsGivenUp script trials = (number : ℕ) × (number < trials.runs) × IsGivenUp script (turns_of_run trials.turns number) trials.issuing
+OneIsGivenUp script trials = OneIsGivenUpBelow script trials.turns trials.issuing trials.runs
 
 -- what is seen of a run in such an order
 abbrev pub IsSightingOf : ScriptValue → Turns → Issuing → Sighting → Type 0
 IsSightingOf script (Drawn seed) issuing sighting = IsDrawnSighting script issuing seed sighting
 IsSightingOf script Threads issuing sighting = IsThreadSighting script issuing sighting
 
--- each is what is seen of the run with its number
-abbrev pub AreSightings : ScriptValue → Trials → List Sighting → Type 0
-AreSightings script trials seen =
-    (number : ℕ) (d : Sighting) → number < length seen → IsSightingOf script (turns_of_run trials.turns number) trials.issuing (slice_index_or seen number d)
+-- each is what is seen of the run with its number, from the start on
+abbrev pub AreSightings : ScriptValue → Turns → Issuing → (start : ℕ) → List Sighting → Type 0
+AreSightings script turns issuing start seen =
+    (number : ℕ) (d : Sighting) → number < length seen → IsSightingOf script (turns_of_run turns (number + start)) issuing (slice_index_or seen number d)
 
 -- what was seen of all runs of the script, in their order
 pub record AreSeenOf (script : ScriptValue) (trials : Trials) (seen : List Sighting) : Type 0 where
   pub many : length seen ≡ trials.runs
-  pub each : AreSightings script trials seen
+  pub each : AreSightings script trials.turns trials.issuing 0 seen
+
+-- ---- inside
+
+-- a histogram of what was seen of the runs from the start up to the end
+pub record IsCountOf (script : ScriptValue) (turns : Turns) (issuing : Issuing) (start end : ℕ) (histogram : Histogram) : Type 0 where
+  pub seen : List Sighting
+  pub many : length seen + start ≡ end
+  pub each : AreSightings script turns issuing start seen
+  pub counted : HasCounted histogram seen
+
+-- what counting these runs gives: a histogram of them, or that one of them is given up
+abbrev pub IsCount : ScriptValue → Turns → Issuing → (start end : ℕ) → Result Histogram RunFault → Type 0
+IsCount script turns issuing start end result =
+    IfOk result (IsCountOf script turns issuing start end) × IfErr result (λ fault. fault ≡ TooMany → OneIsGivenUpBelow script turns issuing end)

@@ -31,25 +31,26 @@ struct Tally {
 }
 
 impl Tally {
-    ghost use Rattle.std.specs.{Prelude.{◌≡◌, ◌<◌, IfSome}, Option.{option_copied}};
-    ghost use Rattle.sci_outcomes.specs.Rows.{with_run as with_run_of};
+    ghost use Rattle.std.specs.{Prelude.{◌≡◌, ◌<◌, ◌+◌, ◌^◌, IfSome}, Option.{option_copied}};
+    ghost use Rattle.sci_outcomes.specs.Rows.{joined as joined_of};
 
-    /// The runs that gave an outcome, if some did before, and one more with this number. Requires that there were fewer than
-    /// 2^64 - 1.
-    fn with_run(before: Option<&Tally>, number: u64, in_order: bool) -> Tally
-        requires { IfSome before (λ tally. tally.now.runs < u64.MAX) }
-        ensures { result ≡ with_run_of (option_copied before.entry) number in_order }
+    /// The runs that gave an outcome: those that did before, if some did, and those of a tally whose numbers begin at `ahead`.
+    /// Requires that neither how many they are nor the number of the first passes 2^64 - 1.
+    fn joined(before: Option<&Tally>, ahead: u64, later: Tally) -> Tally
+        requires first { ahead + later.first < 2 ^ 64 }
+        requires runs { IfSome before (λ tally. tally.now.runs + later.runs < 2 ^ 64) }
+        ensures { result ≡ joined_of (option_copied before.entry) ahead later }
     {
         match before {
             None => Tally {
-                runs: 1,
-                first: number,
-                in_order,
+                runs: later.runs,
+                first: ahead + later.first,
+                in_order: later.in_order,
             },
             Some(so_far) => Tally {
-                runs: so_far.runs + 1,
+                runs: so_far.runs + later.runs,
                 first: so_far.first,
-                in_order: so_far.in_order || in_order,
+                in_order: so_far.in_order || later.in_order,
             },
         }
     }
@@ -63,7 +64,7 @@ pub(crate) struct Histogram {
 }
 
 impl Histogram {
-    ghost use Rattle.std.specs.{Prelude.{◌≡◌, ◌<◌, ◌++◌, ◌∷◌, [], List, length, IfOk, OnOk}, List.{list_any}};
+    ghost use Rattle.std.specs.{Prelude.{◌≡◌, ◌<◌, ◌+◌, ◌^◌, ◌++◌, ◌∷◌, [], List, length, IfOk, OnOk}, List.{list_any}};
     ghost use Rattle.sci_outcomes.specs.{declared.outcome.Sighting.{Sighting}, Rows.{AreRowsOf, HasCounted, has_outcome, unseen_of}};
 
     /// No run was seen.
@@ -83,9 +84,31 @@ impl Histogram {
             HasCounted self.new (seen ++ sighting ∷ [])) }
     {
         let Sighting { outcome, in_order } = sighting;
-        let tally = Tally::with_run(self.tallies.get(&outcome), self.runs, in_order);
+        let one = Tally {
+            runs: 1,
+            first: 0,
+            in_order,
+        };
+        let tally = Tally::joined(self.tallies.get(&outcome), self.runs, one);
         self.tallies.insert(outcome, tally)?;
         self.runs += 1;
+        Ok(())
+    }
+
+    /// Counts the runs of another histogram behind those of this one. Requires that fewer than 2^64 were seen in all. Refused if
+    /// memory is.
+    pub(crate) fn absorb(&mut self, later: Histogram) -> Result<(), AllocError>
+        requires { (seen more : List Sighting) × HasCounted self.old seen × HasCounted later more
+            × (length seen + length more < 2 ^ 64) }
+        ensures { OnOk result ((seen more : List Sighting) → HasCounted self.old seen → HasCounted later more →
+            HasCounted self.new (seen ++ more)) }
+    {
+        let Histogram { tallies, runs } = later;
+        for (outcome, later_tally) in tallies {
+            let tally = Tally::joined(self.tallies.get(&outcome), self.runs, later_tally);
+            self.tallies.insert(outcome, tally)?;
+        }
+        self.runs += runs;
         Ok(())
     }
 

@@ -1,10 +1,10 @@
 //! A script that is run many times, and its outcomes.
 
-ghost use Rattle.std.specs.Prelude.{◌≡◌, List, IfErr, IfOk};
+ghost use Rattle.std.specs.{Prelude.{◌≡◌, ◌≤◌, List, IfErr, IfOk}, Thread.{IsSync}};
 ghost use Rattle.sci_runs.specs.declared.fault.RunFault.TheVariants.{TooMany};
 ghost use Rattle.sci_outcomes.specs.declared.trials.Turns.TheVariants.{Drawn, Threads};
 ghost use Rattle.sci_outcomes.specs.{Rows.{HasCounted}, declared.outcome.Sighting.{Sighting}};
-ghost use Rattle.sci_outcomes.specs.Trials.{AreSeenOf, AreWrittenBy, IsDrawnSighting, IsGivenUp, IsSightingOf, IsThreadSighting, OneIsGivenUp};
+ghost use Rattle.sci_outcomes.specs.Trials.{AreSeenOf, AreWrittenBy, IsCount, IsDrawnSighting, IsGivenUp, IsSightingOf, IsThreadSighting, OneIsGivenUp};
 
 use crate::histogram::Histogram;
 use crate::outcome::{Sighting, seen};
@@ -16,7 +16,7 @@ use sci_threads::{YieldingGate, run_to_machine};
 use sci_words::MAX_TURNS;
 use std::alloc::Global;
 use std::sync::atomic::AtomicU64;
-use std::thread::Threads;
+use std::thread::{Threads, available_parallelism, join};
 
 /// In which order the nodes of runs take turns.
 #[derive(Clone, Copy, Debug, PartialEq, Eq)]
@@ -27,6 +27,10 @@ pub enum Turns {
     /// As it comes: each node has a thread of its own.
     Threads,
 }
+
+/// How many operations all runs have at least if they are shared out among threads. With fewer, starting a thread takes longer
+/// than it saves.
+const SHARED_OPERATIONS: u64 = 4_096;
 
 /// How a script is run many times.
 #[derive(Clone, Copy)]
@@ -56,12 +60,52 @@ impl Turns {
     }
 }
 
-/// A script, the words that it may write, and when the operations of a node are submitted.
+/// A script, the words that it may write, and how it is run.
 #[derive(Clone, Copy)]
 struct Litmus<'a> {
     script: &'a Script,
     places: &'a [Place],
+    turns: Turns,
     issuing: Issuing,
+}
+
+/// Runs of a script, from one number up to another one, and how many threads make them at least.
+#[derive(Clone, Copy)]
+struct Share {
+    start: u64,
+    end: u64,
+    threads: usize,
+}
+
+impl Share {
+    ghost use Rattle.std.specs.Prelude.{◌≡◌, ◌≤◌, ◌<◌};
+
+    /// The first half of the runs, and the others, each with half of the threads. Requires two threads.
+    fn halves(self) -> (Share, Share)
+        requires rising { self.start ≤ self.end }
+        requires threads { 1 < self.threads }
+        ensures start { result.0.start ≡ self.start }
+        ensures middle { result.0.end ≡ result.1.start }
+        ensures end { result.1.end ≡ self.end }
+        ensures low { result.0.start ≤ result.0.end }
+        ensures high { result.1.start ≤ result.1.end }
+        ensures fewer { result.0.threads < self.threads }
+        ensures same { result.1.threads ≡ result.0.threads }
+    {
+        let middle = self.start + (self.end - self.start) / 2;
+        let threads = self.threads - self.threads / 2;
+        let low = Share {
+            start: self.start,
+            end: middle,
+            threads,
+        };
+        let high = Share {
+            start: middle,
+            end: self.end,
+            threads,
+        };
+        (low, high)
+    }
 }
 
 /// Runs a script in an order that is drawn from a seed, and gives what is seen of the run. Refused if memory is, and as too
@@ -130,9 +174,73 @@ fn one_run<R: Threads + Sync>(
     }
 }
 
+/// Counts the outcomes of runs one after another. Refused as `outcomes` is.
+fn counted_in_turn<R: Threads + Sync>(
+    rt: &R,
+    alloc: Global,
+    litmus: Litmus<'_>,
+    share: Share,
+) -> Result<Histogram, RunFault>
+    requires written { AreWrittenBy litmus.script.now litmus.places.now }
+    requires rising { share.start ≤ share.end }
+    ensures { IsCount litmus.entry.script.now litmus.entry.turns litmus.entry.issuing
+        share.start share.end result }
+{
+    let mut histogram = Histogram::new(alloc);
+    for number in share.start..share.end {
+        let sighting = one_run(rt, alloc, litmus, litmus.turns.of_run(number))?;
+        histogram.add(sighting)?;
+    }
+    Ok(histogram)
+}
+
+/// Counts the outcomes of runs, by as many threads as the share has at least. Refused as `outcomes` is.
+#[cycle(shares)]
+fn counted_by_threads<R: Threads + Sync>(
+    rt: &R,
+    alloc: Global,
+    litmus: Litmus<'_>,
+    share: Share,
+) -> Result<Histogram, RunFault>
+    requires written { AreWrittenBy litmus.script.now litmus.places.now }
+    requires rising { share.start ≤ share.end }
+    ensures { IsCount litmus.entry.script.now litmus.entry.turns litmus.entry.issuing
+        share.start share.end result }
+{
+    if share.threads < 2 {
+        return counted_in_turn(rt, alloc, litmus, share);
+    }
+    let (low, high) = share.halves();
+    let front = move || -> Result<Histogram, RunFault>
+        requires { IsSync R.row × AreWrittenBy litmus.script.now litmus.places.now × (low.start ≤ low.end) }
+        ensures { IsCount litmus.entry.script.now litmus.entry.turns litmus.entry.issuing low.start low.end result }
+    { counted_by_threads(rt, alloc, litmus, low) };
+    let back = move || -> Result<Histogram, RunFault>
+        requires { IsSync R.row × AreWrittenBy litmus.script.now litmus.places.now × (high.start ≤ high.end) }
+        ensures { IsCount litmus.entry.script.now litmus.entry.turns litmus.entry.issuing high.start high.end result }
+    { counted_by_threads(rt, alloc, litmus, high) };
+    let (first, second) = join(rt, front, back);
+    let mut histogram = first?;
+    histogram.absorb(second?)?;
+    Ok(histogram)
+}
+
+/// How many threads make these runs: one if each node has a thread of its own or there is little to do, and else one a processor.
+fn threads_for<R: Threads>(rt: &R, litmus: Litmus<'_>, runs: u64) -> usize {
+    let operations = runs.saturating_mul(litmus.script.operations().len() as u64);
+    match litmus.turns {
+        Turns::Drawn { .. } if operations >= SHARED_OPERATIONS => match available_parallelism(rt) {
+            Ok(processors) => processors.get(),
+            Err(_) => 1,
+        },
+        _ => 1,
+    }
+}
+
 /// Runs a script many times, and counts how often each outcome came. Each run is whole: each operation of the script has just
 /// one entry. The logs of each run are lawful. Refused if memory is, and as too many if a run isn't done after 1,000,000,000
 /// turns, by threads of one node and else of all together, or if a run in an order that is drawn has more than 500,000 events.
+/// Runs in drawn orders are shared out among the processors, and the histogram is that of one thread.
 pub(crate) fn counted<R: Threads + Sync>(
     rt: &R,
     alloc: Global,
@@ -147,12 +255,13 @@ pub(crate) fn counted<R: Threads + Sync>(
     let litmus = Litmus {
         script,
         places: &places,
+        turns: trials.turns,
         issuing: trials.issuing,
     };
-    let mut histogram = Histogram::new(alloc);
-    for number in 0..trials.runs {
-        let sighting = one_run(rt, alloc, litmus, trials.turns.of_run(number))?;
-        histogram.add(sighting)?;
-    }
-    Ok(histogram)
+    let share = Share {
+        start: 0,
+        end: trials.runs,
+        threads: threads_for(rt, litmus, trials.runs),
+    };
+    counted_by_threads(rt, alloc, litmus, share)
 }
