@@ -71,6 +71,8 @@ def loads_and_leaves(chance, node, lines):
     return operation(chance, chance.randrange(min(lines, 5)), 90)
 
 
+# Nodes and lines of small machines, in which a request that is late and a state that is short meet most often.
+SMALL = ((3, 1), (3, 2), (4, 1))
 SHAPES = (own_line, any_line, mostly_own, mostly_loads, few_lines, one_word, loads_and_leaves)
 
 
@@ -155,7 +157,8 @@ def drawn_fault(given, seed, in_order, pairs):
 
 def walk_fault(chance, pairs):
     """What was wrong with a schedule that is drawn from all enabled events, if something was. It goes where no policy does."""
-    words = [chance.randint(2, 8), chance.randint(1, 3), chance.randint(1, 2), 20000, chance.randrange(2**64)]
+    nodes, lines = chance.choice((*SMALL, (chance.randint(2, 8), chance.randint(1, 3))))
+    words = [nodes, lines, chance.randint(1, 2), 50000, chance.randrange(2**64)]
     status, schedule = ran(SCIVIEW, ["random", *map(str, words)], b"")
     if status != 0:
         return f"random: status {status}"
