@@ -26,7 +26,7 @@ use Rattle.sci_words.specs.declared.event.Event.TheVariants as event
 
 -- ---- turns ahead
 
--- a machine between turns, with steady turns ahead in which there are so many windows
+-- a machine between turns, with steady turns ahead in which there are this many windows
 pub record Ahead (count : ℕ) (w last : Working) : Type 0 where
   pub good : WorksByTurns w.core
   pub order : List ℕ
@@ -75,7 +75,7 @@ windows_on nodes (suc count) order rest windows = (
   windows_on nodes count windows.1 rest windows.4,
 )
 
--- a machine that 135 windows of steady turns have led here, and with so many ahead
+-- a machine that 135 windows of steady turns have led here, and with this many ahead
 pub record Amid (count : ℕ) (w last : Working) : Type 0 where
   pub first : Working
   pub good : WorksByTurns first.core

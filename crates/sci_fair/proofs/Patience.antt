@@ -176,7 +176,7 @@ abbrev pub pred : ℕ → ℕ
 pred zero = zero
 pred (suc k) = k
 
--- The line of node n has its mark; or it will never have it; or fewer than so many calls of the policy are left until it has it.
+-- The line of node n has its mark; or it will never have it; or fewer than this many calls of the policy are left until it has it.
 pub data Called (m : Marking) (n line k : ℕ) (p : PolicyOf) (x : Core) : Type 0 where
   Marked : has (m.marks p) line ≡ true → Called m n line k p x
   Gone : IsIn (gone m) n line x → Called m n line k p x

@@ -284,7 +284,7 @@ unfolding budget
 budget_is most zero = sym (zero-mul (suc most))
 budget_is most (suc left) = let rest = budget_is most left in let more = suc-mul left (suc most) in omega (arith, rest, more)
 
--- where all turns are steady in so many windows, nothing is pending
+-- where all turns are steady in this many windows, nothing is pending
 abbrev Stop : ℕ → Type 0
 Stop wide = (order : List ℕ) (first last : Working) → WorksByTurns first.core → AreSteadyTurns order first last → HasWindows first.core.size.nodes wide order
     → NothingPends first.core
@@ -385,7 +385,7 @@ module _ (wide : ℕ) (stops : Stop wide) {X : Type 0} (at : X → Working) (lef
             );
       }
 
-  -- here, where nothing changes in so many windows
+  -- here, where nothing changes in this many windows
   still_here : (size : Size) (order before after : List ℕ) (first mid last : X) → order ≡ before ++ after → WorksByTurns (at first).core
       → (at first).core.size ≡ size → AreTurns IsTurn before first mid → AreTurns IsTurn after mid last → HasWindows size.nodes wide before
       → AreSteadyTurns before (at first) (at mid) × (left mid ≡ left first) → Still at left IsTurn size.nodes wide order first last
@@ -448,7 +448,7 @@ module _ (wide : ℕ) (stops : Stop wide) {X : Type 0} (at : X → Working) (lef
             (still_by k size part.rest mid last going.good going.sized cut.2 (omega (arith, low, other, few)) part.later)
       ]
 
-  -- so many windows have such a stretch
+  -- this many windows have such a stretch
   pub has_still : (order : List ℕ) (first last : X) → WorksByTurns (at first).core → AreTurns IsTurn order first last
       → HasWindows (at first).core.size.nodes
       ((left first + 1) * (46 * (at first).core.size.lines * (at first).core.size.nodes + 1) * wide) order
@@ -476,7 +476,7 @@ counted_advances n zero a b good turn count = Tries turn (omega (arith, count))
 counted_advances n (suc performed) a b good turn count =
     let kept = later_kept (suc performed) n a.working b.working good turn in Changes kept.good kept.size (omega (arith, count))
 
--- in so many windows for each operation that is performed, and as many more, nothing was pending at some moment
+-- in this many windows for each operation that is performed, and as many more, nothing was pending at some moment
 pub rests_before_long : (order : List ℕ) (first last : Remaining) → WorksByTurns first.working.core → AreTurns IsCountedTurn order first last
     → HasWindows first.working.core.size.nodes
     ((first.performs + 1) * (46 * first.working.core.size.lines * first.working.core.size.nodes + 1) * 1253) order

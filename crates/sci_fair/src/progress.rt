@@ -26,7 +26,8 @@ pub fn steady_turns_find_nothing_pending()
 /// There is no livelock. Let nodes take whole turns, each by itself and when it can perform nothing, in any order and each as
 /// often as it likes; and let operations be issued and performed between them. Count windows, in each of which each node takes
 /// a turn. Between two Performs at most 46 turns for each line of each node change a rank, and while something is pending at
-/// most 1,253 windows pass until one does. So before so many windows nothing is pending at some moment.
+/// most 1,253 windows pass until one does. So within the windows that the clause counts there is a moment at which nothing is
+/// pending.
 pub fn operations_are_performed()
     ensures { (order : List ℕ) (first last : Remaining) → WorksByTurns first.working.core
         → AreTurns IsCountedTurn order first last

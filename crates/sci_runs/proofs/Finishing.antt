@@ -482,7 +482,7 @@ module _ (script : ScriptValue) (good : IsScript script) (limit : ℕ)
   still_awaits [] a b turns awaits = subst AwaitsEntries (sym turns) awaits
   still_awaits (i ∷ order) a b turns awaits = turns.1.awaits
 
-  -- among so many windows is a stretch in which nothing is left to do
+  -- among this many windows is a stretch in which nothing is left to do
   pub ends_before : (order : List ℕ) (first last : Moment) → Stands script limit first → WorksByTurns first.core → AreTurns Goes_on order first last
       → HasWindows script.nodes ((left first + 1) * (46 * script.lines * script.nodes + 1) * 1253) order → AwaitsEntries last → ⊥
   ends_before order first last stands works turns windows awaits =

@@ -15,6 +15,7 @@ use Rattle.sci_history.proofs.Consequences.{among_all, among_filter, among_whole
 use Rattle.sci_history.proofs.Histories.{Agrees, history-agrees, line_after-load, maker_of, makers-after, version-load, version-maker}
 use Rattle.sci_history.proofs.Histories.{versions-after, versions-within, words_at-start}
 use Rattle.sci_history.proofs.Placement.{pairs-head, pairs-tail}
+use Rattle.sci_history.proofs.Placings.{among_back, among_begins}
 use Rattle.sci_windows.specs.declared.line_so_far.{Latest.{Latest}, LineSoFar.{LineSoFar}}
 use Rattle.sci_windows.specs.Scoreboard.{AreTaken, BeginWith, Breaks, IsNext, IsRight, begun_lines, begun_with, contents_of, early_fault, is_before_first}
 use Rattle.sci_windows.specs.Scoreboard.{is_behind, is_made, line_at, logs_told}
@@ -76,18 +77,9 @@ versions_rise (e ∷ es) old new h =
       versions_rise es (after old e.op) new h.2,
     )
 
-among_left : (t : Entry) (xs ys : List Entry) → IsAmong t xs → IsAmong t (xs ++ ys)
-among_left t [] ys h = elim h [ ]
-among_left t (x ∷ xs) ys (inl same) = inl same
-among_left t (x ∷ xs) ys (inr h) = inr (among_left t xs ys h)
-
 only_one : (x y : Entry) → IsAmong x (y ∷ []) → x ≡ y
 only_one x y (inl same) = same
 only_one x y (inr h) = elim h [ ]
-
-among_end : (e : Entry) (xs : List Entry) → IsAmong e (xs ++ e ∷ [])
-among_end e [] = inl refl
-among_end e (x ∷ xs) = inr (among_end e xs)
 
 -- what is told of a node on a line, as the line's history in some logs has it
 record Stands (told : List Entry) (line node : ℕ) (entries : List Entry) : Type 0 where
@@ -115,7 +107,7 @@ told_among told line entries stand t known among =
     let s = stand t.node known in
     let mine : IsAmong t (filter of (filter (is_on_line line) told)) =
     among_filter of t (filter (is_on_line line) told) (eq-eqb t.node t.node refl) among in
-    among_whole of t entries (subst (IsAmong t) (sym s.are) (among_left t (filter of (filter (is_on_line line) told)) s.rest mine))
+    among_whole of t entries (subst (IsAmong t) (sym s.are) (among_begins t (filter of (filter (is_on_line line) told)) s.rest mine))
 
 -- ---- the words
 
@@ -189,7 +181,7 @@ entry_among : (first : List Stamped) (told : List Entry) (lines : List LineSoFar
     → IsAmong entry k.entries
 entry_among first told lines entry last k =
     told_among (told ++ entry ∷ []) entry.op.line k.entries k.each entry k.known
-    (subst (IsAmong entry) (sym (told_on told entry)) (among_end entry (filter (is_on_line entry.op.line) told)))
+    (subst (IsAmong entry) (sym (told_on told entry)) (among_back (filter (is_on_line entry.op.line) told) entry []))
 
 earlier_among : (first : List Stamped) (told : List Entry) (lines : List LineSoFar) (entry : Entry) (last : Stamped) → (k : Told first told lines entry last)
     → (t : Entry) → IsAmong t (filter (is_on_line entry.op.line) told) → IsAmong t k.entries
@@ -197,7 +189,7 @@ earlier_among first told lines entry last k t among =
     let known = among_all (λ e. e.node < MAX_NODES) t (filter (is_on_line entry.op.line) told)
     (all-filter (λ e. e.node < MAX_NODES) (is_on_line entry.op.line) told (nodes_told (begun_lines first) told lines k.taken)) among in
     told_among (told ++ entry ∷ []) entry.op.line k.entries k.each t known
-    (subst (IsAmong t) (sym (told_on told entry)) (among_left t (filter (is_on_line entry.op.line) told) (entry ∷ []) among))
+    (subst (IsAmong t) (sym (told_on told entry)) (among_begins t (filter (is_on_line entry.op.line) told) (entry ∷ []) among))
 
 not_before : (line : LineSoFar) (entry : Entry) (version : ℕ) → line.first ≡ version → version ≤ entry.version
     → (IsTrue (is_making entry) → version < entry.version) → is_before_first line entry ≡ true → ⊥

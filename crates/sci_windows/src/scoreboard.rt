@@ -31,8 +31,8 @@ impl Scoreboard {
     ghost use Rattle.sci_windows.specs.declared.score.Score.TheVariants.{Taken};
     ghost use Rattle.sci_windows.specs.Scoreboard.{IsScore, empty_board, line_of, with_begun, with_told};
 
-    /// Nothing was told yet, and each line has zero words at version 0. Refused if memory is. Requires 1 to 16 nodes and 1 to
-    /// 64 lines.
+    /// Nothing was told yet, and each line has zero words at version 0. Refused if memory is. Requires at most 16 nodes and at
+    /// most 64 lines.
     pub fn new(alloc: Global, nodes: u8, lines: u8) -> Result<Scoreboard, AllocError>
         requires nodes { nodes ≤ MAX_NODES }
         requires lines { lines ≤ MAX_LINES }
