@@ -23,6 +23,7 @@ pub enum Decision {
 pub struct Policy {
     draining: Lines,
     due: Lines,
+    used: Lines,
     patience: u8,
     turns: u8,
     served: Option<NodeId>,
@@ -53,8 +54,16 @@ impl Policy {
         }
         let want = self.wanted(node);
         match want {
-            Some(Want::Perform) => self.patience = 0,
+            Some(Want::Perform) => {
+                for line in node.busy.and(node.kinds.could_give_way).iter() {
+                    if matches!(node.held(line), Held::Head { .. }) && node.may_perform(line) {
+                        self.used.set(line, true);
+                    }
+                }
+                self.patience = 0;
+            }
             Some(Want::Ask(line, AskKind::Purge)) => self.draining.set(line, true),
+            Some(Want::Ask(line, AskKind::Mread | AskKind::Fread)) => self.used.set(line, false),
             _ => {}
         }
         want
@@ -99,7 +108,9 @@ impl Policy {
 
     fn refuses(&self, node: &Node, line: u8) -> bool {
         self.draining.and(node.kinds.drains).has(line)
-            || (matches!(node.held(line), Held::Head { .. }) && node.has_maker(line))
+            || (matches!(node.held(line), Held::Head { .. })
+                && node.has_maker(line)
+                && !self.used.has(line))
     }
 
     pub fn keeps(&self, node: &Node, request: &Packet) -> bool {

@@ -1,19 +1,22 @@
--- Between two Performs few steps change the rank of a line: each that does lowers the sum of all ranks, and no step raises it.
-use Rattle.std.proofs.Common.{◌≡◌, ◌≤◌, ◌<◌, ◌+◌, ◌*◌, ℕ, zero, suc, Bool, true, false, arith, List, [], ◌∷◌, Option, Some, None, Ok, refl, sym, ap, subst}
-use Rattle.std.proofs.Common.{◌∙◌, inl, inr}
+-- Between two Performs few steps change the rank of a line: each that does makes the machine worth less, and no step makes it worth more.
+use Rattle.std.proofs.Common.{◌≡◌, ◌≢◌, ◌≤◌, ◌<◌, ◌+◌, ◌*◌, ◌&&◌, if◌then◌else◌, ℕ, zero, suc, Bool, true, false, arith, rules, List, [], ◌∷◌}
+use Rattle.std.proofs.Common.{Option, Some, None, Ok, refl, sym, ap, subst, ◌∙◌, inl, inr}
 use Rattle.std.proofs.Math.Nat.{mul-suc}
-use Rattle.std.proofs.lemmas.Bool.{cases_eq, cases_lt}
-use Rattle.sci_words.specs.{declared.{event.Event.{TheVariants.{Issue}}, operation.Op.{Op}}, Operation.{is_maker}}
+use Rattle.std.proofs.lemmas.{Bool.{cases_Bool, cases_eq, cases_lt}, List.{get_or_past}}
+use Rattle.sci_words.specs.{declared.{event.Event.{Event, TheVariants.{Issue}}, operation.Op.{Op}}, Operation.{is_maker}}
 use Rattle.sci_cache.specs.{State.{CacheState}, Cache.{CacheOf, line_of}}
+use Rattle.sci_core.specs.declared.pending.Pending.{Pending}
 use Rattle.sci_core.specs.{Core.{Core, node_at, side, stepping}, Node.{NodeOf, may_issue, node_issuing, pending_on}}
 use Rattle.sci_core.specs.{Reached.{IsReached}, Size.{Size}}
 use Rattle.sci_core.proofs.{Basics.Options.{of_some}, History.Pendings.{issue_puts}, Settling.Drains.{some_node}}
 use Rattle.sci_core.proofs.WellFormed.WellFormedSteps.{reached_stepping, reached_well, size_either}
-use Rattle.sci_policy.specs.Lines.{state_on}
+use Rattle.sci_policy.specs.{Lines.{state_on}, Policy.{PolicyOf, has, next_policy, turned}}
 use Rattle.sci_turn.proofs.Working.{stepped}
-use Rattle.sci_fair.specs.{Changes.{AreSteps, HasChanged, IsStep, Issues, Turns, rank_at}, Rank.{rank, work_in, work_on}, Reads.{ReadsFit}}
-use Rattle.sci_fair.proofs.{RankTables.{issue_lowers, rank_within}, ReadCarries.{changed_by, issued_cache}, ReadSteps.{changed_out, work_reads}}
-use Rattle.sci_fair.proofs.WholeTurns.{turn_kept}
+use Rattle.sci_fair.specs.Rank.{CannotPerform, can_perform, counts_use, level, level_on, rank, work_in, work_on}
+use Rattle.sci_fair.specs.{Steady.{IsTurnAlone, Working, WorksByTurns, level_at}, Steps.{AreSteps, HasChanged, IsStep, Issues, Turns, most_changes}}
+use Rattle.sci_fair.proofs.{FirstWants.{performs_can}, RankTables.{issue_lowers, level_rank, level_within}, ReadCarries.{changed_by, issued_cache}}
+use Rattle.sci_fair.proofs.{ReadSteps.{changed_out}, SteadyTurns.{Turned, level_fewer, turned_alone}, Used.{next_marks}}
+use Rattle.sci_fair.proofs.{WholeTurns.{turned_level}, Works.{work_good}}
 
 -- ---- sums
 
@@ -51,126 +54,354 @@ sum_most f most (suc k) each =
     let more = mul-suc most k in
     omega (arith, rest, last, more)
 
--- the sum of all ranks
-abbrev pub node_total : Core → ℕ → ℕ → ℕ
-node_total core lines n = sum_to (rank_at core n) lines
+-- what is the same in the sum is the same in each part, if none is higher
+pub sum_same : (f g : ℕ → ℕ) (k i : ℕ) → ((j : ℕ) → j < k → f j ≤ g j) → sum_to f k ≡ sum_to g k → i < k → f i ≡ g i
+sum_same f g k i each same lt = elim (cases_lt (f i) (g i)) [
+  | inl less ↦ (let falls = sum_less f g k i each lt less in absurd (omega (arith, falls, same)))
+  | inr high ↦ (let low = each i lt in omega (arith, low, high))
+]
 
-abbrev pub total : Core → ℕ → ℕ → ℕ
-total core nodes lines = sum_to (node_total core lines) nodes
+-- ---- what a node's lines are worth
 
-pub total_within : (core : Core) (nodes lines : ℕ) → total core nodes lines ≤ 46 * lines * nodes
-total_within core nodes lines =
-    sum_most (node_total core lines) (46 * lines) nodes (λ n.
-    sum_most (rank_at core n) 46 lines (λ line. rank_within (work_on (node_at core n) line) (state_on (node_at core n) line)))
+-- whether what is pending on a line can be performed
+abbrev pub can_on : NodeOf → ℕ → Bool
+can_on node line = can_perform (work_on node line) (state_on node line)
 
--- ---- one step
+-- a line on which nothing can be performed may come to be used, once until something is
+abbrev pub reserve : Bool → ℕ
+reserve true = 0
+reserve false = 48
 
-record StepKept (old new : Core) : Type 0 where
-  reached : IsReached new
-  fit : ReadsFit new
+-- its level, and that
+abbrev pub line_worth : PolicyOf → NodeOf → ℕ → ℕ
+line_worth policy node line = level_on policy node line + reserve (can_on node line)
+
+abbrev pub node_worth : ℕ → PolicyOf → NodeOf → ℕ
+node_worth lines policy node = sum_to (line_worth policy node) lines
+
+abbrev pub worth_at : Working → ℕ → ℕ
+worth_at w n = node_worth w.core.size.lines (w.policies n) (node_at w.core n)
+
+-- what all nodes are worth
+abbrev pub worth : Working → ℕ
+worth w = sum_to (worth_at w) w.core.size.nodes
+
+reserve_within : (can : Bool) → reserve can ≤ 48
+reserve_within true = omega arith
+reserve_within false = omega arith
+
+pub worth_within : (w : Working) → worth w ≤ most_changes w.core.size
+worth_within w =
+    sum_most (worth_at w) (141 * w.core.size.lines) w.core.size.nodes (λ n.
+    sum_most (line_worth (w.policies n) (node_at w.core n)) 141 w.core.size.lines (λ line. (
+    let node = node_at w.core n in
+    let levels = level_within (has (w.policies n).used line) (work_on node line) (state_on node line) in
+    let more = reserve_within (can_on node line) in
+    omega (arith, levels, more)
+    )))
+
+-- ---- one line of a node that can perform nothing
+
+-- it is worth no more, and if it is worth as much it has the same level
+pub record LineKept (p q : PolicyOf) (node next : NodeOf) (line : ℕ) : Type 0 where
+  pub low : line_worth q next line ≤ line_worth p node line
+  pub same : line_worth q next line ≡ line_worth p node line → level_on q next line ≡ level_on p node line
+
+pub kept_lower : (p q : PolicyOf) (node next : NodeOf) (line : ℕ) → CannotPerform node → level_on q next line ≤ level_on p node line
+    → LineKept p q node next line
+kept_lower p q node next line cannot lower =
+    let full : reserve (can_on node line) ≡ 48 = ap reserve (cannot line) in
+    let most = reserve_within (can_on next line) in
+    record { low = omega (arith, lower, full, most); same = λ same. omega (arith, lower, full, most, same) }
+
+-- it may be used anew, but then it is ready
+pub kept_ready : (p q : PolicyOf) (node next : NodeOf) (line : ℕ) → CannotPerform node → can_on next line ≡ true
+    → level_on q next line ≤ level_on p node line + 47 → LineKept p q node next line
+kept_ready p q node next line cannot can lower =
+    let full : reserve (can_on node line) ≡ 48 = ap reserve (cannot line) in
+    let gone : reserve (can_on next line) ≡ 0 = ap reserve can in
+    record { low = omega (arith, lower, full, gone); same = λ same. absurd (omega (arith, lower, full, gone, same)) }
+
+-- ---- an Issue
+
+-- what an Issue leaves of its node
+record Issued (old new : Core) (n : ℕ) (op : Op) : Type 0 where
+  some : n < old.size.nodes
+  others : (m : ℕ) → m ≢ n → node_at new m ≡ node_at old m
+  state : (line : ℕ) → state_on (node_at new n) line ≡ state_on (node_at old n) line
+  was : work_on (node_at old n) op.line ≡ None
+  now : work_on (node_at new n) op.line ≡ Some (is_maker op)
+  work : (line : ℕ) → line ≢ op.line → work_on (node_at new n) line ≡ work_on (node_at old n) line
+  inside : op.line < old.size.lines
   size : new.size ≡ old.size
-  lower : (n line : ℕ) → rank_at new n line ≤ rank_at old n line
 
-issue_rank : (work : Option Bool) (maker : Bool) (state : CacheState) → work ≡ None → rank (Some maker) state ≤ rank work state
-issue_rank work maker state none =
-    let less = issue_lowers maker state in
-    subst (λ (w : Option Bool). rank (Some maker) state ≤ rank w state) (sym none) (omega (arith, less))
+pub size_of_step : (core new : Core) (e : Event) → IsReached core → stepping core e ≡ Some new → new.size ≡ core.size
+size_of_step core new e reached steps = size_either {T = ℕ} {E = ℕ} (Ok 0) core new e reached steps (λ refused. (let clash : false ≡ true = refused in cc))
 
--- what an Issue does to a line's rank
-pub issued_rank : (old new : Core) (n : ℕ) (op : Op) → IsReached old → n < old.size.nodes → stepping old (Issue n op) ≡ Some new → (m line : ℕ)
-    → rank_at new m line ≤ rank_at old m line
-issued_rank old new n op reached some steps m line =
+pub pending_inside : (core : Core) (n line : ℕ) (p : Pending) → IsReached core → n < core.size.nodes → pending_on (node_at core n) line ≡ Some p
+    → line < core.size.lines
+pending_inside core n line p reached some is = elim (cases_lt line core.size.lines) [
+  | inl inside ↦ inside
+  | inr past ↦
+      let part = (reached_well core reached).each_part n some in
+      let long = part.fits.pending in
+      let all = part.each in
+      let none : pending_on (node_at core n) line ≡ None = get_or_past (node_at core n).pending line None (omega (arith, past, long, all)) in
+      let clash : None ≡ Some p = sym none ∙ is in
+      cc
+]
+
+issued : (old new : Core) (n : ℕ) (op : Op) → IsReached old → stepping old (Issue n op) ≡ Some new → Issued old new n op
+issued old new n op reached steps =
+    let some = some_node old new (Issue n op) steps in
     let node = node_at old n in
     let out = changed_out old new n (node_issuing node op) (stepped old new n (Issue n op) (side node (Issue n op)) some refl refl steps) in
     let changed = changed_by old new n out.0 reached some (λ k. ap (λ (c : Core). node_at c k) (sym out.2)) in
-    let fits = ((reached_well old reached).each_part n some).fits in
-    let issued = issue_puts node out.0 op fits out.1 in
-    let cache = of_some (λ (part : NodeOf). part.cache ≡ node.cache) (node_issuing node op) out.0 out.1 (issued_cache (may_issue node op) node op) in
-    let state : state_on out.0 line ≡ state_on node line = ap (λ (c : CacheOf). (line_of c line).state) cache in
-    elim (cases_eq m n) [
-      | inl same ↦
-          let there : rank (work_on out.0 line) (state_on out.0 line) ≤ rank (work_on node line) (state_on node line) =
-          elim (cases_eq line op.line) [
-            | inl here ↦
-                let none : work_on node line ≡ None = ap work_in (ap (pending_on node) here ∙ issued.free) in
-                let now : work_on out.0 line ≡ Some (is_maker op) = ap work_in (ap (pending_on out.0) here ∙ issued.pending) in
-                subst (λ (w : Option Bool). rank w (state_on out.0 line) ≤ rank (work_on node line) (state_on node line)) (sym now)
-                (subst (λ (s : CacheState). rank (Some (is_maker op)) s ≤ rank (work_on node line) (state_on node line)) (sym state)
-                (issue_rank (work_on node line) (is_maker op) (state_on node line) none))
-            | inr other ↦
-                let now : work_on out.0 line ≡ work_on node line = ap work_in (issued.others line other) in
-                subst (λ (w : Option Bool). rank w (state_on out.0 line) ≤ rank (work_on node line) (state_on node line)) (sym now)
-                (subst (λ (s : CacheState). rank (work_on node line) s ≤ rank (work_on node line) (state_on node line)) (sym state) (omega arith))
-          ] in
-          subst (λ (k : ℕ). rank_at new k line ≤ rank_at old k line) (sym same)
-          (subst (λ (part : NodeOf). rank (work_on part line) (state_on part line) ≤ rank_at old n line) (sym changed.own) there)
-      | inr other ↦
-          subst (λ (part : NodeOf). rank (work_on part line) (state_on part line) ≤ rank_at old m line) (sym (changed.others m other)) (omega arith)
+    let puts = issue_puts node out.0 op ((reached_well old reached).each_part n some).fits out.1 in
+    let cache = of_some (λ (m : NodeOf). m.cache ≡ node.cache) (node_issuing node op) out.0 out.1 (issued_cache (may_issue node op) node op) in
+    let size = size_of_step old new (Issue n op) reached steps in
+    let pends = ap (λ (m : NodeOf). pending_on m op.line) changed.own ∙ puts.pending in
+    record {
+      some = some;
+      others = changed.others;
+      state = λ line. ap (λ (m : NodeOf). state_on m line) changed.own ∙ ap (λ (c : CacheOf). (line_of c line).state) cache;
+      was = ap work_in puts.free;
+      now = ap work_in pends;
+      work = λ line other. ap work_in (ap (λ (m : NodeOf). pending_on m line) changed.own ∙ puts.others line other);
+      inside = subst (λ (z : Size). op.line < z.lines) size
+          (pending_inside new n op.line _ (reached_stepping old new (Issue n op) reached steps) (subst (λ (z : Size). n < z.nodes) (sym size) some) pends);
+      size = size;
+    }
+
+-- what is nothing can't be performed, so no more is kept in reserve
+issued_reserve : (old new : Core) (n : ℕ) (op : Op) → Issued old new n op → (line : ℕ)
+    → reserve (can_on (node_at new n) line) ≤ reserve (can_on (node_at old n) line)
+issued_reserve old new n op is line = elim (cases_eq line op.line) [
+  | inl here ↦
+      let none : can_on (node_at old n) line ≡ false =
+      subst (λ (l : ℕ). can_on (node_at old n) l ≡ false) (sym here)
+      (nothing_can (work_on (node_at old n) op.line) (state_on (node_at old n) op.line) is.was) in
+      let full = ap reserve none in
+      let most = reserve_within (can_on (node_at new n) line) in
+      omega (arith, full, most)
+  | inr other ↦
+      let same : can_on (node_at new n) line ≡ can_on (node_at old n) line =
+      ap (λ (w : Option Bool). can_perform w (state_on (node_at new n) line)) (is.work line other)
+      ∙ ap (can_perform (work_on (node_at old n) line)) (is.state line) in
+      let is_same = ap reserve same in
+      omega (arith, is_same)
+]
+  where
+    none_can : (s : CacheState) → can_perform None s ≡ false
+    none_can s = search rules
+
+    nothing_can : (work : Option Bool) (s : CacheState) → work ≡ None → can_perform work s ≡ false
+    nothing_can work s none = ap (λ (w : Option Bool). can_perform w s) none ∙ none_can s
+
+issued_level : (old new : Core) (n : ℕ) (op : Op) (policy : PolicyOf) → Issued old new n op → (line : ℕ) → line ≢ op.line
+    → level_on policy (node_at new n) line ≡ level_on policy (node_at old n) line
+issued_level old new n op policy is line other =
+    ap (λ (w : Option Bool). level (has policy.used line) w (state_on (node_at new n) line)) (is.work line other)
+    ∙ ap (level (has policy.used line) (work_on (node_at old n) line)) (is.state line)
+
+issued_falls : (old new : Core) (n : ℕ) (op : Op) (policy : PolicyOf) → Issued old new n op
+    → level_on policy (node_at new n) op.line < level_on policy (node_at old n) op.line
+issued_falls old new n op policy is =
+    let used = has policy.used op.line in
+    let s = state_on (node_at old n) op.line in
+    let now : level_on policy (node_at new n) op.line ≡ level used (Some (is_maker op)) s =
+    ap (λ (w : Option Bool). level used w (state_on (node_at new n) op.line)) is.now ∙ ap (level used (Some (is_maker op))) (is.state op.line) in
+    let was : level_on policy (node_at old n) op.line ≡ level used None s = ap (λ (w : Option Bool). level used w s) is.was in
+    let less = level_less (counts_use s && used) (rank (Some (is_maker op)) s) (rank None s) (issue_lowers (is_maker op) s) in
+    omega (arith, now, was, less)
+  where
+    level_less : (b : Bool) (m n : ℕ) → m < n → (if b then 47 else 0) + m < (if b then 47 else 0) + n
+    level_less true m n lt = omega (arith, lt)
+    level_less false m n lt = omega (arith, lt)
+
+-- an Issue makes the machine worth less
+pub issue_falls : (old new : Working) (n : ℕ) (op : Op) → IsReached old.core → stepping old.core (Issue n op) ≡ Some new.core → new.policies ≡ old.policies
+    → worth new < worth old
+issue_falls old new n op reached steps policies =
+    let is = issued old.core new.core n op reached steps in
+    let lines = old.core.size.lines in
+    let p = old.policies n in
+    let node = node_at old.core n in
+    let next = node_at new.core n in
+    let falls = issued_falls old.core new.core n op p is in
+    let each : (l : ℕ) → l < lines → line_worth p next l ≤ line_worth p node l =
+    λ l _. (
+    let more = issued_reserve old.core new.core n op is l in
+    elim (cases_eq l op.line) [
+      | inl here ↦
+          let low : level_on p next l ≤ level_on p node l =
+          subst (λ (k : ℕ). level_on p next k ≤ level_on p node k) (sym here) (omega (arith, falls)) in
+          omega (arith, more, low)
+      | inr other ↦ (let same = issued_level old.core new.core n op p is l other in omega (arith, more, same))
     ]
+    ) in
+    let more = issued_reserve old.core new.core n op is op.line in
+    let levels = sum_less (line_worth p next) (line_worth p node) lines op.line each is.inside (omega (arith, falls, more)) in
+    worth_less old new n is.size is.some policies is.others levels
+  where
+    at_lines : (old new : Working) (m : ℕ) → new.core.size ≡ old.core.size → new.policies ≡ old.policies
+        → worth_at new m ≡ node_worth old.core.size.lines (old.policies m) (node_at new.core m)
+    at_lines old new m size policies =
+        ap (λ (z : Size). node_worth z.lines (new.policies m) (node_at new.core m)) size
+        ∙ ap (λ (ps : ℕ → PolicyOf). node_worth old.core.size.lines (ps m) (node_at new.core m)) policies
 
-step_kept : (old new : Core) → IsReached old → ReadsFit old → IsStep old new → StepKept old new
-step_kept old new reached fit (Issues n op steps) =
-    let some : n < old.size.nodes = some_node old new (Issue n op) steps in
-    record {
-      reached = reached_stepping old new (Issue n op) reached steps;
-      fit = work_reads old new (Issue n op) reached fit tt steps;
-      size = size_either {T = ℕ} {E = ℕ} (Ok 0) old new (Issue n op) reached steps (λ refused. (let clash : false ≡ true = refused in cc));
-      lower = issued_rank old new n op reached some steps;
-    }
-step_kept old new reached fit (Turns n before after events some cannot own leads) =
-    let kept = turn_kept n old new before after events reached fit some cannot own leads in
-    record {
-      reached = kept.reached;
-      fit = kept.fit;
-      size = kept.size;
-      lower = λ m line.
-          subst (λ (w : Option Bool). rank w (state_on (node_at new m) line) ≤ rank_at old m line) (sym (ap work_in (kept.work m line))) (kept.lower m line);
-    }
+    worth_less : (old new : Working) (n : ℕ) → new.core.size ≡ old.core.size → n < old.core.size.nodes → new.policies ≡ old.policies
+        → ((m : ℕ) → m ≢ n → node_at new.core m ≡ node_at old.core m)
+        → node_worth old.core.size.lines (old.policies n) (node_at new.core n) < worth_at old n → worth new < worth old
+    worth_less old new n size some policies others less =
+        let own = at_lines old new n size policies in
+        let all : worth new ≡ sum_to (worth_at new) old.core.size.nodes = ap (λ (z : Size). sum_to (worth_at new) z.nodes) size in
+        let sums = sum_less (worth_at new) (worth_at old) old.core.size.nodes n (λ m _. elim (cases_eq m n) [
+          | inl here ↦ (let low : worth_at new m ≤ worth_at old m =
+              subst (λ (k : ℕ). worth_at new k ≤ worth_at old k) (sym here) (omega (arith, own, less)) in low)
+          | inr other ↦
+              let mine = at_lines old new m size policies in
+              let same = ap (node_worth old.core.size.lines (old.policies m)) (others m other) in
+              omega (arith, mine, same)
+        ]) some (omega (arith, own, less)) in
+        omega (arith, all, sums)
 
--- the sum never rises, and falls with each change
-total_kept : (old new : Core) (nodes lines : ℕ) → StepKept old new → total new nodes lines ≤ total old nodes lines
-total_kept old new nodes lines kept =
-    sum_least (node_total new lines) (node_total old lines) nodes (λ n _. sum_least (rank_at new n) (rank_at old n) lines (λ line _. kept.lower n line))
+-- ---- a turn
 
-total_falls : (old new : Core) → StepKept old new → HasChanged old new → total new old.size.nodes old.size.lines < total old old.size.nodes old.size.lines
-total_falls old new kept changed =
-    let nodes = old.size.nodes in
-    let lines = old.size.lines in
-    let low = kept.lower changed.node changed.line in
-    let other = changed.other in
-    let falls : rank_at new changed.node changed.line < rank_at old changed.node changed.line = elim
-    (cases_lt (rank_at new changed.node changed.line) (rank_at old changed.node changed.line)) [
-      | inl lt ↦ lt
-      | inr le ↦ absurd (other (omega (arith, low, le)))
+-- what a whole turn of a node that can perform nothing leaves of its lines
+pub turn_line : (n : ℕ) (old new : Working) → CannotPerform (node_at old.core n) → IsTurnAlone n old new → Turned n old new → (line : ℕ)
+    → LineKept (old.policies n) (new.policies n) (node_at old.core n) (node_at new.core n) line
+turn_line n old new cannot turn is line =
+    let p3 = is.trace.p3 in
+    let node = node_at old.core n in
+    let last = node_at new.core n in
+    let p = old.policies n in
+    let same = turned_level n (turned p) p3 old.core new.core line is.ended in
+    let low = is.ended.lower line in
+    elim is.trace.last [
+      | inl ends ↦ kept_lower p (new.policies n) node last line cannot
+          (let as_is = ap (λ (q : PolicyOf). level_on q last line) ends in omega (arith, same, low, as_is))
+      | inr ends ↦
+          subst (λ (q : PolicyOf). LineKept p q node last line) (sym ends) (elim (cases_Bool (has (next_policy p3 last).used line)) [
+            | inr none ↦ kept_lower p (next_policy p3 last) node last line cannot
+                (let less = fewer_level p3 (next_policy p3 last) last (λ used. (let clash : false ≡ true = sym none ∙ used in cc)) in
+                omega (arith, same, low, less))
+            | inl used ↦ elim (next_marks p3 last line used) [
+              | inl was ↦ kept_lower p (next_policy p3 last) node last line cannot
+                  (let less = fewer_level p3 (next_policy p3 last) last (λ _. was) in omega (arith, same, low, less))
+              | inr ready ↦
+                  let some : n < new.core.size.nodes = subst (λ (z : Size). n < z.nodes) (sym is.ended.size) turn.some in
+                  let can = performs_can n last line (record { core = new.core; reached = is.ended.reached; some = some; here = refl }) ready.1 in
+                  let more = used_more (has p3.used line) (has (next_policy p3 last).used line) (work_on last line) (state_on last line) in
+                  kept_ready p (next_policy p3 last) node last line cannot can (omega (arith, same, low, more))
+            ]
+          ])
+    ]
+  where
+    fewer_level : (q r : PolicyOf) (node : NodeOf) → (has r.used line ≡ true → has q.used line ≡ true) → level_on r node line ≤ level_on q node line
+    fewer_level q r node fewer = level_fewer (has q.used line) (has r.used line) (work_on node line) (state_on node line) fewer
+
+    more_by : (a b : Bool) (m : ℕ) → (if a then 47 else 0) + m ≤ (if b then 47 else 0) + m + 47
+    more_by true true m = omega arith
+    more_by true false m = omega arith
+    more_by false true m = omega arith
+    more_by false false m = omega arith
+
+    used_more : (before after : Bool) (work : Option Bool) (s : CacheState) → level after work s ≤ level before work s + 47
+    used_more before after work s = more_by (counts_use s && after) (counts_use s && before) (rank work s)
+
+-- what it leaves of the machine
+pub record TurnKept (n : ℕ) (old new : Working) : Type 0 where
+  pub low : worth new ≤ worth old
+  pub same : worth new ≡ worth old → (m line : ℕ) → m < old.core.size.nodes → line < old.core.size.lines → level_at new m line ≡ level_at old m line
+
+pub turn_worth : (n : ℕ) (old new : Working) → CannotPerform (node_at old.core n) → IsTurnAlone n old new → Turned n old new → TurnKept n old new
+turn_worth n old new cannot turn is =
+    let lines = old.core.size.lines in
+    let line_low : (line : ℕ) → line < lines
+    → line_worth (new.policies n) (node_at new.core n) line ≤ line_worth (old.policies n) (node_at old.core n) line =
+    λ line _. (turn_line n old new cannot turn is line).low in
+    let own_low = sum_least (line_worth (new.policies n) (node_at new.core n)) (line_worth (old.policies n) (node_at old.core n)) lines line_low in
+    let at : (m : ℕ) → worth_at new m ≡ node_worth lines (new.policies m) (node_at new.core m) =
+    λ m. ap (λ (z : Size). node_worth z.lines (new.policies m) (node_at new.core m)) is.ended.size in
+    let other_same : (m : ℕ) → m ≢ n → worth_at new m ≡ worth_at old m =
+    λ m other. at m ∙ (ap (λ (q : PolicyOf). node_worth lines q (node_at new.core m)) (turn.others m other)
+    ∙ ap (node_worth lines (old.policies m)) (is.ended.others m other)) in
+    let each : (m : ℕ) → m < old.core.size.nodes → worth_at new m ≤ worth_at old m =
+    λ m _. elim (cases_eq m n) [
+      | inl here ↦ (let own = at n in subst (λ (k : ℕ). worth_at new k ≤ worth_at old k) (sym here) (omega (arith, own, own_low)))
+      | inr other ↦ (let same = other_same m other in omega (arith, same))
     ] in
-    sum_less (node_total new lines) (node_total old lines) nodes changed.node
-    (λ n _. sum_least (rank_at new n) (rank_at old n) lines (λ line _. kept.lower n line)) changed.some_node
-    (sum_less (rank_at new changed.node) (rank_at old changed.node) lines changed.line (λ line _. kept.lower changed.node line) changed.some_line falls)
+    let all : worth new ≡ sum_to (worth_at new) old.core.size.nodes = ap (λ (z : Size). sum_to (worth_at new) z.nodes) is.ended.size in
+    let least = sum_least (worth_at new) (worth_at old) old.core.size.nodes each in
+    record {
+      low = omega (arith, all, least);
+      same = λ same m line some inside. elim (cases_eq m n) [
+        | inl here ↦
+            let one = sum_same (worth_at new) (worth_at old) old.core.size.nodes n each (omega (arith, all, same)) turn.some in
+            let own = at n in
+            let this = sum_same (line_worth (new.policies n) (node_at new.core n)) (line_worth (old.policies n) (node_at old.core n)) lines line line_low
+            (omega (arith, one, own)) inside in
+            subst (λ (k : ℕ). level_at new k line ≡ level_at old k line) (sym here) ((turn_line n old new cannot turn is line).same this)
+        | inr other ↦
+            ap (λ (q : PolicyOf). level_on q (node_at new.core m) line) (turn.others m other)
+            ∙ ap (λ (part : NodeOf). level_on (old.policies m) part line) (is.ended.others m other)
+      ];
+    }
 
--- ---- many
+-- ---- many steps
 
-few_by : (count : ℕ) (core : Core) (cores : List Core) → IsReached core → ReadsFit core → AreSteps count core cores
-    → count ≤ total core core.size.nodes core.size.lines
-few_by count core [] reached fit none = omega (arith, none)
-few_by zero core (next ∷ cores) reached fit steps = omega arith
-few_by (suc count) core (next ∷ cores) reached fit steps =
-    let kept = step_kept core next reached fit steps.0 in
-    let sized : total next next.size.nodes next.size.lines ≡ total next core.size.nodes core.size.lines =
-    ap (λ (z : Size). total next z.nodes z.lines) kept.size in
+-- what a step leaves
+record StepKept (old new : Working) : Type 0 where
+  good : WorksByTurns new.core
+  size : new.core.size ≡ old.core.size
+  low : worth new ≤ worth old
+  falls : HasChanged old new → worth new < worth old
+
+step_kept : (old new : Working) → WorksByTurns old.core → IsStep old new → StepKept old new
+step_kept old new good (Issues n op steps policies) =
+    let falls = issue_falls old new n op good.reached steps policies in
+    record {
+      good = work_good old.core new.core (Issue n op) good tt steps;
+      size = size_of_step old.core new.core (Issue n op) good.reached steps;
+      low = omega (arith, falls);
+      falls = λ changed. falls;
+    }
+step_kept old new good (Turns n cannot turn) =
+    let is = turned_alone n old new good cannot turn in
+    let kept = turn_worth n old new cannot turn is in
+    let low = kept.low in
+    record {
+      good = is.good;
+      size = is.ended.size;
+      low = low;
+      falls = λ changed. elim (cases_lt (worth new) (worth old)) [
+        | inl lt ↦ lt
+        | inr high ↦
+            let same = kept.same (omega (arith, low, high)) changed.node changed.line changed.some_node changed.some_line in
+            absurd (changed.other (level_rank _ _ _ _ _ _ same))
+      ];
+    }
+
+few_by : (count : ℕ) (first : Working) (later : List Working) → WorksByTurns first.core → AreSteps count first later → count ≤ worth first
+few_by count first [] good none = omega (arith, none)
+few_by zero first (next ∷ later) good steps = omega arith
+few_by (suc count) first (next ∷ later) good steps =
+    let kept = step_kept first next good steps.0 in
     elim steps.1 [
       | inl change ↦
-          let rest = few_by count next cores kept.reached kept.fit change.1 in
-          let falls = total_falls core next kept change.0 in
-          omega (arith, rest, falls, sized)
+          let rest = few_by count next later kept.good change.1 in
+          let falls = kept.falls change.0 in
+          omega (arith, rest, falls)
       | inr others ↦
-          let rest = few_by (suc count) next cores kept.reached kept.fit others in
-          let kept_sum = total_kept core next core.size.nodes core.size.lines kept in
-          omega (arith, rest, kept_sum, sized)
+          let rest = few_by (suc count) next later kept.good others in
+          let low = kept.low in
+          omega (arith, rest, low)
     ]
 
-pub changes_few : (count : ℕ) (core : Core) (cores : List Core) → IsReached core → ReadsFit core → AreSteps count core cores
-    → count ≤ 46 * core.size.lines * core.size.nodes
-changes_few count core cores reached fit steps =
-    let few = few_by count core cores reached fit steps in
-    let most = total_within core core.size.nodes core.size.lines in
+pub changes_few : (count : ℕ) (first : Working) (later : List Working) → WorksByTurns first.core → AreSteps count first later
+    → count ≤ most_changes first.core.size
+changes_few count first later good steps =
+    let few = few_by count first later good steps in
+    let most = worth_within first in
     omega (arith, few, most)

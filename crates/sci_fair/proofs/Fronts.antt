@@ -1,5 +1,5 @@
 -- In steady turns the front of each lane of requests is taken before many windows have passed.
-use Rattle.std.proofs.Common.{◌≡◌, ◌≢◌, ◌<◌, ◌+◌, ◌-◌, ◌%◌, ◌⊎◌, ◌&&◌, ◌||◌, ℕ, zero, suc, Bool, true, false, if◌then◌else◌, arith}
+use Rattle.std.proofs.Common.{◌≡◌, ◌≢◌, ◌<◌, ◌+◌, ◌-◌, ◌%◌, ◌⊎◌, ◌&&◌, ◌||◌, ℕ, zero, suc, Bool, true, false, arith}
 use Rattle.std.proofs.Common.{List, [], ◌∷◌, ◌++◌, length, Option, Some, None, refl, sym, ap, subst, ◌∙◌, inl, inr, rules}
 use Rattle.std.proofs.lemmas.{Bool.{cases_eq}, List.{length-append}}
 use Rattle.std.proofs.Math.Nat.{mod-lt}
@@ -9,8 +9,9 @@ use Rattle.sci_packets.specs.declared.body.Body.{TheVariants.{Cread}}
 use Rattle.sci_cache.specs.{State.{CacheState}, Cache.{Letter}}
 use Rattle.sci_core.specs.declared.{lane.LaneKind.TheVariants.{Requests}, pending.Pending.{Pending}}
 use Rattle.sci_core.specs.{Core.{Core, lane_of, lane_place, node_at}, Node.{NodeOf, pending_on}, Size.{Size}}
+use Rattle.sci_policy.proofs.PolicyLaws.{kept_no, serve_if}
 use Rattle.sci_policy.specs.Lines.{can_drain, has_maker, is_head, is_maker_of, state_on}
-use Rattle.sci_policy.specs.Policy.{PolicyOf, awaits_home, decided, is_busy_now, is_cread, kept_by, refused_by, turned}
+use Rattle.sci_policy.specs.Policy.{PolicyOf, awaits_home, decided, is_busy_now, is_cread, is_held, kept_by, refused_by, turned}
 use Rattle.sci_policy.specs.Turn.{decided_event, is_ask}
 use Rattle.sci_policy.proofs.{Deciding.{kept_if}, PolicyLaws.{kept_awaits_home, kept_is_cread}}
 use Rattle.sci_fair.specs.{Rank.{work_in, work_on}, Steady.{AreTurns, HasWindows, IsSteadyTurn, Working}}
@@ -52,14 +53,11 @@ open_maker : (pending : Option Pending) (s : CacheState) → is_open_head (work_
 open_maker None s opened = no_bit (is_head s)
 open_maker (Some pending) s opened = head_no_maker (is_maker pending.op) s opened
 
+held_no : (h m u : Bool) → (h && m) ≡ false → (h && (m && u)) ≡ false
+held_no h m u none = search rules
+
 refused_no : (c h d m : Bool) → d ≡ false → m ≡ false → (c && ((h && d) || m)) ≡ false
 refused_no c h d m one two = search rules
-
-kept_no : (c o a t b r : Bool) → a ≡ false → b ≡ false → r ≡ false → ((c && o) && (a || (t && (b || r)))) ≡ false
-kept_no c o a t b r one two three = search rules
-
-serve_if : (k r : Bool) → k ≡ false → r ≡ false → (if k then decision.Keep else if r then decision.Refuse else decision.Serve) ≡ decision.Serve
-serve_if k r one two = search rules
 
 pub opens_serve : (policy : PolicyOf) (node : NodeOf) (request : Letter) → is_open_head (work_on node request.line) (state_on node request.line) ≡ true
     → decided policy node request ≡ decision.Serve
@@ -67,8 +65,8 @@ opens_serve policy node request opened =
     let work = work_on node request.line in
     let s = state_on node request.line in
     let refused : refused_by policy node request ≡ false =
-    refused_no (is_cread request.body) _ (can_drain s) (is_head s && has_maker node request.line) (open_drain work s opened)
-    (open_maker (pending_on node request.line) s opened) in
+    refused_no (is_cread request.body) _ (can_drain s) (is_held policy node request.line) (open_drain work s opened)
+    (held_no (is_head s) (has_maker node request.line) _ (open_maker (pending_on node request.line) s opened)) in
     let kept : kept_by policy node request ≡ false =
     kept_no (is_cread request.body) _ (awaits_home s) _ (is_busy_now s) (refused_by policy node request) (open_awaits work s opened) (open_busy work s opened)
     refused in

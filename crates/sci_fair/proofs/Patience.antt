@@ -17,7 +17,7 @@ use Rattle.sci_policy.specs.Lines.{can_be_due, can_drain, state_on}
 use Rattle.sci_policy.specs.Policy.{IsEnabledWant, PolicyOf, draining_at_last, due_at_last, has, next_policy, next_wanted, noted, still_draining, still_due}
 use Rattle.sci_policy.specs.Policy.{ticked, turned}
 use Rattle.sci_policy.specs.Turn.{is_accept, is_ask}
-use Rattle.sci_policy.proofs.{Marks.{in_set}, PolicyLaws.{due_stays, ticked_if}, Wants.{wanted_enabled}}
+use Rattle.sci_policy.proofs.{Marks.{in_set}, PolicyLaws.{due_stays, noted_due, ticked_if}, Wants.{wanted_enabled}}
 use Rattle.sci_turn.specs.Moves.{IsOwn}
 use Rattle.sci_fair.specs.{Rank.{rank}}
 use Rattle.sci_fair.specs.Steady.{AreSteadyTurns, HasWindows, IsSteadyTurn, Working, WorksByTurns}
@@ -58,15 +58,17 @@ gone m = record { test = λ work s. m.class s; value = false; accepts = m.accept
 
 -- ---- draining lines
 
-noted_draining : (policy : PolicyOf) (want : Option Want) (line : ℕ) → line < length policy.draining → has policy.draining line ≡ true
-    → has (noted policy want).draining line ≡ true
-noted_draining policy None line below marked = marked
-noted_draining policy (Some (Perform other)) line below marked = marked
-noted_draining policy (Some (Ask other kind.Purge)) line below marked = elim (cases_eq line other) [
+noted_draining : (policy : PolicyOf) (node : NodeOf) (want : Option Want) (line : ℕ) → line < length policy.draining → has policy.draining line ≡ true
+    → has (noted policy node want).draining line ≡ true
+noted_draining policy node None line below marked = marked
+noted_draining policy node (Some (Perform other)) line below marked = marked
+noted_draining policy node (Some (Ask other kind.Purge)) line below marked = elim (cases_eq line other) [
   | inl same ↦ subst (λ (l : ℕ). has (set policy.draining l true) line ≡ true) same (get_or-set_same policy.draining line true false below)
   | inr apart ↦ get_or-set_other policy.draining other line true false apart ∙ marked
 ]
-noted_draining policy (Some (Ask other _)) line below marked = marked
+noted_draining policy node (Some (Ask other kind.Mread)) line below marked = marked
+noted_draining policy node (Some (Ask other kind.Fread)) line below marked = marked
+noted_draining policy node (Some (Ask other _)) line below marked = marked
 
 pub still_marked : (policy : PolicyOf) (node : NodeOf) (line : ℕ) (b : Bool) → line < MAX_LINES → still_draining policy node line ≡ true
     → has (ticked_if policy node b).draining line ≡ true
@@ -83,7 +85,7 @@ pub draining_stays : (policy : PolicyOf) (node : NodeOf) (line : ℕ) → line <
 draining_stays policy node line small marked drains =
     let still : still_draining policy node line ≡ true = rw (marked, drains) refl in
     let b = nat_lt (policy.patience + 1) PATIENCE in
-    noted_draining (ticked policy node) (next_wanted policy node) line (subst (λ (long : ℕ). line < long) (sym (ticked_long policy node b)) small)
+    noted_draining (ticked policy node) node (next_wanted policy node) line (subst (λ (long : ℕ). line < long) (sym (ticked_long policy node b)) small)
     (still_marked policy node line b small still)
 
 or_last : (a b : Bool) → b ≡ true → (a || b) ≡ true
@@ -95,7 +97,7 @@ draining_sets policy node line small ends shared =
     let marked : has (ticked_if policy node false).draining line ≡ true =
     in_set (draining_at_last policy node) line small ∙ or_last (still_draining policy node line) (has_sharers (state_on node line)) shared in
     let ticks : has (ticked policy node).draining line ≡ true = subst (λ (b : Bool). has (ticked_if policy node b).draining line ≡ true) (sym ends) marked in
-    noted_draining (ticked policy node) (next_wanted policy node) line
+    noted_draining (ticked policy node) node (next_wanted policy node) line
     (subst (λ (long : ℕ). line < long) (sym (ticked_long policy node (nat_lt (policy.patience + 1) PATIENCE))) small) ticks
 
 pub purging_waits : (s : CacheState) → can_drain s ≡ true → has_sharers s ≡ false → waits s ≡ true
@@ -121,12 +123,6 @@ draining = record {
 pub fresh_due : (s : CacheState) → has_fresh_next s ≡ true → can_be_due s ≡ true
 fresh_due s is = search rules
 
-noted_due : (policy : PolicyOf) (want : Option Want) → (noted policy want).due ≡ policy.due
-noted_due policy None = refl
-noted_due policy (Some (Perform line)) = refl
-noted_due policy (Some (Ask line kind.Purge)) = refl
-noted_due policy (Some (Ask line _)) = refl
-
 pub still_due_marked : (policy : PolicyOf) (node : NodeOf) (line : ℕ) (b : Bool) → line < MAX_LINES → still_due policy node line ≡ true
     → has (ticked_if policy node b).due line ≡ true
 still_due_marked policy node line true small still = in_set (still_due policy node) line small ∙ still
@@ -139,7 +135,7 @@ due_sets policy node line small ends shared =
     let marked : has (ticked_if policy node false).due line ≡ true =
     in_set (due_at_last policy node) line small ∙ or_last (still_due policy node line) (has_fresh_sharers (state_on node line)) shared in
     let ticks : has (ticked policy node).due line ≡ true = subst (λ (b : Bool). has (ticked_if policy node b).due line ≡ true) (sym ends) marked in
-    subst (λ (marks : List Bool). has marks line ≡ true) (sym (noted_due (ticked policy node) (next_wanted policy node))) ticks
+    subst (λ (marks : List Bool). has marks line ≡ true) (sym (noted_due (ticked policy node) node (next_wanted policy node))) ticks
 
 pub claiming_waits : (s : CacheState) → has_fresh_next s ≡ true → has_fresh_sharers s ≡ false → waits s ≡ true
 claiming_waits s is none = search rules
@@ -161,16 +157,19 @@ due = record {
 
 -- ---- calls of the policy
 
-noted_patience : (policy : PolicyOf) (want : Option Want) → ((line : ℕ) → want ≡ Some (Perform line) → ⊥) → (noted policy want).patience ≡ policy.patience
-noted_patience policy None other = refl
-noted_patience policy (Some (Perform line)) other = absurd (other line refl)
-noted_patience policy (Some (Ask line kind.Purge)) other = refl
-noted_patience policy (Some (Ask line _)) other = refl
+noted_patience : (policy : PolicyOf) (node : NodeOf) (want : Option Want) → ((line : ℕ) → want ≡ Some (Perform line) → ⊥)
+    → (noted policy node want).patience ≡ policy.patience
+noted_patience policy node None other = refl
+noted_patience policy node (Some (Perform line)) other = absurd (other line refl)
+noted_patience policy node (Some (Ask line kind.Purge)) other = refl
+noted_patience policy node (Some (Ask line kind.Mread)) other = refl
+noted_patience policy node (Some (Ask line kind.Fread)) other = refl
+noted_patience policy node (Some (Ask line _)) other = refl
 
 next_patience : (policy : PolicyOf) (node : NodeOf) → nat_lt (policy.patience + 1) PATIENCE ≡ true
     → ((line : ℕ) → next_wanted policy node ≡ Some (Perform line) → ⊥) → (next_policy policy node).patience ≡ policy.patience + 1
 next_patience policy node lasts other =
-    noted_patience (ticked policy node) (next_wanted policy node) other ∙ ap (λ (b : Bool). (ticked_if policy node b).patience) lasts
+    noted_patience (ticked policy node) node (next_wanted policy node) other ∙ ap (λ (b : Bool). (ticked_if policy node b).patience) lasts
 
 abbrev pub pred : ℕ → ℕ
 pred zero = zero

@@ -33,11 +33,13 @@ idle_at n core before after idle let_go = record {
 
 -- ---- the turns are counted
 
-pub noted_turns : (policy : PolicyOf) (want : Option Want) → (noted policy want).turns ≡ policy.turns
-noted_turns policy None = refl
-noted_turns policy (Some (Perform line)) = refl
-noted_turns policy (Some (Ask line kind.Purge)) = refl
-noted_turns policy (Some (Ask line _)) = refl
+pub noted_turns : (policy : PolicyOf) (node : NodeOf) (want : Option Want) → (noted policy node want).turns ≡ policy.turns
+noted_turns policy node None = refl
+noted_turns policy node (Some (Perform line)) = refl
+noted_turns policy node (Some (Ask line kind.Purge)) = refl
+noted_turns policy node (Some (Ask line kind.Mread)) = refl
+noted_turns policy node (Some (Ask line kind.Fread)) = refl
+noted_turns policy node (Some (Ask line _)) = refl
 
 either_turns : (one two : PolicyOf) (b : Bool) → one.turns ≡ two.turns → (if b then one else two).turns ≡ two.turns
 either_turns one two true same = same
@@ -47,7 +49,7 @@ pub ticked_turns : (policy : PolicyOf) (node : NodeOf) → (ticked policy node).
 ticked_turns policy node = either_turns _ _ (nat_lt (policy.patience + 1) PATIENCE) refl
 
 pub next_turns : (policy : PolicyOf) (node : NodeOf) → (next_policy policy node).turns ≡ policy.turns
-next_turns policy node = noted_turns (ticked policy node) (next_wanted policy node) ∙ ticked_turns policy node
+next_turns policy node = noted_turns (ticked policy node) node (next_wanted policy node) ∙ ticked_turns policy node
 
 counted : (n : ℕ) (core : Core) (before after : PolicyOf) → IsIdleTurn before (post_at n core) after (post_at n core) → after.turns ≡ (before.turns + 1) % 64
 counted n core before after idle = grind (arith, noted_turns, ticked_turns)

@@ -1,10 +1,10 @@
--- A whole turn of a node raises no rank, if nothing could be performed at the node when it began. Of the events of the turn only a
+-- A whole turn of a node raises no level, if nothing could be performed at the node when it began. Of the events of the turn only a
 -- Purge of a load may raise it. The node that purges the line has asked before the turn began, so the line followed then: it was
 -- Below, where the load could be performed, or Rolling, which has a higher rank than what is left in the end.
-use Rattle.std.proofs.Common.{◌≡◌, ◌≢◌, ◌≤◌, ◌<◌, ◌/◌, ◌%◌, ◌⊎◌, ℕ, zero, suc, Bool, true, false, ◌||◌, cond, arith, List, [], ◌∷◌, ◌++◌, filter, get_or}
-use Rattle.std.proofs.Common.{length}
+use Rattle.std.proofs.Common.{◌≡◌, ◌≢◌, ◌≤◌, ◌<◌, ◌/◌, ◌%◌, ◌⊎◌, ℕ, zero, suc, Bool, true, false, ◌||◌, ◌&&◌, ◌+◌, if◌then◌else◌, cond}
+use Rattle.std.proofs.Common.{arith, List, [], ◌∷◌, ◌++◌, filter, get_or, length}
 use Rattle.std.proofs.Common.{Ok, Option, Some, None, refl, sym, ap, subst, ◌∙◌, inl, inr, rules, get_or-set_same, All}
-use Rattle.std.proofs.lemmas.{Bool.{cases_eq, le-leb, leb-true}, List.{append_assoc, Elements.{All-head}}}
+use Rattle.std.proofs.lemmas.{Bool.{cases_eq, leb-true}, List.{append_assoc, Elements.{All-head}}}
 use Rattle.std.specs.{Prelude.{IfSome, nat_le, option_to_list}, List.{AllByRecursion, flat_map}}
 use Rattle.sci_history.specs.Seen.{IsAmong}
 use Rattle.sci_words.specs.declared.event.{AskKind.{AskKind}, Event.{Event}}
@@ -22,10 +22,10 @@ use Rattle.sci_core.proofs.Step.NodeSides.{AcceptedAs, At_home, In_cache, Refuse
 use Rattle.sci_core.proofs.Step.Places.{place_from, place_requests, place_to}
 use Rattle.sci_core.proofs.{Step.Steps.{lane_below}, Tidy.{TidyRuns.{reached_tidy}, TidySteps.{about_from, request_asker}}}
 use Rattle.sci_core.proofs.WellFormed.WellFormedSteps.{reached_stepping, reached_well, size_either}
-use Rattle.sci_policy.specs.{Lines.{state_on}, Policy.{PolicyOf}}
+use Rattle.sci_policy.specs.{Lines.{state_on}, Policy.{PolicyOf, has}}
 use Rattle.sci_policy.proofs.Targets.{asked_target}
 use Rattle.sci_turn.{specs.Moves.{IsOwn, Leads}, proofs.Working.{other_stays, stepped}}
-use Rattle.sci_fair.specs.{Rank.{CannotPerform, can_perform, is_excepted, never_rises, rank, work_in, work_on}, Reads.{ReadsFit}}
+use Rattle.sci_fair.specs.{Rank.{CannotPerform, can_perform, counts_use, is_excepted, level, level_on, rank, work_in, work_on}, Reads.{ReadsFit}}
 use Rattle.sci_fair.proofs.{Followers.{purge_finds}, Looks.{Spared, SparesFrom, set_spares, step_spares}, RankSteps.{event_kept}}
 use Rattle.sci_fair.proofs.ReadCarries.{AsksAs, ask_as, changed_by}
 use Rattle.sci_fair.proofs.ReadSteps.{turn_reads}
@@ -275,27 +275,18 @@ module _ (core new : Core) (n j : ℕ) (reached : IsReached core) (some : n < co
 
 -- ---- so far in a turn
 
--- no rank of a node's line is above what it was
-abbrev pub IsLower : Option Bool → CacheState → CacheState → Type 0
-IsLower work old new = nat_le (rank work new) (rank work old) ≡ true
+-- the level of node n's line for what was pending there when the turn began
+abbrev pub level_in : Core → ℕ → ℕ → PolicyOf → Core → ℕ
+level_in old n line policy core = level (has policy.used line) (work_on (node_at old n) line) (state_on (node_at core n) line)
 
-lower_then : (work : Option Bool) (a b c : CacheState) → IsLower work a b → IsLower work b c → IsLower work a c
-lower_then work a b c one two =
-    let low = leb-true (rank work b) (rank work a) one in
-    let lower = leb-true (rank work c) (rank work b) two in
-    le-leb (rank work c) (rank work a) (omega (arith, low, lower))
-
-pub lower_itself : (work : Option Bool) (a : CacheState) → IsLower work a a
-lower_itself work a = le-leb (rank work a) (rank work a) (omega arith)
-
--- a turn of node n has come this far
-pub record HasTurned (n : ℕ) (old core : Core) : Type 0 where
+-- a turn of node n has come this far, and led its policy to here
+pub record HasTurned (n : ℕ) (before : PolicyOf) (old : Core) (policy : PolicyOf) (core : Core) : Type 0 where
   pub reached : IsReached core
   pub fit : ReadsFit core
   pub size : core.size ≡ old.size
   pub others : (m : ℕ) → m ≢ n → node_at core m ≡ node_at old m
   pub work : (line : ℕ) → pending_on (node_at core n) line ≡ pending_on (node_at old n) line
-  pub lower : (line : ℕ) → IsLower (work_on (node_at old n) line) (state_on (node_at old n) line) (state_on (node_at core n) line)
+  pub lower : (line : ℕ) → level_in old n line policy core ≤ level_in old n line before old
   pub lost : (j : ℕ) → j < old.size.nodes → j ≢ n → HasLost (lane_of old Requests j n) (lane_of core Requests j n)
 
 -- the request of a node's ask is among its packets
@@ -309,11 +300,11 @@ lane_among core k n line taken rest letter reached f t lane about =
     (among_flat (λ (l : List Letter). l) core.lanes place [] letter (lane_below core Requests k n (reached_well core reached) f t) here))
 
 -- a load that is purged in the turn was on a line that followed when the turn began
-pub purged_high : (n : ℕ) (old core : Core) (line : ℕ) → IsReached old → n < old.size.nodes → HasTurned n old core → is_below
-    (state_on (node_at core n) line) ≡ true
+pub purged_high : (n : ℕ) (before policy : PolicyOf) (old core : Core) (line : ℕ) → IsReached old → n < old.size.nodes
+    → HasTurned n before old policy core → is_below (state_on (node_at core n) line) ≡ true
     → (purged : IsPurged core n line) → CannotPerform (node_at old n) → work_on (node_at old n) line ≡ Some false
     → nat_le 6 (rank (Some false) (state_on (node_at old n) line)) ≡ true
-purged_high n old core line reached some turned below purged cannot load =
+purged_high n before policy old core line reached some turned below purged cannot load =
     let k = purged.from in
     let letter = purged.letter in
     let sender : k < old.size.nodes = subst (λ (z : Size). k < z.nodes) turned.size purged.sender in
@@ -349,40 +340,62 @@ purged_high n old core line reached some turned below purged cannot load =
           (subst (λ (work : Option Bool). can_perform work (state_on (node_at old n) line) ≡ false) load (cannot line))
     ]
 
--- the rank doesn't rise, or a load is purged
+-- the level doesn't rise, or a load is purged
 pub lower_or : (b : Bool) (excepted : Bool) → (b || excepted) ≡ true → (b ≡ true) ⊎ (excepted ≡ true)
 lower_or true excepted is = inl refl
 lower_or false excepted is = inr is
 
-module _ (n : ℕ) (old : Core) (reached : IsReached old) (some : n < old.size.nodes) (cannot : CannotPerform (node_at old n)) where
-  lower_on : (core new : Core) (line : ℕ) (before after : PolicyOf) (e : Event) → HasTurned n old core → IsOwn n before core e after
-      → stepping core e ≡ Some new
-      → never_rises (work_on (node_at core n) line) (state_on (node_at core n) line) (state_on (node_at new n) line) ≡ true
-      → IsLower (work_on (node_at old n) line) (state_on (node_at old n) line) (state_on (node_at new n) line)
-  lower_on core new line before after e turned own steps keeps =
+-- with no entry the use of a line doesn't count
+pub out_level : (used : Bool) (work : Option Bool) (s : CacheState) → s ≡ Out → level used work s ≡ rank work Out
+out_level used work s is = ap (level used work) is ∙ omega arith
+
+above_rank : (b : Bool) (r : ℕ) → r ≤ (if b then 47 else 0) + r
+above_rank true r = omega arith
+above_rank false r = omega arith
+
+-- an event lowers the level or keeps it, or it purges a load on a line that stood higher when the turn began
+pub data Lowers (n : ℕ) (before : PolicyOf) (old : Core) (line : ℕ) (policy : PolicyOf) (core : Core) (then_ : PolicyOf) (new : Core) : Type 0 where
+  Keeps : level_in old n line then_ new ≤ level_in old n line policy core → Lowers n before old line policy core then_ new
+  Purges : level_in old n line then_ new ≡ 4 → 6 ≤ level_in old n line before old → Lowers n before old line policy core then_ new
+
+module _ (n : ℕ) (start : PolicyOf) (old : Core) (reached : IsReached old) (some : n < old.size.nodes) (cannot : CannotPerform (node_at old n)) where
+  pub lowers_on : (core new : Core) (line : ℕ) (before after : PolicyOf) (e : Event) → HasTurned n start old before core → IsOwn n before core e after
+      → stepping core e ≡ Some new → Lowers n start old line before core after new
+  lowers_on core new line before after e turned own steps =
       let here : n < core.size.nodes = subst (λ (z : Size). n < z.nodes) (sym turned.size) some in
+      let keeps = (event_kept core new n before after e turned.reached turned.fit here own steps).level line in
       let work : work_on (node_at core n) line ≡ work_on (node_at old n) line = ap work_in (turned.work line) in
+      let was = state_on (node_at core n) line in
       let then_ = state_on (node_at new n) line in
-      elim (lower_or (nat_le (rank (work_on (node_at core n) line) then_) (rank (work_on (node_at core n) line) (state_on (node_at core n) line)))
-      (is_excepted (work_on (node_at core n) line) (state_on (node_at core n) line) then_) keeps) [
-        | inl low ↦
-            lower_then (work_on (node_at old n) line) (state_on (node_at old n) line) (state_on (node_at core n) line) then_ (turned.lower line)
-            (subst (λ (w : Option Bool). IsLower w (state_on (node_at core n) line) then_) work low)
+      let u = has before.used line in
+      let v = has after.used line in
+      elim (lower_or (nat_le (level v (work_on (node_at core n) line) then_) (level u (work_on (node_at core n) line) was))
+      (is_excepted (work_on (node_at core n) line) was then_) keeps) [
+        | inl low ↦ Keeps (leb-true (level_in old n line after new) (level_in old n line before core)
+            (subst (λ (w : Option Bool). nat_le (level v w then_) (level u w was) ≡ true) work low))
         | inr excepted ↦
-            let below = excepted_below (work_on (node_at core n) line) (state_on (node_at core n) line) then_ excepted in
-            let out = excepted_out (work_on (node_at core n) line) (state_on (node_at core n) line) then_ excepted in
+            let below = excepted_below (work_on (node_at core n) line) was then_ excepted in
+            let out = excepted_out (work_on (node_at core n) line) was then_ excepted in
             let load : work_on (node_at old n) line ≡ Some false =
-            sym work ∙ excepted_load (work_on (node_at core n) line) (state_on (node_at core n) line) then_ excepted in
+            sym work ∙ excepted_load (work_on (node_at core n) line) was then_ excepted in
             let purged = purged_by core new n before after e turned.reached here own steps line below out in
-            let high = purged_high n old core line reached some turned below purged cannot load in
-            let six = leb-true 6 (rank (Some false) (state_on (node_at old n) line)) high in
-            subst (λ (w : Option Bool). IsLower w (state_on (node_at old n) line) then_) (sym load)
-            (subst (IsLower (Some false) (state_on (node_at old n) line)) (sym out)
-            (le-leb 4 (rank (Some false) (state_on (node_at old n) line)) (omega (arith, six))))
+            let high = leb-true 6 (rank (Some false) (state_on (node_at old n) line))
+            (purged_high n start before old core line reached some turned below purged cannot load) in
+            let low : level_in old n line after new ≡ 4 = out_level v (work_on (node_at old n) line) then_ out ∙ ap (λ (w : Option Bool). rank w Out) load in
+            let rank_is : rank (work_on (node_at old n) line) (state_on (node_at old n) line) ≡ rank (Some false) (state_on (node_at old n) line) =
+            ap (λ (w : Option Bool). rank w (state_on (node_at old n) line)) load in
+            let above = above_rank (counts_use (state_on (node_at old n) line) && has start.used line)
+            (rank (work_on (node_at old n) line) (state_on (node_at old n) line)) in
+            Purges low (omega (arith, high, rank_is, above))
       ]
 
-  pub turns_on : (core new : Core) (before after : PolicyOf) (e : Event) → HasTurned n old core → IsOwn n before core e after → stepping core e ≡ Some new
-      → HasTurned n old new
+  lower_then : (core new : Core) (line : ℕ) (before after : PolicyOf) → level_in old n line before core ≤ level_in old n line start old
+      → Lowers n start old line before core after new → level_in old n line after new ≤ level_in old n line start old
+  lower_then core new line before after low (Keeps lower) = omega (arith, low, lower)
+  lower_then core new line before after low (Purges four six) = omega (arith, four, six)
+
+  pub turns_on : (core new : Core) (before after : PolicyOf) (e : Event) → HasTurned n start old before core → IsOwn n before core e after
+      → stepping core e ≡ Some new → HasTurned n start old after new
   turns_on core new before after e turned own steps =
       let here : n < core.size.nodes = subst (λ (z : Size). n < z.nodes) (sym turned.size) some in
       let same = size_either {T = ℕ} {E = ℕ} (Ok 0) core new e turned.reached steps (λ refused. (let clash : false ≡ true = refused in cc)) in
@@ -392,8 +405,8 @@ module _ (n : ℕ) (old : Core) (reached : IsReached old) (some : n < old.size.n
         fit = turn_reads core new n before after e turned.reached turned.fit here own steps;
         size = same ∙ turned.size;
         others = λ m other. other_stays core new e m (λ is. other (sym is ∙ own.kind.own)) steps ∙ turned.others m other;
-        work = λ line. (kept n).work line ∙ turned.work line;
-        lower = λ line. lower_on core new line before after e turned own steps ((kept n).rank line);
+        work = λ line. kept.work line ∙ turned.work line;
+        lower = λ line. lower_then core new line before after (turned.lower line) (lowers_on core new line before after e turned own steps);
         lost = λ j f other.
             let now : j < core.size.nodes = subst (λ (z : Size). j < z.nodes) (sym turned.size) f in
             let first = turned.lost j f other in
@@ -403,55 +416,37 @@ module _ (n : ℕ) (old : Core) (reached : IsReached old) (some : n < old.size.n
             );
       }
 
-  pub leads_turned : (core new : Core) (before after : PolicyOf) (more : List Event) → HasTurned n old core → AllByRecursion (λ e. node_of e ≡ n) more
-      → Leads n before core more after new → HasTurned n old new
-  leads_turned core new before after [] turned own leads = subst (HasTurned n old) leads.1 turned
+  pub leads_turned : (core new : Core) (before after : PolicyOf) (more : List Event) → HasTurned n start old before core
+      → AllByRecursion (λ e. node_of e ≡ n) more → Leads n before core more after new → HasTurned n start old after new
+  leads_turned core new before after [] turned own leads =
+      subst (λ (p : PolicyOf). HasTurned n start old p new) leads.0 (subst (HasTurned n start old before) leads.1 turned)
   leads_turned core new before after (e ∷ more) turned own leads = elim leads.3 [
     | inl is ↦ leads_turned leads.0 new leads.1 after more (turns_on core leads.0 before leads.1 e turned is leads.2) own.1 leads.4
     | inr other ↦ absurd (other.apart own.0)
   ]
 
+-- a turn that begins
+pub turn_begins : (n : ℕ) (policy : PolicyOf) (core : Core) → IsReached core → ReadsFit core → HasTurned n policy core policy core
+turn_begins n policy core reached fit = record {
+  reached = reached;
+  fit = fit;
+  size = refl;
+  others = λ m other. refl;
+  work = λ line. refl;
+  lower = λ line. omega arith;
+  lost = λ j f other. ([], refl);
+}
+
 -- ---- a whole turn
 
-pub record TurnKept (old new : Core) : Type 0 where
-  pub reached : IsReached new
-  pub fit : ReadsFit new
-  pub size : new.size ≡ old.size
-  pub work : (m line : ℕ) → pending_on (node_at new m) line ≡ pending_on (node_at old m) line
-  pub lower : (m line : ℕ) → rank (work_on (node_at old m) line) (state_on (node_at new m) line) ≤ rank (work_on (node_at old m) line)
-      (state_on (node_at old m) line)
-
+-- what a node has pending stays, and no level of its lines rises
 pub turn_kept : (n : ℕ) (old new : Core) (before after : PolicyOf) (more : List Event) → IsReached old → ReadsFit old → n < old.size.nodes
-    → CannotPerform (node_at old n) → AllByRecursion (λ e. node_of e ≡ n) more → Leads n before old more after new → TurnKept old new
+    → CannotPerform (node_at old n) → AllByRecursion (λ e. node_of e ≡ n) more → Leads n before old more after new → HasTurned n before old after new
 turn_kept n old new before after more reached fit some cannot own leads =
-    let turned = leads_turned n old reached some cannot old new before after more (record {
-      reached = reached;
-      fit = fit;
-      size = refl;
-      others = λ m other. refl;
-      work = λ line. refl;
-      lower = λ line. lower_itself (work_on (node_at old n) line) (state_on (node_at old n) line);
-      lost = λ j f other. ([], refl);
-    }) own leads in
-    record {
-      reached = turned.reached;
-      fit = turned.fit;
-      size = turned.size;
-      work = λ m line. elim (cases_eq m n) [
-        | inl same ↦ subst (λ (k : ℕ). pending_on (node_at new k) line ≡ pending_on (node_at old k) line) (sym same) (turned.work line)
-        | inr other ↦ ap (λ (part : NodeOf). pending_on part line) (turned.others m other)
-      ];
-      lower = λ m line. elim (cases_eq m n) [
-        | inl same ↦
-            subst (λ (k : ℕ). rank (work_on (node_at old k) line) (state_on (node_at new k) line) ≤ rank (work_on (node_at old k) line)
-            (state_on (node_at old k) line))
-            (sym same)
-            (leb-true (rank (work_on (node_at old n) line) (state_on (node_at new n) line))
-            (rank (work_on (node_at old n) line) (state_on (node_at old n) line))
-            (turned.lower line))
-        | inr other ↦
-            subst (λ (part : NodeOf). rank (work_on (node_at old m) line) (state_on part line) ≤ rank (work_on (node_at old m) line)
-            (state_on (node_at old m) line))
-            (sym (turned.others m other)) (omega arith)
-      ];
-    }
+    leads_turned n before old reached some cannot old new before after more (turn_begins n before old reached fit) own leads
+
+-- the level that a line has then
+pub turned_level : (n : ℕ) (before policy : PolicyOf) (old core : Core) (line : ℕ) → HasTurned n before old policy core
+    → level_on policy (node_at core n) line ≡ level_in old n line policy core
+turned_level n before policy old core line turned =
+    ap (λ (w : Option Bool). level (has policy.used line) w (state_on (node_at core n) line)) (ap work_in (turned.work line))

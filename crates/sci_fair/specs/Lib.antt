@@ -8,4 +8,5 @@ pub mod Changes
 pub mod Between
 pub mod Steady
 pub mod Retries
+pub mod Steps
 pub mod Later

@@ -1,10 +1,11 @@
--- The rank of a node's line. It falls at each real change that a turn makes of the line, and stays at each try that fails.
-use Rattle.std.specs.Prelude.{◌≡◌, ℕ, Bool, true, false, ◌&&◌, ◌||◌, nat_le, Option, Some, None, option_map}
+-- The rank of a node's line, and its level, which is the rank and whether the line was used. The level falls at each real change that a
+-- turn makes of the line, and stays at each try that fails.
+use Rattle.std.specs.Prelude.{◌≡◌, ℕ, Bool, true, false, ◌&&◌, ◌||◌, if◌then◌else◌, nat_le, ◌+◌, Option, Some, None, option_map}
 use Rattle.sci_words.specs.{declared.event.AskKind.{AskKind}, Operation.{is_maker}}
 use Rattle.sci_cache.specs.State.{CacheState, Out, Asking, Joining, FreshJoining, Head, FreshHead, Below, Purging, Claiming, Clearing, Returning, Rolling}
 use Rattle.sci_cache.specs.State.{Telling, Fading}
 use Rattle.sci_packets.specs.declared.body.Body.{Body, TheVariants.{Fdata, Fread, Mdata, Mgone, Mread}}
-use Rattle.sci_policy.specs.{Lines.{is_head, state_on}, Policy.{is_cread}}
+use Rattle.sci_policy.specs.{Lines.{is_head, state_on}, Policy.{PolicyOf, has, is_cread}}
 use Rattle.sci_core.specs.{declared.pending.Pending.{Pending}, Node.{NodeOf, pending_on}}
 use Rattle.sci_words.specs.declared.event.AskKind.TheVariants as kind
 
@@ -73,6 +74,30 @@ rank None state = rank_idle state
 rank (Some false) state = rank_loading state
 rank (Some true) state = rank_making state
 
+-- ---- levels: a line that was used, and that its node leads or comes to, stands above all that weren't. It may be given away though a
+-- maker waits
+
+abbrev pub counts_use : CacheState → Bool
+counts_use Out = false
+counts_use (Telling r w sent) = false
+counts_use Fading = false
+counts_use (Below f b c) = false
+counts_use (Rolling f b c) = false
+counts_use _ = true
+
+abbrev pub level : Bool → Option Bool → CacheState → ℕ
+level used work state = (if counts_use state && used then 47 else 0) + rank work state
+
+-- the level of a node's line, by what its policy remembers
+abbrev pub level_on : PolicyOf → NodeOf → ℕ → ℕ
+level_on policy node line = level (has policy.used line) (work_on node line) (state_on node line)
+
+-- whether a line is used after an ask: a read of it begins anew
+abbrev pub used_after : AskKind → Bool → Bool
+used_after kind.Mread used = false
+used_after kind.Fread used = false
+used_after _ used = used
+
 -- ---- what changes a rank
 
 -- whether a packet is a read for what is pending, or an answer to one
@@ -96,14 +121,14 @@ can_perform _ _ = false
 abbrev pub CannotPerform : NodeOf → Type 0
 CannotPerform node = (line : ℕ) → can_perform (work_on node line) (state_on node line) ≡ false
 
--- the one change that raises the rank: a load is purged that could be performed
+-- the one change that raises the level: a load is purged that could be performed
 abbrev pub is_excepted : Option Bool → CacheState → CacheState → Bool
 is_excepted (Some false) (Below f b c) Out = true
 is_excepted _ _ _ = false
 
--- the rank doesn't rise from one state to the next, but by this change
-abbrev pub never_rises : Option Bool → CacheState → CacheState → Bool
-never_rises work old new = nat_le (rank work new) (rank work old) || is_excepted work old new
+-- the level doesn't rise from one state to the next, but by this change; and the line was used, or not, before and after
+abbrev pub never_rises : Bool → Bool → Option Bool → CacheState → CacheState → Bool
+never_rises before after work old new = nat_le (level after work new) (level before work old) || is_excepted work old new
 
 -- what is asked suits what is pending: no line is read for nothing, or to be fresh for a maker; and no list is given back while a
 -- maker waits
@@ -119,7 +144,7 @@ abbrev pub answers_well : Option Bool → CacheState → Body → Bool
 answers_well work Asking answer = fits_read work answer
 answers_well work state answer = true
 
--- while a maker is pending, a request is no Cread for a head: such a one is refused
-abbrev pub IsHeldFor : Option Bool → CacheState → Body → Type 0
-IsHeldFor (Some true) s request = (is_cread request && is_head s) ≡ false
-IsHeldFor work s request = Unit {0}
+-- while a maker is pending on a line that wasn't used, a request is no Cread for a head: such a one is refused
+abbrev pub IsHeldFor : Bool → Option Bool → CacheState → Body → Type 0
+IsHeldFor false (Some true) s request = (is_cread request && is_head s) ≡ false
+IsHeldFor used work s request = Unit {0}

@@ -1,10 +1,10 @@
--- Whole turns of a machine's nodes that change no rank: what they try fails, and they try it again.
+-- Whole turns of a machine's nodes that change no level: what they try fails, and they try it again.
 use Rattle.std.specs.Prelude.{◌≡◌, ◌≢◌, ◌<◌, ℕ, zero, suc, List, [], ◌∷◌, ◌++◌}
 use Rattle.sci_history.specs.Seen.{IsAmong}
 use Rattle.sci_core.specs.{Core.{Core, node_at}, Reached.{IsReached}}
 use Rattle.sci_policy.specs.{declared.progress.Progress.{Progress}, Policy.{PolicyOf}}
 use Rattle.sci_turn.specs.{Posts.{post_at}, Whole.{IsWholeTurn}}
-use Rattle.sci_fair.specs.{Between.{AreShort, IsBetweenTurns}, Changes.{rank_at}, Lanes.{AreOpen}, Rank.{CannotPerform}, Reads.{ReadsFit}}
+use Rattle.sci_fair.specs.{Between.{AreShort, IsBetweenTurns}, Lanes.{AreOpen}, Rank.{CannotPerform, level_on}, Reads.{ReadsFit}}
 
 -- a machine that works by turns, between two of them: from here on each of its turns is one of those that laws speak of
 pub record WorksByTurns (core : Core) : Type 0 where
@@ -18,6 +18,10 @@ pub record Working : Type 0 where
   pub core : Core
   pub policies : ℕ → PolicyOf
 
+-- the level of a node's line
+abbrev pub level_at : Working → ℕ → ℕ → ℕ
+level_at w n line = level_on (w.policies n) (node_at w.core n) line
+
 -- A whole turn of node n, which has the machine for itself. No lane has more packets than it has cells.
 pub record IsTurnAlone (n : ℕ) (old new : Working) : Type 0 where
   pub some : n < old.core.size.nodes
@@ -26,11 +30,11 @@ pub record IsTurnAlone (n : ℕ) (old new : Working) : Type 0 where
   pub others : (m : ℕ) → m ≢ n → new.policies m ≡ old.policies m
   pub short : AreShort new.core
 
--- and the node can perform nothing, and each line of each node has the rank that it had
+-- and the node can perform nothing, and each line of each node has the level that it had
 pub record IsSteadyTurn (n : ℕ) (old new : Working) : Type 0 where
   pub alone : IsTurnAlone n old new
   pub cannot : CannotPerform (node_at old.core n)
-  pub same : (m line : ℕ) → rank_at new.core m line ≡ rank_at old.core m line
+  pub same : (m line : ℕ) → level_at new m line ≡ level_at old m line
 
 -- turns of these nodes, one after another
 abbrev pub AreTurns : {X : Type 0} → (ℕ → X → X → Type 0) → List ℕ → X → X → Type 0

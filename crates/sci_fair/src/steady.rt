@@ -11,7 +11,7 @@ ghost use Rattle.sci_fair.specs.Retries.{is_tried_once};
 ghost use Rattle.sci_fair.specs.Steady.{AreSteadyTurns, HasTurn, HasWindows, Working, WorksByTurns};
 
 /// A request that is in a lane is taken before 280 windows have passed, in each of which each node takes a turn, in any order and
-/// as often as it likes, and no turn changes a rank.
+/// as often as it likes, and no turn changes a level.
 pub fn requests_are_taken()
     ensures { (j n : ℕ) (letter : Letter) (order : List ℕ) (first last : Working)
         → WorksByTurns first.core → j < first.core.size.nodes → n < first.core.size.nodes
@@ -32,7 +32,7 @@ pub fn answers_come()
 {}
 
 /// What is tried only once is over within 281 such windows: no line awaits the answer to a read, or to a Setback, or was purged
-/// while it rolled. And no Purge is under way. So a machine whose ranks stay tries again and again only to join a list, to roll out
+/// while it rolled. And no Purge is under way. So a machine whose levels stay tries again and again only to join a list, to roll out
 /// of one, and to change or end one at its home.
 pub fn only_some_requests_are_repeated()
     ensures once { (n line : ℕ) (order : List ℕ) (first last : Working)

@@ -1,6 +1,6 @@
 -- Laws of what the policy wants, of its draining and its due lines, and of the requests that it keeps.
 use Rattle.std.proofs.Common.{◌≡◌, ◌≢◌, ℕ, ◌+◌, ◌<◌, ◌==◌, ◌&&◌, ◌||◌, not, Bool, true, false, if◌then◌else◌, Option, Some, None, set, List, refl, sym}
-use Rattle.std.proofs.Common.{ap, subst, eq-eqb, get_or-set_other, inl, inr, ◌∙◌}
+use Rattle.std.proofs.Common.{ap, rules, subst, eq-eqb, get_or-set_other, inl, inr, ◌∙◌}
 use Rattle.std.proofs.lemmas.Bool.{and_parts, cases_eq, cases_lt, or_cases}
 use Rattle.std.specs.Prelude.{IfSome, IsOk, IsSome, nat_lt}
 use Rattle.sci_words.specs.declared.{limits.TheConstants.{MAX_LINES}, event.AskKind.{AskKind}}
@@ -10,10 +10,12 @@ use Rattle.sci_cache.specs.{Asking.{Asked, asking}, Cache.{CacheOf, Letter, cach
 use Rattle.sci_cache.specs.{Kinds.{has_fresh_sharers, has_sharers, joins}, Line.{ask_or_fault}}
 use Rattle.sci_core.specs.Node.{NodeOf, lines_of, node_asking}
 use Rattle.sci_core.proofs.Step.Asks.{may_ask}
-use Rattle.sci_policy.specs.declared.{policy.TheConstants.{PATIENCE}, want.Want.{Want, TheVariants.{Perform, Ask}}}
-use Rattle.sci_policy.specs.Lines.{can_be_due, can_drain, state_on}
-use Rattle.sci_policy.specs.Policy.{IsEnabledWant, PolicyOf, asks_home_to_change, awaits_home, draining_at_last, due_at_last, has, held_back, is_busy_now}
-use Rattle.sci_policy.specs.Policy.{is_cread, kept_by, next_policy, next_wanted, noted, refused_by, ruled, set_of, still_draining, still_due, ticked}
+use Rattle.sci_policy.specs.declared.{decision.Decision.TheVariants.{Keep, Refuse, Serve}, policy.TheConstants.{PATIENCE}}
+use Rattle.sci_policy.specs.declared.want.Want.{Want, TheVariants.{Perform, Ask}}
+use Rattle.sci_policy.specs.Lines.{can_be_due, can_drain, has_maker, is_head, state_on}
+use Rattle.sci_policy.specs.Policy.{IsEnabledWant, PolicyOf, asks_home_to_change, awaits_home, decided, draining_at_last, due_at_last, has, held_back}
+use Rattle.sci_policy.specs.Policy.{is_busy_now, is_cread, kept_by, next_policy, next_wanted, noted, refused_by, ruled, set_of}
+use Rattle.sci_policy.specs.Policy.{still_draining, still_due, ticked}
 use Rattle.sci_policy.proofs.{Found.{least_some}, Marks.{in_set, past_set}, Wants.{wanted_enabled}}
 use Rattle.sci_words.specs.declared.event.AskKind.TheVariants as kind
 
@@ -111,10 +113,12 @@ marked_too node marks line drains before = λ other marked. (elim (cases_eq othe
 ])
 
 noted_drains : (policy : PolicyOf) (node : NodeOf) (want : Option Want) → IfSome want (IsEnabledWant node) → CanDrain node policy.draining
-    → CanDrain node (noted policy want).draining
+    → CanDrain node (noted policy node want).draining
 noted_drains policy node None enabled before = before
 noted_drains policy node (Some (Perform line)) enabled before = before
 noted_drains policy node (Some (Ask line kind.Purge)) enabled before = marked_too node policy.draining line (purge_enabled node line enabled) before
+noted_drains policy node (Some (Ask line kind.Mread)) enabled before = before
+noted_drains policy node (Some (Ask line kind.Fread)) enabled before = before
 noted_drains policy node (Some (Ask line _)) enabled before = before
 
 pub draining_purges : (policy : PolicyOf) (node : NodeOf) (line : ℕ) → has (next_policy policy node).draining line ≡ true
@@ -125,11 +129,13 @@ draining_purges policy node = noted_drains (ticked policy node) node (next_wante
 -- ---- due lines
 
 -- what is wanted changes no mark of a due line
-noted_due : (policy : PolicyOf) (want : Option Want) → (noted policy want).due ≡ policy.due
-noted_due policy None = refl
-noted_due policy (Some (Perform line)) = refl
-noted_due policy (Some (Ask line kind.Purge)) = refl
-noted_due policy (Some (Ask line _)) = refl
+pub noted_due : (policy : PolicyOf) (node : NodeOf) (want : Option Want) → (noted policy node want).due ≡ policy.due
+noted_due policy node None = refl
+noted_due policy node (Some (Perform line)) = refl
+noted_due policy node (Some (Ask line kind.Purge)) = refl
+noted_due policy node (Some (Ask line kind.Mread)) = refl
+noted_due policy node (Some (Ask line kind.Fread)) = refl
+noted_due policy node (Some (Ask line _)) = refl
 
 sharers_due : (state : CacheState) → has_fresh_sharers state ≡ true → can_be_due state ≡ true
 sharers_due (FreshHead (Some f) c) h = refl
@@ -153,7 +159,7 @@ ticked_due policy node line false = in_due node (due_at_last policy node) line
 
 pub due_claims : (policy : PolicyOf) (node : NodeOf) (line : ℕ) → has (next_policy policy node).due line ≡ true → can_be_due (state_on node line) ≡ true
 due_claims policy node line marked =
-    let ticks = subst (λ (marks : List Bool). has marks line ≡ true) (noted_due (ticked policy node) (next_wanted policy node)) marked in
+    let ticks = subst (λ (marks : List Bool). has marks line ≡ true) (noted_due (ticked policy node) node (next_wanted policy node)) marked in
     ticked_due policy node line (nat_lt (policy.patience + 1) PATIENCE) ticks
 
 ticked_stays : (policy : PolicyOf) (node : NodeOf) (line : ℕ) (b : Bool) → line < MAX_LINES → still_due policy node line ≡ true
@@ -166,7 +172,7 @@ pub due_stays : (policy : PolicyOf) (node : NodeOf) (line : ℕ) → line < MAX_
     → has (next_policy policy node).due line ≡ true
 due_stays policy node line small due claims =
     let still : still_due policy node line ≡ true = rw (due, claims) refl in
-    subst (λ (marks : List Bool). has marks line ≡ true) (sym (noted_due (ticked policy node) (next_wanted policy node)))
+    subst (λ (marks : List Bool). has marks line ≡ true) (sym (noted_due (ticked policy node) node (next_wanted policy node)))
     (ticked_stays policy node line (nat_lt (policy.patience + 1) PATIENCE) small still)
 
 -- ---- requests that are kept
@@ -197,3 +203,31 @@ pub kept_awaits_home : (policy : PolicyOf) (node : NodeOf) (request : Letter) �
 kept_awaits_home policy node request zero kept =
     let why = (and_parts (is_cread request.body && not (request.source == node.cache.me)) _ kept).1 in
     in_last_turn (awaits_home (state_on node request.line)) (is_busy_now (state_on node request.line) || refused_by policy node request) policy.turns zero why
+
+-- ---- requests that are served
+
+pub kept_no : (c o a t b r : Bool) → a ≡ false → b ≡ false → r ≡ false → ((c && o) && (a || (t && (b || r)))) ≡ false
+kept_no c o a t b r one two three = search rules
+
+pub serve_if : (k r : Bool) → k ≡ false → r ≡ false → (if k then Keep else if r then Refuse else Serve) ≡ Serve
+serve_if k r one two = search rules
+
+head_awaits : (s : CacheState) → is_head s ≡ true → awaits_home s ≡ false
+head_awaits s head = search rules
+
+head_busy : (s : CacheState) → is_head s ≡ true → is_busy_now s ≡ false
+head_busy s head = search rules
+
+used_no : (c drains head maker used : Bool) → drains ≡ false → used ≡ true → (c && (drains || (head && (maker && not used)))) ≡ false
+used_no c drains head maker used none is = search rules
+
+pub used_given : (policy : PolicyOf) (node : NodeOf) (request : Letter) → is_head (state_on node request.line) ≡ true
+    → has policy.used request.line ≡ true → still_draining policy node request.line ≡ false → decided policy node request ≡ Serve
+used_given policy node request head used drains =
+    let s = state_on node request.line in
+    let refused : refused_by policy node request ≡ false =
+    used_no (is_cread request.body) (still_draining policy node request.line) (is_head s) (has_maker node request.line) (has policy.used request.line) drains
+    used in
+    let kept : kept_by policy node request ≡ false =
+    kept_no (is_cread request.body) _ (awaits_home s) _ (is_busy_now s) (refused_by policy node request) (head_awaits s head) (head_busy s head) refused in
+    serve_if (kept_by policy node request) (refused_by policy node request) kept refused

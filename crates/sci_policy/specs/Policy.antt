@@ -22,6 +22,8 @@ pub record PolicyOf : Type 0 where
   pub draining : List Bool
   -- for each line whether it is due: it is to be claimed, for others than its own operations, until it was
   pub due : List Bool
+  -- for each line whether it was used: since the node asked for it, it was Head when an operation there could be performed
+  pub used : List Bool
   -- how often it was asked what comes next, since something could be performed or patience ended
   pub patience : ℕ
   -- the turns, counted modulo PATIENCE
@@ -37,7 +39,14 @@ abbrev pub set_of : (ℕ → Bool) → List Bool
 set_of test = map test (range_with_len 0 MAX_LINES)
 
 abbrev pub opening_policy : PolicyOf
-opening_policy = record { draining = replicate MAX_LINES false; due = replicate MAX_LINES false; patience = 0; turns = 0; served = None }
+opening_policy = record {
+  draining = replicate MAX_LINES false;
+  due = replicate MAX_LINES false;
+  used = replicate MAX_LINES false;
+  patience = 0;
+  turns = 0;
+  served = None;
+}
 
 -- ---- patience
 
@@ -154,10 +163,16 @@ wanted policy node = held_back (some_line node (λ line. joins (state_on node li
 
 -- ---- what a want leaves behind
 
-abbrev pub noted : PolicyOf → Option Want → PolicyOf
-noted policy (Some (Perform line)) = record policy { patience = 0 }
-noted policy (Some (Ask line kind.Purge)) = record policy { draining = slice_set policy.draining line true }
-noted policy _ = policy
+-- where something can be performed, each Head on which it can is used
+abbrev pub used_now : PolicyOf → NodeOf → ℕ → Bool
+used_now policy node line = has policy.used line || (is_head (state_on node line) && is_some (node_performing node line))
+
+abbrev pub noted : PolicyOf → NodeOf → Option Want → PolicyOf
+noted policy node (Some (Perform line)) = record policy { used = set_of (used_now policy node); patience = 0 }
+noted policy node (Some (Ask line kind.Purge)) = record policy { draining = slice_set policy.draining line true }
+noted policy node (Some (Ask line kind.Mread)) = record policy { used = slice_set policy.used line false }
+noted policy node (Some (Ask line kind.Fread)) = record policy { used = slice_set policy.used line false }
+noted policy node _ = policy
 
 -- what the policy wants next, after one call more
 abbrev pub next_wanted : PolicyOf → NodeOf → Option Want
@@ -165,7 +180,7 @@ next_wanted policy node = wanted (ticked policy node) node
 
 -- and the policy then
 abbrev pub next_policy : PolicyOf → NodeOf → PolicyOf
-next_policy policy node = noted (ticked policy node) (next_wanted policy node)
+next_policy policy node = noted (ticked policy node) node (next_wanted policy node)
 
 -- ---- requests of others
 
@@ -173,10 +188,14 @@ abbrev pub is_cread : Body → Bool
 is_cread Cread = true
 is_cread _ = false
 
--- a request is refused: a Cread for a line that is draining, or that a maker of the head itself waits for
+-- a line that its node doesn't give away yet: it is Head, a maker waits for it, and it wasn't used
+abbrev pub is_held : PolicyOf → NodeOf → ℕ → Bool
+is_held policy node line = is_head (state_on node line) && (has_maker node line && not (has policy.used line))
+
+-- a request is refused: a Cread for a line that is draining, or held
 abbrev pub refused_by : PolicyOf → NodeOf → Letter → Bool
 refused_by policy node request =
-    is_cread request.body && (still_draining policy node request.line || (is_head (state_on node request.line) && has_maker node request.line))
+    is_cread request.body && (still_draining policy node request.line || is_held policy node request.line)
 
 -- a line that awaits its home's word on its list
 abbrev pub awaits_home : CacheState → Bool

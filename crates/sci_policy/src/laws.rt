@@ -5,9 +5,9 @@ ghost use Rattle.sci_words.specs.declared.{limits.TheConstants.{MAX_LINES}, even
 ghost use Rattle.sci_packets.specs.declared.body.Body.TheVariants.{Cread};
 ghost use Rattle.sci_cache.specs.{Cache.{Letter}, Kinds.{joins}};
 ghost use Rattle.sci_core.specs.Node.{NodeOf, lines_of};
-ghost use Rattle.sci_policy.specs.declared.want.Want.TheVariants.{Ask};
-ghost use Rattle.sci_policy.specs.Lines.{can_be_due, can_drain, has_pending, least, oldest, serial_on, state_on};
-ghost use Rattle.sci_policy.specs.Policy.{PolicyOf, awaits_home, has, kept_by, next_policy, next_wanted};
+ghost use Rattle.sci_policy.specs.declared.{decision.Decision.TheVariants.{Serve}, want.Want.TheVariants.{Ask}};
+ghost use Rattle.sci_policy.specs.Lines.{can_be_due, can_drain, has_pending, is_head, least, oldest, serial_on, state_on};
+ghost use Rattle.sci_policy.specs.Policy.{PolicyOf, awaits_home, decided, has, kept_by, next_policy, next_wanted, still_draining};
 
 /// The least line of which something is true is one of them, and stands before all others.
 pub fn the_least_line_comes_first()
@@ -60,6 +60,14 @@ pub fn due_lines_stay_due()
         → line < MAX_LINES → has policy.due line ≡ true
         → can_be_due (state_on node line) ≡ true
         → has (next_policy policy node).due line ≡ true }
+{}
+
+/// A Head that was used, and that isn't draining, is given to the next node that asks, though a maker waits for it. So a node
+/// that always has one more store to a line doesn't keep it from the others.
+pub fn used_lines_are_given_away()
+    ensures { (policy : PolicyOf) (node : NodeOf) (request : Letter)
+        → is_head (state_on node request.line) ≡ true → has policy.used request.line ≡ true
+        → still_draining policy node request.line ≡ false → decided policy node request ≡ Serve }
 {}
 
 /// A request that is kept is a Cread of another node.

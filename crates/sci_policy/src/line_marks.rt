@@ -35,6 +35,13 @@ impl LineMarks {
         }
     }
 
+    /// The set of these lines.
+    pub(crate) fn of(set: LineSet) -> LineMarks
+        ensures { result ≡ set_of (is_in set) }
+    {
+        LineMarks { set }
+    }
+
     /// A set of the same lines.
     pub(crate) fn copy(&self) -> LineMarks
         ensures { result ≡ self.now }

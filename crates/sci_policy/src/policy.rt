@@ -27,6 +27,7 @@ pub const PATIENCE: u8 = 64;
 pub struct Policy {
     draining: LineMarks,
     due: LineMarks,
+    used: LineMarks,
     patience: u8,
     turns: u8,
     served: Option<u8>,
@@ -39,7 +40,7 @@ impl Model for Policy {
 
     ghost Value = { PolicyOf };
 
-    ghost view = { λ policy. record { draining = policy.draining; due = policy.due; patience = policy.patience; turns = policy.turns; served = policy.served } };
+    ghost view = { λ policy. record { draining = policy.draining; due = policy.due; used = policy.used; patience = policy.patience; turns = policy.turns; served = policy.served } };
 }
 
 impl Policy {
@@ -47,17 +48,18 @@ impl Policy {
     ghost use Rattle.sci_cache.specs.Cache.{letter_of};
     ghost use Rattle.sci_core.specs.Reached.{IsReachedNode};
     ghost use Rattle.sci_policy.specs.Policy.{IsEnabledWant, PolicyOf, decided, first_sender, has as has_line, kept_by, next_policy, next_wanted, noted};
-    ghost use Rattle.sci_policy.specs.Policy.{opening_policy, perform_wanted as perform_wanted_by, refused_by, still_draining, draining_at_last};
-    ghost use Rattle.sci_policy.specs.{Policy.{due_at_last, set_of, still_due, ticked, turned, wanted}, Rest.{MayRest}};
+    ghost use Rattle.sci_policy.specs.Policy.{is_held, opening_policy, perform_wanted as perform_wanted_by, refused_by, still_draining, draining_at_last};
+    ghost use Rattle.sci_policy.specs.{Policy.{due_at_last, set_of, still_due, ticked, turned, used_now, wanted}, Rest.{MayRest}};
 
-    /// The policy of a node that has done nothing: no line is draining or due, no turn was counted, and no request was
-    /// served.
+    /// The policy of a node that has done nothing: no line is draining, due or used, no turn was counted, and no request
+    /// was served.
     pub fn new() -> Policy
         ensures { result ≡ opening_policy }
     {
         Policy {
             draining: LineMarks::new(),
             due: LineMarks::new(),
+            used: LineMarks::new(),
             patience: 0,
             turns: 0,
             served: None,
@@ -71,6 +73,7 @@ impl Policy {
         Policy {
             draining: self.draining.copy(),
             due: self.due.copy(),
+            used: self.used.copy(),
             patience: self.patience,
             turns: self.turns,
             served: self.served,
@@ -87,7 +90,7 @@ impl Policy {
     {
         self.tick(node);
         let want = self.wanted(node);
-        self.note(want);
+        self.note(node, want);
         want
     }
 
@@ -158,14 +161,27 @@ impl Policy {
     }
 
     /// Remembers what it wants.
-    fn note(&mut self, want: Option<Want>)
-        ensures { self.new ≡ noted self.old want }
+    fn note(&mut self, node: &Node, want: Option<Want>)
+        ensures { self.new ≡ noted self.old node.now want }
     {
         match want {
-            Some(Want::Perform(_)) => self.patience = 0,
+            Some(Want::Perform(_)) => {
+                self.used = self.used_now(node);
+                self.patience = 0;
+            }
             Some(Want::Ask(line, AskKind::Purge)) => self.draining.put(line, true),
-            _ => {}
+            Some(Want::Ask(line, AskKind::Mread | AskKind::Fread)) => self.used.put(line, false),
+            Some(_) | None => {}
         }
+    }
+
+    /// The lines that are used where something can be performed.
+    fn used_now(&self, node: &Node) -> LineMarks
+        ensures { result ≡ set_of (used_now self.now node.now) }
+    {
+        let ready = LineMarks::of(node.pending_lines()).filter(|line| is_head(node, line)
+            && node.may_perform(line));
+        self.used.union(ready.lines())
     }
 
     /// The lines that are draining.
@@ -184,16 +200,23 @@ impl Policy {
         self.due.lines()
     }
 
-    /// Whether a request is refused: a Cread for a line that is draining, or that is Head while a maker of this node is
-    /// pending on it.
+    /// Whether a request is refused: a Cread for a line that is draining; or for one that is Head, while a maker of this
+    /// node is pending on it, until the line was used: it was Head, and an operation there could be performed, when `next`
+    /// wanted to perform something, and the node didn't read the line since then.
     pub fn refuses(&self, node: &Node, request: &Packet) -> bool
         ensures { result ≡ refused_by self.now node.now (letter_of request.now) }
     {
         let Some(line) = cread_line(node, request) else {
             return false;
         };
-        (self.draining.has(line) && can_drain(node, line))
-            || (is_head(node, line) && has_maker(node, line))
+        (self.draining.has(line) && can_drain(node, line)) || self.holds(node, line)
+    }
+
+    /// Whether the node doesn't give a line away yet.
+    fn holds(&self, node: &Node, line: u8) -> bool
+        ensures { result ≡ is_held self.now node.now line }
+    {
+        is_head(node, line) && has_maker(node, line) && !self.used.has(line)
     }
 
     /// Whether a request stays where it is for now, to be looked at again in a later turn: another node's Cread for a line

@@ -10,9 +10,9 @@ use std::alloc::AllocError;
 /// from 0. No call waits for another thread.
 ///
 /// Submit, then perform what can be performed, and then take a turn, again and again, as a round of `sci_drive` does. A
-/// caller that submits between a Perform and the turn after it can starve other nodes. If it stores to one line again and
-/// again, a store is pending there in every turn, and the node lets no other have the line. And a caller has to perform
-/// what a turn calls ready: until then the node asks for nothing.
+/// caller has to perform what a turn calls ready: until then the node asks for nothing. One that always has one more store
+/// to a line doesn't keep it from other nodes, whether it submits before it performs or after: once the line was used,
+/// the next node that asks gets it.
 pub trait Worker {
     ghost use Rattle.std.specs.Prelude.{◌≡◌, ◌++◌, true, List, [], ◌∷◌, Some, None, IfOk, IfErr, IfSome, IsErr};
     ghost use Rattle.sci_core.specs.{Node.{NodeOf, node_performing}, Work.{IsIssued, IsLogged}};

@@ -104,6 +104,14 @@ impl<N: Nodes + Drop> Busy<N> {
         Ok(())
     }
 
+    /// Whether a node has performed all its operations.
+    pub(crate) fn has_done(&self, node: u8) -> bool {
+        match self.scripts.get(usize::from(node)) {
+            Some(script) => script.performed >= script.ops.len(),
+            None => false,
+        }
+    }
+
     /// Whether every operation was performed.
     pub(crate) fn is_done(&self) -> bool {
         self.scripts

@@ -2,6 +2,7 @@
 //! machine under a lock.
 
 use crate::busy::Busy;
+use crate::given;
 use crate::locked::Locked;
 use crate::nodes::Nodes;
 use crate::running::Running;
@@ -295,4 +296,36 @@ fn a_contended_line_goes_round(rt: HostRuntime) -> Result<(), Fail> {
         assert!(rt; taken <= most, "{nodes} nodes take {taken} packets");
     }
     Ok(())
+}
+
+/// Node 1 has always one more store to line 0, and an older load of line 1, for which it has no slot. It comes 65 times as often
+/// as node 0, and takes its turns so that its policy lets requests go when line 0 has come back, and a store waits there. Node 0
+/// wants to store to line 0 once. It waited for all 100 stores before a line that was used was given away.
+#[test]
+fn a_node_that_stores_on_starves_no_other(rt: HostRuntime) -> Result<(), Fail> {
+    let alloc = rt.alloc();
+    let nodes = Locked::of(&rt, alloc, (2, 2, 1), 200)?;
+    let mut busy = Busy::new(alloc, nodes, 2, 2)?;
+    busy.add(0, given::op(WRITE))?;
+    busy.add(1, given::op(WRITE))?;
+    busy.add(
+        1,
+        Op {
+            line: 1,
+            word: 0,
+            act: Act::Load,
+        },
+    )?;
+    for _store in 0..100 {
+        busy.add(1, given::op(WRITE))?;
+    }
+    busy.go_all(&[1, 0, 1, 1])?;
+    busy.go_all(&[1; 60])?;
+    busy.go_all(&[0, 0, 1])?;
+    for _window in 0..3 {
+        busy.go_all(&[1; 63])?;
+        busy.go_all(&[0, 1])?;
+    }
+    assert_eq!(rt; busy.has_done(0), true);
+    busy.end(alloc, &[0, 1])
 }

@@ -6,8 +6,8 @@ use Rattle.std.proofs.lemmas.{Bool.{cases_eq, eq-eqb, ne_eqb}, List.{length-map,
 use Rattle.sci_words.specs.declared.operation.Op.{Op}
 use Rattle.sci_text.specs.{Schedule.{ScheduleValue}, Script.{IsScript, ScriptValue, count_of, operations_of}}
 use Rattle.sci_core.specs.Size.{IsMachineSize}
-use Rattle.sci_fair.specs.Steady.{HasWindows, WorksByTurns}
-use Rattle.sci_fair.proofs.{Ahead.{windows_on}, Descents.{windows_fewer}, Few.{sum_to}, Stretches.{opening_works}}
+use Rattle.sci_fair.specs.{Steady.{HasWindows, WorksByTurns}, Steps.{most_changes}}
+use Rattle.sci_fair.proofs.{Ahead.{windows_on}, Descents.{windows_fewer}, Few.{sum_to}, Works.{opening_works}}
 use Rattle.sci_drive.specs.{declared.driver.Issuing.{Issuing}, Driving.{DriverOf}, ScriptLogs.{size_for}}
 use Rattle.sci_runs.specs.{Played.{Begins, IsPlayed, Moment, driver_at}, Recorded.{with_limit}, Turns.{finishing_windows, first_order, order_after, turns_in}}
 use Rattle.sci_runs.proofs.{Circles.{turns_both}, Ending.{first_stands, no_driver, not_done}, Finishing.{circle_windows, ends_before, left, played_turns}}
@@ -94,7 +94,7 @@ finishes script issuing seed rounds false schedule good played windows =
     let works : WorksByTurns first.core = subst WorksByTurns (sym begins.core) (opening_works (with_limit begins.limit (size_for script)) sized) in
     let turns = played_turns script good begins.limit begins.room rounds (first_order seed) played.order first played.last stands works played.played in
     let some = left_first script good issuing first begins in
-    let each = 46 * script.lines * nodes + 1 in
+    let each = most_changes (size_for script) + 1 in
     let fewer : (left script good begins.limit begins.room first + 1) * each * 1253 ≤ finishing_windows script =
     mul-le-mul_right 1253 (mul-le-mul_right each (omega (arith, some))) in
     absurd (ends_before script good begins.limit begins.room (turns_in nodes rounds (first_order seed)) first played.last stands works turns

@@ -19,10 +19,10 @@ use Rattle.sci_policy.specs.{Deeds.{Deed, DoesBy, Issues, Performs, Turns}, Poli
 use Rattle.sci_locked.specs.Lent.{KeepsRoom}
 use Rattle.sci_turn.specs.{Posts.{post_at}, Whole.{IsWholeTurn}}
 use Rattle.sci_fair.specs.{Between.{AreShort}, Lanes.{IsWork}, Later.{IsLaterTurn, NothingPends}, Rank.{CannotPerform}}
-use Rattle.sci_fair.specs.Steady.{AreTurns, HasWindows, IsTurnAlone, Working, WorksByTurns}
-use Rattle.sci_fair.proofs.{Few.{sum_least, sum_less, sum_to}, Stretches.{Advances, Changes, Tries, has_still, turn_works, work_good}}
+use Rattle.sci_fair.specs.{Steady.{AreTurns, HasWindows, IsTurnAlone, Working, WorksByTurns}, Steps.{most_changes}}
+use Rattle.sci_fair.proofs.{Few.{sum_least, sum_less, sum_to}, Stretches.{Advances, Changes, Tries, has_still}, Works.{turn_works, work_good}}
 use Rattle.sci_fair.proofs.{Descents.{turns_join}, Standstill.{steady_none}, SteadyTurns.{turned_alone}, Suits.{cannot_by}}
-use Rattle.sci_drive.specs.{Calls.{Call, IsOpen, reports}, Driving.{DriverOf, IsAnswered, IsDriven}}
+use Rattle.sci_drive.specs.{Calls.{Call, IsOpen, reports}, Driving.{DriverOf, IsAnswered, IsDriven}, ScriptLogs.{size_for}}
 use Rattle.sci_drive.specs.Rounds.{AllSubmitted, ArePerformed, IsHeldBack, LineIsTaken, NoRoom, NoneNow, NotAllowed, OneMore, Refused, Submits, performed}
 use Rattle.sci_runs.specs.{declared.order.Order.{Order}, Deeds.{IsDeed, IsTurnDone, Standing, post_on, standing}}
 use Rattle.sci_runs.specs.Played.{AwaitsEntries, IsRound, Moment, Played, course_at, driver_at, policy_at}
@@ -484,14 +484,12 @@ module _ (script : ScriptValue) (good : IsScript script) (limit : ℕ)
 
   -- among this many windows is a stretch in which nothing is left to do
   pub ends_before : (order : List ℕ) (first last : Moment) → Stands script limit first → WorksByTurns first.core → AreTurns Goes_on order first last
-      → HasWindows script.nodes ((left first + 1) * (46 * script.lines * script.nodes + 1) * 1253) order → AwaitsEntries last → ⊥
+      → HasWindows script.nodes ((left first + 1) * (most_changes (size_for script) + 1) * 1253) order → AwaitsEntries last → ⊥
   ends_before order first last stands works turns windows awaits =
       let size = first.core.size in
       let nodes = nodes_are first stands in
-      let lines : size.lines ≡ script.lines = ap (λ (z : Size). z.lines) stands.size in
-      let all : HasWindows size.nodes ((left first + 1) * (46 * size.lines * size.nodes + 1) * 1253) order =
-      subst (λ (k : ℕ). HasWindows k ((left first + 1) * (46 * size.lines * k + 1) * 1253) order) (sym nodes)
-      (subst (λ (l : ℕ). HasWindows script.nodes ((left first + 1) * (46 * l * script.nodes + 1) * 1253) order) (sym lines) windows) in
+      let all : HasWindows size.nodes ((left first + 1) * (most_changes size + 1) * 1253) order =
+      subst (λ (z : Size). HasWindows z.nodes ((left first + 1) * (most_changes z + 1) * 1253) order) (sym stands.size) windows in
       let still = has_still 1253 steady_none at left Goes_on advances order first last works turns all in
       let end = still.end in
       let stopped = stops still.still still.begin end still.turns still.kept still.rests in

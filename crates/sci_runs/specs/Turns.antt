@@ -3,6 +3,8 @@ use Rattle.std.specs.Prelude.{◌<◌, ◌≤◌, ◌==◌, ◌+◌, ◌*◌, �
 use Rattle.sci_chance.specs.Drawing.{after, drawn, seeded}
 use Rattle.sci_words.specs.declared.limits.TheConstants.{MAX_EVENTS}
 use Rattle.sci_text.specs.Script.{ScriptValue}
+use Rattle.sci_drive.specs.ScriptLogs.{size_for}
+use Rattle.sci_fair.specs.Steps.{most_changes}
 use Rattle.sci_policy.specs.declared.policy.TheConstants.{PATIENCE}
 use Rattle.sci_runs.specs.declared.order.Order.{Order, TheVariants.{Circle, Drawn}}
 
@@ -43,4 +45,4 @@ circle_turns nodes = PATIENCE * nodes * (MAX_EVENTS + 1)
 -- As many windows of turns, in each of which each node has one, as finish a script whatever comes: an operation is issued and
 -- performed, so that as much is done at most 2 times its operations, and between two such rounds machines change few times.
 abbrev pub finishing_windows : ScriptValue → ℕ
-finishing_windows script = (2 * length script.operations + 1) * (46 * script.lines * script.nodes + 1) * 1253
+finishing_windows script = (2 * length script.operations + 1) * (most_changes (size_for script) + 1) * 1253

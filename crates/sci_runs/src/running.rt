@@ -46,7 +46,7 @@ pub struct Run {
 /// always enough: then the run is done, or has too many events.
 ///
 /// And it is done in a time that depends on its size alone, however many events there may be: with S operations on L lines of
-/// N nodes, (2S + 1)(46LN + 1) times 1,253 windows are enough. A window is a stretch of turns in which each node has one; in a
+/// N nodes, (2S + 1)(141LN + 1) times 1,253 windows are enough. A window is a stretch of turns in which each node has one; in a
 /// circle it is one turn of each node.
 ///
 /// The same script and plan give the same run. Refused if memory is, or if there are more than 500,000 events.

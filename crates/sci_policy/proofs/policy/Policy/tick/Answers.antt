@@ -29,7 +29,14 @@ pub returns-then-self-lt-PATIENCE : goal.returns-then-self-lt-PATIENCE
 returns-then-self-lt-PATIENCE c =
     let node = c.args.node.now in
     let fields = c.self.inside in
-    let policy : PolicyOf = record { draining = fields.draining; due = fields.due; patience = fields.patience; turns = fields.turns; served = fields.served } in
+    let policy : PolicyOf = record {
+      draining = fields.draining;
+      due = fields.due;
+      used = fields.used;
+      patience = fields.patience;
+      turns = fields.turns;
+      served = fields.served;
+    } in
     let drains = c.still_draining-self-inside.ensures ∙ ap (λ (p : PolicyOf). set_of (still_draining p node)) (sym c.self.view_is) in
     still policy node c.still_draining-self-inside.result c.still_due-self-inside.result c.if-self-lt-PATIENCE.true drains c.still_due-self-inside.ensures
     ∙ ap (λ (p : PolicyOf). ticked p node) c.self.view_is
@@ -38,7 +45,14 @@ pub returns-else-self-lt-PATIENCE : goal.returns-else-self-lt-PATIENCE
 returns-else-self-lt-PATIENCE c =
     let node = c.args.node.now in
     let fields = c.self.inside in
-    let policy : PolicyOf = record { draining = fields.draining; due = fields.due; patience = fields.patience; turns = fields.turns; served = fields.served } in
+    let policy : PolicyOf = record {
+      draining = fields.draining;
+      due = fields.due;
+      used = fields.used;
+      patience = fields.patience;
+      turns = fields.turns;
+      served = fields.served;
+    } in
     let drains = c.draining_at_last-self-inside.ensures ∙ ap (λ (p : PolicyOf). set_of (draining_at_last p node)) (sym c.self.view_is) in
     at_last policy node c.draining_at_last-self-inside.result c.due_at_last-self-inside.result c.if-self-lt-PATIENCE.false drains
     c.due_at_last-self-inside.ensures
