@@ -1,7 +1,6 @@
 -- Between two Performs few steps change the rank of a line: each that does makes the machine worth less, and no step makes it worth more.
 use Rattle.std.proofs.Common.{◌≡◌, ◌≢◌, ◌≤◌, ◌<◌, ◌+◌, ◌*◌, ◌&&◌, if◌then◌else◌, ℕ, zero, suc, Bool, true, false, arith, rules, List, [], ◌∷◌}
 use Rattle.std.proofs.Common.{Option, Some, None, Ok, refl, sym, ap, subst, ◌∙◌, inl, inr}
-use Rattle.std.proofs.Math.Nat.{mul-suc}
 use Rattle.std.proofs.lemmas.{Bool.{cases_Bool, cases_eq, cases_lt}, List.{get_or_past}}
 use Rattle.sci_words.specs.{declared.{event.Event.{Event, TheVariants.{Issue}}, operation.Op.{Op}}, Operation.{is_maker}}
 use Rattle.sci_cache.specs.{State.{CacheState}, Cache.{CacheOf, line_of}}
@@ -16,50 +15,7 @@ use Rattle.sci_fair.specs.Rank.{CannotPerform, can_perform, counts_use, level, l
 use Rattle.sci_fair.specs.{Steady.{IsTurnAlone, Working, WorksByTurns, level_at}, Steps.{AreSteps, HasChanged, IsStep, Issues, Turns, most_changes}}
 use Rattle.sci_fair.proofs.{FirstWants.{performs_can}, RankTables.{issue_lowers, level_rank, level_within}, ReadCarries.{changed_by, issued_cache}}
 use Rattle.sci_fair.proofs.{ReadSteps.{changed_out}, SteadyTurns.{Turned, level_fewer, turned_alone}, Used.{next_marks}}
-use Rattle.sci_fair.proofs.{WholeTurns.{turned_level}, Works.{work_good}}
-
--- ---- sums
-
--- the sum of a number for each below a bound
-abbrev pub sum_to : (ℕ → ℕ) → ℕ → ℕ
-sum_to f zero = 0
-sum_to f (suc k) = sum_to f k + f k
-
-pub sum_least : (f g : ℕ → ℕ) (k : ℕ) → ((i : ℕ) → i < k → f i ≤ g i) → sum_to f k ≤ sum_to g k
-sum_least f g zero each = omega arith
-sum_least f g (suc k) each =
-    let rest = sum_least f g k (λ i lt. each i (omega (arith, lt))) in
-    let last = each k (omega arith) in
-    omega (arith, rest, last)
-
-pub sum_less : (f g : ℕ → ℕ) (k i : ℕ) → ((j : ℕ) → j < k → f j ≤ g j) → i < k → f i < g i → sum_to f k < sum_to g k
-sum_less f g zero i each lt less = absurd (omega (arith, lt))
-sum_less f g (suc k) i each lt less = elim (cases_lt i k) [
-  | inl low ↦
-      let rest = sum_less f g k i (λ j below. each j (omega (arith, below))) low less in
-      let last = each k (omega arith) in
-      omega (arith, rest, last)
-  | inr high ↦
-      let same : i ≡ k = omega (arith, lt, high) in
-      let here : f k < g k = subst (λ (j : ℕ). f j < g j) same less in
-      let rest = sum_least f g k (λ j below. each j (omega (arith, below))) in
-      omega (arith, rest, here)
-]
-
-sum_most : (f : ℕ → ℕ) (most k : ℕ) → ((i : ℕ) → f i ≤ most) → sum_to f k ≤ most * k
-sum_most f most zero each = omega arith
-sum_most f most (suc k) each =
-    let rest = sum_most f most k each in
-    let last = each k in
-    let more = mul-suc most k in
-    omega (arith, rest, last, more)
-
--- what is the same in the sum is the same in each part, if none is higher
-pub sum_same : (f g : ℕ → ℕ) (k i : ℕ) → ((j : ℕ) → j < k → f j ≤ g j) → sum_to f k ≡ sum_to g k → i < k → f i ≡ g i
-sum_same f g k i each same lt = elim (cases_lt (f i) (g i)) [
-  | inl less ↦ (let falls = sum_less f g k i each lt less in absurd (omega (arith, falls, same)))
-  | inr high ↦ (let low = each i lt in omega (arith, low, high))
-]
+use Rattle.sci_fair.proofs.{Sums.{sum_least, sum_less, sum_most, sum_same, sum_to}, WholeTurns.{turned_level}, Works.{work_good}}
 
 -- ---- what a node's lines are worth
 

@@ -29,7 +29,7 @@ use Rattle.sci_fair.specs.{Lanes.{changes_list}, Rank.{rank, work_on}, Retries.{
 use Rattle.sci_fair.proofs.Ahead.{Ahead, Amid, InLane, after_it, earlier, fewer, on_from}
 use Rattle.sci_fair.proofs.{Descents.{turns_part, windows_fewer}, HomeAnswers.{awaits_sent}}
 use Rattle.sci_fair.proofs.{AnswersGo.{Since, since_step}, Awaiting.{Awaits, ask_no_accept, await_all, taking_no_accept}}
-use Rattle.sci_fair.proofs.{Joins.{coming_is, coming_links, leading_links, none_needy, taker_keeps}, Kept.{Class, IsIn, is_needy, needy}}
+use Rattle.sci_fair.proofs.{Comers.{coming_is, coming_links, leading_links}, Joins.{none_needy, taker_keeps}, Kept.{Class, IsIn, is_needy, needy}}
 use Rattle.sci_fair.proofs.LaneTurns.{among_gained, among_tail, asks_keep, take_answers}
 use Rattle.sci_fair.proofs.{Promised.{never_on}, ReadSteps.{refuses_cread, refuses_it, replied_sent}}
 use Rattle.sci_fair.proofs.Requests.{LetterTaken, request_taken, size_along, stands_in}

@@ -20,6 +20,7 @@ pub mod Whereabouts
 pub mod SteadyTurns
 pub mod Betweens
 pub mod Works
+pub mod Sums
 pub mod Few
 pub mod Awaiting
 pub mod LaneTurns
@@ -27,15 +28,18 @@ pub mod HomeAnswers
 pub mod Descents
 pub mod Fronts
 pub mod Requests
+pub mod AnswersCome
 pub mod SteadyLaws
 pub mod Retries
 pub mod Kept
 pub mod HeldUp
+pub mod Markings
 pub mod Patience
 pub mod FirstWants
 pub mod Ahead
 pub mod Sharers
 pub mod Promised
+pub mod Comers
 pub mod Joins
 pub mod Homes
 pub mod Standstill

@@ -19,8 +19,8 @@ use Rattle.sci_turn.specs.Moves.{taking_event}
 use Rattle.sci_fair.specs.{Rank.{rank, work_on}, Steady.{AreSteadyTurns, HasWindows, Working, WorksByTurns}}
 use Rattle.sci_fair.specs.Retries.{is_tried_once}
 use Rattle.sci_fair.proofs.{Awaiting.{accepted_idle, same_rank}, Followers.{purge_finds}, Kept.{IsIn, kept_along, kept_in, once}, LaneTurns.{among_stands}}
-use Rattle.sci_fair.proofs.{ReadSteps.{refuses_cread, refuses_it}, Requests.{AnswerTurn, answer_within, request_taken, stands_in}}
-use Rattle.sci_fair.proofs.Requests.{size_along}
+use Rattle.sci_fair.proofs.{ReadSteps.{refuses_cread, refuses_it}, AnswersCome.{AnswerTurn, answer_within}}
+use Rattle.sci_fair.proofs.Requests.{request_taken, size_along, stands_in}
 use Rattle.sci_fair.proofs.{StateSteps.{serve_one}, Steadied.{IsSteady}}
 use Rattle.sci_fair.proofs.{SteadyTurns.{Held}, Whereabouts.{in_lane, lane_packets}, WholeTurns.{request_alone, sent_purge, sole}}
 use Rattle.sci_words.specs.declared.event.Event.TheVariants as event

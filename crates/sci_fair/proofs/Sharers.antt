@@ -13,7 +13,7 @@ use Rattle.sci_policy.proofs.Wants.{wanted_enabled}
 use Rattle.sci_fair.specs.Steady.{IsSteadyTurn, Working, WorksByTurns}
 use Rattle.sci_fair.proofs.Ahead.{Ahead, Amid, asked_at_last, asked_now, earlier, fewer, firm, firm_asked, firm_before, performs_none, purges_none}
 use Rattle.sci_fair.proofs.{FirstWants.{PerformsNot, wants_purge}, HeldUp.{Asks_it, IsFree, Performs_it, Wants_none}}
-use Rattle.sci_fair.proofs.{Patience.{MarkedTurn, Stopped, draining, marked_turn, still_marked}}
+use Rattle.sci_fair.proofs.{Markings.{draining, still_marked}, Patience.{MarkedTurn, Stopped, marked_turn}}
 use Rattle.sci_fair.proofs.{ReadCarries.{asks_free}, Requests.{size_along}, SteadyTurns.{Held}}
 use Rattle.sci_words.specs.declared.event.AskKind.TheVariants as kind
 

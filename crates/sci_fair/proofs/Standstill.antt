@@ -26,7 +26,8 @@ use Rattle.sci_fair.proofs.{Descents.{turns_join, turns_part, windows_fewer, win
 use Rattle.sci_fair.proofs.HeldUp.{Asks_it, FreeTurn, IsFree, Performs_it, Wants_none, free_turn}
 use Rattle.sci_fair.proofs.{Homes.{none_changes}, Joins.{none_needy}}
 use Rattle.sci_fair.proofs.Kept.{Class, has_fresh_next, is_needy, kept_along, kept_in, needy, not_draining, once}
-use Rattle.sci_fair.proofs.{Patience.{MarkedTurn, Stopped, due, fresh_due, marked_turn, still_due_marked}, Promised.{As_it_is, By_answer, SettlesTo, settles}}
+use Rattle.sci_fair.proofs.Markings.{due, fresh_due, still_due_marked}
+use Rattle.sci_fair.proofs.{Patience.{MarkedTurn, Stopped, marked_turn}, Promised.{As_it_is, By_answer, SettlesTo, settles}}
 use Rattle.sci_fair.proofs.{Requests.{good_along, size_along}, Retries.{never_once}}
 use Rattle.sci_fair.proofs.{Sharers.{asks_it, lines_small, no_sharers, none_purged, performs_not}, SteadyTurns.{Held}}
 use Rattle.sci_words.specs.declared.event.AskKind.TheVariants as kind

@@ -11,7 +11,7 @@ use Rattle.sci_core.proofs.{Step.Places.{place_from, place_requests}, Tidy.{Tidy
 use Rattle.sci_policy.specs.Lines.{state_on}
 use Rattle.sci_fair.specs.Steady.{AreSteadyTurns, HasTurn, HasWindows, IsSteadyTurn, Working, WorksByTurns}
 use Rattle.sci_fair.proofs.{Descents.{Comes}, HomeAnswers.{AnsweredAt}, LaneTurns.{among_stands}}
-use Rattle.sci_fair.proofs.Requests.{AnswerTurn, LetterTaken, answer_within, request_taken, size_along, stands_in, taken_answered}
+use Rattle.sci_fair.proofs.{AnswersCome.{AnswerTurn, answer_within, taken_answered}, Requests.{LetterTaken, request_taken, size_along, stands_in}}
 use Rattle.sci_fair.specs.Retries.{is_tried_once}
 use Rattle.sci_fair.proofs.Retries.{never_once, never_purge}
 use Rattle.sci_fair.proofs.{Whereabouts.{in_lane, lane_packets, same_packet}, WholeTurns.{sole}}

@@ -1,5 +1,5 @@
 -- A run is done in time: at its start two things are left to do for each operation, and no more.
-use Rattle.std.proofs.Common.{◌≡◌, ◌≤◌, ◌<◌, ◌+◌, ◌-◌, ◌*◌, ◌==◌, ℕ, zero, suc, Bool, true, false, arith, cond, List, [], ◌∷◌, length, filter}
+use Rattle.std.proofs.Common.{◌≡◌, ◌≤◌, ◌+◌, ◌-◌, ◌*◌, ◌==◌, ℕ, zero, suc, Bool, true, false, arith, cond, List, [], ◌∷◌, length, filter}
 use Rattle.std.proofs.Common.{Option, None, refl, sym, ap, subst, ◌∙◌, inl, inr}
 use Rattle.std.proofs.Math.Nat.{mul-le-mul_right}
 use Rattle.std.proofs.lemmas.{Bool.{cases_eq, eq-eqb, ne_eqb}, List.{length-map, Sums.{length-filter, sum_by-cons}}}
@@ -7,16 +7,12 @@ use Rattle.sci_words.specs.declared.operation.Op.{Op}
 use Rattle.sci_text.specs.{Schedule.{ScheduleValue}, Script.{IsScript, ScriptValue, count_of, operations_of}}
 use Rattle.sci_core.specs.Size.{IsMachineSize}
 use Rattle.sci_fair.specs.{Steady.{HasWindows, WorksByTurns}, Steps.{most_changes}}
-use Rattle.sci_fair.proofs.{Ahead.{windows_on}, Descents.{windows_fewer}, Few.{sum_to}, Works.{opening_works}}
+use Rattle.sci_fair.proofs.{Ahead.{windows_on}, Descents.{windows_fewer}, Sums.{sum_double, sum_plus, sum_to, sum_zero}, Works.{opening_works}}
 use Rattle.sci_drive.specs.{declared.driver.Issuing.{Issuing}, Driving.{DriverOf}, ScriptLogs.{size_for}}
 use Rattle.sci_runs.specs.{Played.{Begins, IsPlayed, Moment, driver_at}, Recorded.{with_limit}, Turns.{finishing_windows, first_order, order_after, turns_in}}
 use Rattle.sci_runs.proofs.{Circles.{turns_both}, Ending.{first_stands, no_driver, not_done}, Finishing.{circle_windows, ends_before, left, played_turns}}
 
 -- ---- each operation is one node's
-
-sum_plus : (f g h : ℕ → ℕ) (k : ℕ) → ((i : ℕ) → h i ≡ f i + g i) → sum_to h k ≡ sum_to f k + sum_to g k
-sum_plus f g h zero each = refl
-sum_plus f g h (suc k) each = let rest = sum_plus f g h k each in let last = each k in omega (arith, rest, last)
 
 no_one : (p nodes : ℕ) → nodes ≤ p → sum_to (λ n. cond (p == n) 1 0) nodes ≡ 0
 no_one p zero le = refl
@@ -38,10 +34,6 @@ at_most_one p (suc nodes) = elim (cases_eq p nodes) [
       omega (arith, rest, last)
 ]
 
-sum_zero : (f : ℕ → ℕ) (k : ℕ) → ((i : ℕ) → f i ≡ 0) → sum_to f k ≡ 0
-sum_zero f zero none = refl
-sum_zero f (suc k) none = let rest = sum_zero f k none in let last = none k in omega (arith, rest, last)
-
 counts_within : (nodes : ℕ) (operations : List (ℕ × Op)) → sum_to (λ n. count_of n operations) nodes ≤ length operations
 counts_within nodes [] = (let none = sum_zero (λ n. count_of n []) nodes (λ n. refl) in omega (arith, none))
 counts_within nodes (p ∷ operations) =
@@ -56,13 +48,6 @@ own_long n operations =
     length-map (filter (λ (p : ℕ × Op). p.0 == n) operations) (λ (p : ℕ × Op). p.1) ∙ length-filter (λ (p : ℕ × Op). p.0 == n) operations
 
 -- ---- at the start
-
-sum_double : (f g : ℕ → ℕ) (k : ℕ) → ((i : ℕ) → i < k → f i ≤ 2 * g i) → sum_to f k ≤ 2 * sum_to g k
-sum_double f g zero each = omega arith
-sum_double f g (suc k) each =
-    let rest = sum_double f g k (λ i lt. each i (omega (arith, lt))) in
-    let last = each k (omega arith) in
-    omega (arith, rest, last)
 
 left_first : (script : ScriptValue) (good : IsScript script) (issuing : Issuing) (first : Moment) (begins : Begins script issuing first)
     → left script good begins.limit begins.room first ≤ 2 * length script.operations

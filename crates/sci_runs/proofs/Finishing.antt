@@ -20,7 +20,7 @@ use Rattle.sci_locked.specs.Lent.{KeepsRoom}
 use Rattle.sci_turn.specs.{Posts.{post_at}, Whole.{IsWholeTurn}}
 use Rattle.sci_fair.specs.{Between.{AreShort}, Lanes.{IsWork}, Later.{IsLaterTurn, NothingPends}, Rank.{CannotPerform}}
 use Rattle.sci_fair.specs.{Steady.{AreTurns, HasWindows, IsTurnAlone, Working, WorksByTurns}, Steps.{most_changes}}
-use Rattle.sci_fair.proofs.{Few.{sum_least, sum_less, sum_to}, Stretches.{Advances, Changes, Tries, has_still}, Works.{turn_works, work_good}}
+use Rattle.sci_fair.proofs.{Sums.{sum_least, sum_less, sum_to}, Stretches.{Advances, Changes, Tries, has_still}, Works.{turn_works, work_good}}
 use Rattle.sci_fair.proofs.{Descents.{turns_join}, Standstill.{steady_none}, SteadyTurns.{turned_alone}, Suits.{cannot_by}}
 use Rattle.sci_drive.specs.{Calls.{Call, IsOpen, reports}, Driving.{DriverOf, IsAnswered, IsDriven}, ScriptLogs.{size_for}}
 use Rattle.sci_drive.specs.Rounds.{AllSubmitted, ArePerformed, IsHeldBack, LineIsTaken, NoRoom, NoneNow, NotAllowed, OneMore, Refused, Submits, performed}
