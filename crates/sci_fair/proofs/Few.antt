@@ -81,15 +81,15 @@ kept_ready p q node next line cannot can lower =
 -- ---- an Issue
 
 -- what an Issue leaves of its node
-record Issued (old new : Core) (n : ℕ) (op : Op) : Type 0 where
-  some : n < old.size.nodes
-  others : (m : ℕ) → m ≢ n → node_at new m ≡ node_at old m
-  state : (line : ℕ) → state_on (node_at new n) line ≡ state_on (node_at old n) line
-  was : work_on (node_at old n) op.line ≡ None
-  now : work_on (node_at new n) op.line ≡ Some (is_maker op)
-  work : (line : ℕ) → line ≢ op.line → work_on (node_at new n) line ≡ work_on (node_at old n) line
-  inside : op.line < old.size.lines
-  size : new.size ≡ old.size
+pub record Issued (old new : Core) (n : ℕ) (op : Op) : Type 0 where
+  pub some : n < old.size.nodes
+  pub others : (m : ℕ) → m ≢ n → node_at new m ≡ node_at old m
+  pub state : (line : ℕ) → state_on (node_at new n) line ≡ state_on (node_at old n) line
+  pub was : work_on (node_at old n) op.line ≡ None
+  pub now : work_on (node_at new n) op.line ≡ Some (is_maker op)
+  pub work : (line : ℕ) → line ≢ op.line → work_on (node_at new n) line ≡ work_on (node_at old n) line
+  pub inside : op.line < old.size.lines
+  pub size : new.size ≡ old.size
 
 pub size_of_step : (core new : Core) (e : Event) → IsReached core → stepping core e ≡ Some new → new.size ≡ core.size
 size_of_step core new e reached steps = size_either {T = ℕ} {E = ℕ} (Ok 0) core new e reached steps (λ refused. (let clash : false ≡ true = refused in cc))
@@ -107,7 +107,7 @@ pending_inside core n line p reached some is = elim (cases_lt line core.size.lin
       cc
 ]
 
-issued : (old new : Core) (n : ℕ) (op : Op) → IsReached old → stepping old (Issue n op) ≡ Some new → Issued old new n op
+pub issued : (old new : Core) (n : ℕ) (op : Op) → IsReached old → stepping old (Issue n op) ≡ Some new → Issued old new n op
 issued old new n op reached steps =
     let some = some_node old new (Issue n op) steps in
     let node = node_at old n in

@@ -22,6 +22,7 @@ pub mod Betweens
 pub mod Works
 pub mod Sums
 pub mod Few
+pub mod Waiting
 pub mod Awaiting
 pub mod LaneTurns
 pub mod HomeAnswers

@@ -10,3 +10,4 @@ pub mod Steady
 pub mod Retries
 pub mod Steps
 pub mod Later
+pub mod Waiting

@@ -1,11 +1,11 @@
 //! While something is pending, turns don't go on for long until an operation is performed.
 
-ghost use Rattle.std.specs.Prelude.{◌≡◌, ◌+◌, ◌*◌, ℕ, List, Some};
+ghost use Rattle.std.specs.Prelude.{◌≡◌, ◌≤◌, ◌+◌, ◌*◌, ℕ, IsSome, List, Some};
 ghost use Rattle.sci_words.specs.declared.event.Event.{Event};
-ghost use Rattle.sci_core.specs.{Core.{Core, opening, stepping}, Draining.{IsDrained}, Reached.{IsReached}, Size.{IsMachineSize, Size}};
+ghost use Rattle.sci_core.specs.{Core.{Core, node_at, opening, stepping}, Draining.{IsDrained}, Node.{pending_on}, Reached.{IsReached}, Size.{IsMachineSize, Size}};
 ghost use Rattle.sci_fair.specs.{Lanes.{IsWork}, Later.{HasRest, IsCountedTurn, NothingPends, Remaining}};
 ghost use Rattle.sci_fair.specs.Steady.{AreSteadyTurns, AreTurns, HasWindows, IsTurnAlone, Working, WorksByTurns};
-ghost use Rattle.sci_fair.specs.Steps.{most_changes};
+ghost use Rattle.sci_fair.specs.{Steps.{most_changes}, Waiting.{AreTurnsBeside}};
 
 /// A machine that opens works by turns, and one in which nothing is under way. So does one after a whole turn that a node takes
 /// by itself and that leaves no lane longer than four, after an Issue, and after a Perform.
@@ -35,4 +35,13 @@ pub fn operations_are_performed()
         → HasWindows first.working.core.size.nodes ((first.performs + 1)
         * (most_changes first.working.core.size + 1) * 1253) order
         → HasRest order first last }
+{}
+
+/// An operation that waits loses nothing to others. Until it is performed at most 104 turns change the rank of its line, whatever
+/// is issued and performed meanwhile, and in whatever order nodes take whole turns, each by itself and when it can perform
+/// nothing. All other turns leave the line as it is, or only try.
+pub fn waiting_operations_lose_nothing()
+    ensures { (n line changes : ℕ) (order : List ℕ) (first last : Working) → WorksByTurns first.core
+        → IsSome (pending_on (node_at first.core n) line)
+        → AreTurnsBeside n line changes order first last → changes ≤ 104 }
 {}
