@@ -991,8 +991,8 @@ sci_status sci_logs_entry(const sci_logs *logs, uint8_t node, size_t place, sci_
 sci_status sci_logs_audit(const sci_logs *logs, sci_verdict *verdict);
 
 /** Audits logs whose last contents aren't known, as those of a simulation that was cut off. kind is SCI_LAWFUL exactly if the logs are
-** lawful with some last contents. Else the verdict is the first fault of the lowest line that has one,
-** whatever the last contents are. So it is never SCI_LAST_DIFFERS, and the last contents that the logs have don't count (sci_windows::audit_cut_off).
+** lawful with some last contents. Else the verdict is the first fault of the lowest line that has one, whatever the last contents are. So it
+** is never SCI_LAST_DIFFERS, and the last contents that the logs have don't count (sci_windows::audit_cut_off).
 **
 **   - SCI_OK
 **   - SCI_NO_MEMORY
@@ -1117,15 +1117,16 @@ sci_status sci_scoreboard_tell(sci_scoreboard *scoreboard, const sci_entry *entr
 ** @{ */
 
 /** Judges a trace: whether some versions explain the operations at each address, as logs that are lawful, and if that is asked, whether
-** one order of all operations does. Those of a processor stand in its order. An address without a last word may end with any. The judge
-** says of the lowest address that isn't coherent, or of which nothing was found, why not. ids are those of the operations that it names,
-** over the first numbers, as many as there is room for; named may be more (sci_judge::judge and consistency_of).
+** one order of all operations does. Those of a processor stand in its order. An address without a last word may end with any. The
+** verdict is about the lowest address that isn't coherent, or of which nothing was found. The ids of the operations that it names are
+** written over the first numbers, as many as there is room for; named may be more (sci_judge::judge and consistency_of).
 **
 ** The verdict holds, but it need not come: SCI_UNDECIDED, SCI_VERSIONS_UNKNOWN and SCI_CONSISTENCY_UNKNOWN say nothing. sciview judge
 ** says the same of the same trace, with a limit of 1,000,000.
 **
 **   - SCI_OK          judgement is written, and ids.
-**   - SCI_RANGE       A processor is above 15, a kind above 2, or an end before its beginning; or two last words are given at one address.
+**   - SCI_RANGE       A processor is above 15, a kind above 2, or an end before its beginning; or two last words at one address
+**                   differ.
 **   - SCI_NO_MEMORY */
 sci_status sci_trace_judge(const sci_access *accesses, size_t count, const sci_last_word *last, size_t last_count, const sci_trace_way *way,
     sci_judgement *judgement, uint64_t *ids, size_t room);
