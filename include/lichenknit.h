@@ -18,9 +18,9 @@
 **
 ** All else is looked at. Any number may be passed in any field, and what can't be done is answered by a status.
 **
-** MEMORY AND STACK. A call takes memory only if SCI_NO_MEMORY is among its statuses. sci_logs_explain and
-** sci_logs_wanted take at most 48 KB of stack; sci_logs_read and sci_machine_logs 32 KB; those that open, clone or replay 24 KB;
-** sci_logs_audit, sci_logs_order and sci_logs_order_kind 20 KB; all others 6 KB.
+** MEMORY AND STACK. A call takes memory only if SCI_NO_MEMORY is among its statuses. sci_logs_explain,
+** sci_logs_wanted and sci_trace_judge take at most 48 KB of stack; sci_logs_read and sci_machine_logs 32 KB; those that open, clone or
+** replay and sci_logs_audit_cut_off 24 KB; sci_logs_audit, sci_logs_order and sci_logs_order_kind 20 KB; all others 6 KB.
 **
 ** THE PROCESSOR. The library that `make library` builds needs an x86-64 processor of level v2, with SSE4.2, and doesn't look for
 ** one: an older processor ends the program by SIGILL. That of an archive by `make dist` needs any x86-64 processor.
@@ -30,7 +30,7 @@
 ** they come in this order: SCI_MISUSE, the faults of a packet's bytes, SCI_RANGE, SCI_NOT_ENABLED, SCI_FULL, SCI_NO_MEMORY. The
 ** functions that read a struct of a packet have an order of their own. sci_logs_order, sci_logs_explain, sci_machine_sharing and those
 ** that end in _write need memory to know how much room they want, so SCI_FULL comes last there. sci_logs_explain, sci_logs_wanted,
-** sci_logs_read and sci_machine_replay answer what they meet first.
+** sci_logs_read, sci_machine_replay and sci_trace_judge answer what they meet first.
 */
 #ifndef LICHENKNIT_H
 #define LICHENKNIT_H
@@ -316,6 +316,83 @@ typedef struct sci_verdict {
     uint32_t serial;
 } sci_verdict;
 
+/** What an operation of a trace did, in sci_access.kind. */
+enum sci_access_kind {
+    SCI_ACCESS_LOAD = 0,  /**< it read read */
+    SCI_ACCESS_STORE = 1, /**< it wrote wrote */
+    SCI_ACCESS_ATOMIC = 2 /**< it read read and wrote wrote, with nothing between the two */
+};
+
+/** An operation of a trace without versions. A word that its kind doesn't have isn't looked at. */
+typedef struct sci_access {
+    uint8_t processor; /**< below 16 */
+    uint8_t kind;
+    uint16_t reserved;  /**< not looked at */
+    uint32_t reserved2; /**< not looked at */
+    uint64_t address;   /**< each one is a word of memory */
+    uint64_t read;
+    uint64_t wrote;
+    uint64_t begin; /**< when it began, or 0 if that isn't known */
+    uint64_t end;   /**< when it had ended, or UINT64_MAX if that isn't known; not before begin */
+    uint64_t id;    /**< the caller's number of it: its place in the trace, say. A verdict names the operation by it */
+} sci_access;
+
+/** The last word at an address. */
+typedef struct sci_last_word {
+    uint64_t address;
+    uint64_t word;
+} sci_last_word;
+
+/** How a trace is judged. */
+typedef struct sci_trace_way {
+    uint32_t timed;   /**< if it isn't 0, what ended before another operation at its address began has to stand before it */
+    uint32_t ordered; /**< if it isn't 0, one order of all operations of a coherent trace is looked for */
+    uint64_t limit;   /**< how many choices a search makes at most: for such an order, and at an address where a word is written twice */
+} sci_trace_way;
+
+/** What is found of a trace, in sci_judgement.kind. */
+enum sci_judgement_kind {
+    SCI_COHERENT = 0,     /**< some versions explain the operations at each address, and the last word there, if it is given */
+    SCI_NOT_COHERENT = 1, /**< none explain those at sci_judgement.address */
+    SCI_UNDECIDED = 2     /**< neither was found of those at sci_judgement.address */
+};
+
+/** Whether other versions explain a coherent trace as well, in sci_judgement.freedom. */
+enum sci_freedom {
+    SCI_VERSIONS_FORCED = 0, /**< none do, at any address */
+    SCI_VERSIONS_FREE = 1,   /**< others do, at some address */
+    SCI_VERSIONS_UNKNOWN = 2 /**< neither was found */
+};
+
+/** Whether one order of all operations explains a coherent trace, in sci_judgement.consistency. */
+enum sci_consistency {
+    SCI_CONSISTENCY_UNASKED = 0,
+    SCI_CONSISTENCY_SEQUENTIAL = 1,     /**< one does */
+    SCI_CONSISTENCY_CYCLE = 2,          /**< none does: each operation that is named comes before the next one, and the last before the first */
+    SCI_CONSISTENCY_NOT_SEQUENTIAL = 3, /**< none does, as no other versions explain the trace */
+    SCI_CONSISTENCY_UNKNOWN = 4
+};
+
+/** What shows that operations at an address aren't coherent, in sci_judgement.witness. */
+enum sci_witness {
+    SCI_WITNESS_NONE = 0,
+    SCI_WITNESS_UNWRITTEN = 1,      /**< nobody wrote the word that the operation found */
+    SCI_WITNESS_UNWRITTEN_LAST = 2, /**< nobody wrote the last word */
+    SCI_WITNESS_EARLY = 3,          /**< the first operation leaves the word that the second one, a store, writes later */
+    SCI_WITNESS_CIRCLE = 4,         /**< by these operations a word would stand before itself */
+    SCI_WITNESS_ROUND = 5           /**< the first operation comes before itself: before the next one, and so on, and the last before it */
+};
+
+/** What the judge says of a trace. What the kind doesn't have is 0. */
+typedef struct sci_judgement {
+    uint32_t kind;
+    uint32_t freedom;
+    uint32_t consistency;
+    uint32_t witness;
+    uint64_t address;
+    uint64_t named; /**< how many operations it names: those of the witness, or of the cycle */
+} sci_judgement;
+
 /** The kinds of faults of a text, in sci_text_fault.kind. */
 enum sci_text_kind { SCI_TEXT_SYNTAX = 1, SCI_TEXT_RANGE = 2, SCI_TEXT_TOO_MANY = 3 };
 
@@ -371,8 +448,8 @@ uint32_t sci_version(void);
 ** the library has them. */
 void sci_layout(uint64_t sizes[8]);
 
-/** The same of sci_held, sci_home, sci_seen, sci_want and sci_dead. */
-void sci_layout_more(uint64_t sizes[5]);
+/** The same of sci_held, sci_home, sci_seen, sci_want, sci_dead, sci_access, sci_last_word, sci_trace_way and sci_judgement. */
+void sci_layout_more(uint64_t sizes[9]);
 
 /** A short text in English, also for a number that is no status. It is static. */
 const char *sci_status_text(sci_status status);
@@ -913,6 +990,15 @@ sci_status sci_logs_entry(const sci_logs *logs, uint8_t node, size_t place, sci_
 **   - SCI_MISUSE      The object keeps no logs. */
 sci_status sci_logs_audit(const sci_logs *logs, sci_verdict *verdict);
 
+/** Audits logs whose last contents aren't known, as those of a simulation that was cut off. kind is SCI_LAWFUL exactly if the logs are
+** lawful with some last contents. Else the verdict is the first fault of the lowest line that has one, whatever the last contents are. So it
+** is never SCI_LAST_DIFFERS, and the last contents that the logs have don't count (sci_windows::audit_cut_off).
+**
+**   - SCI_OK
+**   - SCI_NO_MEMORY
+**   - SCI_MISUSE      The object keeps no logs. */
+sci_status sci_logs_audit_cut_off(const sci_logs *logs, sci_verdict *verdict);
+
 /** Writes what is wrong with the logs over the first bytes, and how many: what sciview explain writes of the text of sci_logs_write.
 ** Of each line that has a fault it has the entry at fault, what it found, the word that one memory of one thread gives and who made
 ** it, and the entries around it; it names lines of that text. Of lawful logs it is one line. The bytes after it stay, and no zero
@@ -1023,6 +1109,27 @@ sci_status sci_scoreboard_contents(const sci_scoreboard *scoreboard, uint8_t lin
 **                     Or it is a load of a version that the line has left: sci_logs_audit judges it at the end.
 **   - SCI_MISUSE      The object keeps no scoreboard. */
 sci_status sci_scoreboard_tell(sci_scoreboard *scoreboard, const sci_entry *entry, sci_verdict *verdict);
+
+/** @} */
+
+/** @name Traces
+** What the processors of a machine did, without versions. Nothing is kept between two calls.
+** @{ */
+
+/** Judges a trace: whether some versions explain the operations at each address, as logs that are lawful, and if that is asked, whether
+** one order of all operations does. Those of a processor stand in its order. An address without a last word may end with any. The
+** verdict is about the lowest address that isn't coherent, or of which nothing was found. The ids of the operations that it names are
+** written over the first numbers, as many as there is room for; named may be more (sci_judge::judge and consistency_of).
+**
+** The verdict holds, but it need not come: SCI_UNDECIDED, SCI_VERSIONS_UNKNOWN and SCI_CONSISTENCY_UNKNOWN say nothing. sciview judge
+** says the same of the same trace, with a limit of 1,000,000.
+**
+**   - SCI_OK          judgement is written, and ids.
+**   - SCI_RANGE       A processor is above 15, a kind above 2, or an end before its beginning; or two last words at one address
+**                   differ.
+**   - SCI_NO_MEMORY */
+sci_status sci_trace_judge(const sci_access *accesses, size_t count, const sci_last_word *last, size_t last_count, const sci_trace_way *way,
+    sci_judgement *judgement, uint64_t *ids, size_t room);
 
 /** @} */
 

@@ -75,6 +75,29 @@ SIZE(sci_dead, 12);
 AT(sci_dead, count, 0);
 AT(sci_dead, place, 4);
 AT(sci_dead, obstacle, 8);
+SIZE(sci_access, 56);
+AT(sci_access, processor, 0);
+AT(sci_access, kind, 1);
+AT(sci_access, address, 8);
+AT(sci_access, read, 16);
+AT(sci_access, wrote, 24);
+AT(sci_access, begin, 32);
+AT(sci_access, end, 40);
+AT(sci_access, id, 48);
+SIZE(sci_last_word, 16);
+AT(sci_last_word, address, 0);
+AT(sci_last_word, word, 8);
+SIZE(sci_trace_way, 16);
+AT(sci_trace_way, timed, 0);
+AT(sci_trace_way, ordered, 4);
+AT(sci_trace_way, limit, 8);
+SIZE(sci_judgement, 32);
+AT(sci_judgement, kind, 0);
+AT(sci_judgement, freedom, 4);
+AT(sci_judgement, consistency, 8);
+AT(sci_judgement, witness, 12);
+AT(sci_judgement, address, 16);
+AT(sci_judgement, named, 24);
 SIZE(sci_machine, 16);
 AT(sci_machine, at, 0);
 AT(sci_machine, live, 8);
@@ -82,15 +105,15 @@ SIZE(sci_node, 16);
 SIZE(sci_logs, 16);
 
 int main(void) {
-    const uint64_t here[13] = {
+    const uint64_t here[17] = {
         sizeof(sci_op),         sizeof(sci_event),   sizeof(sci_packet), sizeof(sci_stamped), sizeof(sci_entry), sizeof(sci_verdict),
         sizeof(sci_text_fault), sizeof(sci_machine), sizeof(sci_held),   sizeof(sci_home),    sizeof(sci_seen),  sizeof(sci_want),
-        sizeof(sci_dead),
+        sizeof(sci_dead),       sizeof(sci_access),  sizeof(sci_last_word), sizeof(sci_trace_way), sizeof(sci_judgement),
     };
-    uint64_t there[13] = { 0, 0, 0, 0, 0, 0, 0, 0, 0, 0, 0, 0, 0 };
+    uint64_t there[17] = { 0, 0, 0, 0, 0, 0, 0, 0, 0, 0, 0, 0, 0, 0, 0, 0, 0 };
     sci_layout(there);
     sci_layout_more(there + 8);
-    for (int i = 0; i < 13; i++) {
+    for (int i = 0; i < 17; i++) {
         if (here[i] != there[i]) {
             printf("struct %d has %llu bytes here and %llu there\n", i, (unsigned long long)here[i], (unsigned long long)there[i]);
             return 1;

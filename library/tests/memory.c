@@ -64,6 +64,17 @@ static int run(long refused) {
     uint32_t kind = 9;
     size_t used = 0, length = 0;
     uint32_t events = 0;
+    /* The store buffer. */
+    const sci_access accesses[4] = {
+        { 0, SCI_ACCESS_STORE, 0, 0, 8, 0, 1, 0, UINT64_MAX, 0 },
+        { 0, SCI_ACCESS_LOAD, 0, 0, 16, 0, 0, 0, UINT64_MAX, 1 },
+        { 1, SCI_ACCESS_STORE, 0, 0, 16, 0, 1, 0, UINT64_MAX, 2 },
+        { 1, SCI_ACCESS_LOAD, 0, 0, 8, 0, 0, 0, UINT64_MAX, 3 },
+    };
+    const sci_last_word last_word = { 8, 1 };
+    const sci_trace_way way = { 0, 1, 1000 };
+    sci_judgement judgement;
+    uint64_t ids[4];
     int was_refused = 0;
     left = refused;
 
@@ -120,6 +131,7 @@ static int run(long refused) {
     MAKE(sci_logs_push(&window, &made), window);
     MAKE(sci_logs_set_last(&window, 0, &last), window);
     MAKE(sci_logs_audit(&window, &verdict), window);
+    MAKE(sci_logs_audit_cut_off(&window, &verdict), window);
     MAKE(sci_logs_order(&window, &kind, entries, 4, &used), window);
     MAKE(sci_logs_order_kind(&window, &kind), window);
     MAKE(sci_logs_go_on(&window), window);
@@ -127,7 +139,11 @@ static int run(long refused) {
     MAKE(sci_logs_open(&wrong, 2, 1), wrong);
     MAKE(sci_logs_push(&wrong, &bad), wrong);
     MAKE(sci_logs_wanted(&wrong, &word, &number, &maker), wrong);
+    MAKE(sci_trace_judge(accesses, 4, &last_word, 1, &way, &judgement, ids, 4), wrong);
     left = -1;
+    if (judgement.kind != SCI_COHERENT || judgement.consistency != SCI_CONSISTENCY_CYCLE || judgement.named != 4) {
+        exit(8);
+    }
     if (verdict.kind != SCI_LAWFUL || kind != SCI_ORDER || events == 0 || dead.count != 0) {
         exit(5);
     }

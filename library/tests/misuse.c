@@ -62,6 +62,7 @@ static void no_logs(void *object) {
     EXPECT(sci_logs_count(as_logs(object), 0, &count), SCI_MISUSE);
     EXPECT(sci_logs_entry(as_logs(object), 0, 0, &found), SCI_MISUSE);
     EXPECT(sci_logs_audit(as_logs(object), &verdict), SCI_MISUSE);
+    EXPECT(sci_logs_audit_cut_off(as_logs(object), &verdict), SCI_MISUSE);
     EXPECT(sci_logs_explain(as_logs(object), text, sizeof text, &count), SCI_MISUSE);
     EXPECT(sci_logs_wanted(as_logs(object), &word, &number, &found), SCI_MISUSE);
     EXPECT(sci_logs_order(as_logs(object), &number, &found, 1, &count), SCI_MISUSE);
@@ -313,6 +314,8 @@ static void begun(void) {
     EXPECT(sci_logs_set_last(&kept, 0, &stamped), SCI_OK);
     EXPECT(sci_logs_audit(&kept, &verdict), SCI_OK);
     CHECK(verdict.kind == SCI_LAST_DIFFERS && verdict.line == 0);
+    EXPECT(sci_logs_audit_cut_off(&kept, &verdict), SCI_OK);
+    CHECK(verdict.kind == SCI_LAWFUL);
     EXPECT(sci_logs_push(&kept, &entry), SCI_OK);
     EXPECT(sci_logs_go_on(&kept), SCI_OK);
     EXPECT(sci_logs_count(&kept, 0, &used), SCI_OK);
@@ -370,6 +373,8 @@ static void logs(void) {
     CHECK(used == 1);
     EXPECT(sci_logs_audit(&kept, &verdict), SCI_OK);
     CHECK(verdict.kind == SCI_LAST_DIFFERS && verdict.line == 0 && verdict.has_entry == 0);
+    EXPECT(sci_logs_audit_cut_off(&kept, &verdict), SCI_OK);
+    CHECK(verdict.kind == SCI_LAWFUL && verdict.line == 0 && verdict.has_entry == 0);
     EXPECT(sci_logs_order(&kept, &kind, &found, 1, &used), SCI_OK);
     CHECK(kind == SCI_UNLAWFUL && used == 0);
     kind = 7;

@@ -43,6 +43,17 @@ static sci_op op;
 static uint8_t marks[8], bytes[SCI_PACKET_BYTES], answer[SCI_PACKET_BYTES], text[1 << 16], line[512], list[SCI_MAX_NODES], small, lines;
 static uint64_t words[SCI_PACKET_WORDS];
 static uint32_t number;
+static const sci_access accesses[] = {
+    { 0, SCI_ACCESS_STORE, 0, 0, 8, 0, 1, 0, UINT64_MAX, 0 },
+    { 0, SCI_ACCESS_LOAD, 0, 0, 16, 0, 0, 0, UINT64_MAX, 1 },
+    { 1, SCI_ACCESS_STORE, 0, 0, 16, 0, 1, 0, UINT64_MAX, 2 },
+    { 1, SCI_ACCESS_LOAD, 0, 0, 8, 0, 0, 0, UINT64_MAX, 3 },
+    { 1, SCI_ACCESS_LOAD, 0, 0, 8, 1, 0, 0, UINT64_MAX, 4 },
+    { 1, SCI_ACCESS_LOAD, 0, 0, 8, 0, 0, 0, UINT64_MAX, 5 },
+};
+static const sci_last_word last_word = { 8, 1 };
+static const sci_trace_way way = { 1, 1, 1000 };
+static sci_judgement judgement;
 static size_t used, length, answer_length, written;
 static sci_status status;
 
@@ -67,6 +78,7 @@ static sci_status status;
     CALL(sci_machine_settle, &machine, &number)                                                                \
     CALL(sci_machine_logs, &machine, &logs)                                                                    \
     CALL(sci_logs_audit, &logs, &verdict)                                                                      \
+    CALL(sci_logs_audit_cut_off, &logs, &verdict)                                                              \
     CALL(sci_logs_order, &logs, &number, entries, 64, &used)                                                   \
     CALL(sci_logs_order_kind, &logs, &number)                                                                  \
     CALL(sci_logs_explain, &logs, text, sizeof text, &length)                                                  \
@@ -83,6 +95,7 @@ static sci_status status;
     CALL(sci_logs_set_first, &empty, 0, &stamped)                                                              \
     CALL(sci_logs_first, &empty, 0, &stamped)                                                                  \
     CALL(sci_logs_audit, &empty, &verdict)                                                                     \
+    CALL(sci_logs_audit_cut_off, &empty, &verdict)                                                             \
     CALL(sci_logs_order, &empty, &number, entries, 64, &used)                                                  \
     CALL(sci_logs_order_kind, &empty, &number)                                                                 \
     CALL(sci_logs_go_on, &empty)                                                                               \
@@ -96,6 +109,8 @@ static sci_status status;
     CALL(sci_scoreboard_contents, &board, 0, &stamped)                                                         \
     CALL(sci_scoreboard_begin, &board, 0, &stamped)                                                            \
     CALL(sci_scoreboard_close, &board)                                                                         \
+    CALL(sci_trace_judge, accesses, 4, &last_word, 1, &way, &judgement, words, SCI_PACKET_WORDS)               \
+    CALL(sci_trace_judge, accesses, 6, &last_word, 1, &way, &judgement, words, SCI_PACKET_WORDS)               \
     CALL(sci_packet_encode, &packet, bytes, &length)                                                             \
     CALL(sci_packet_decode, bytes, length, &packet, &used)                                                     \
     CALL(sci_packet_to_words, &packet, words, &used)                                                           \
@@ -176,7 +191,8 @@ static size_t stated(const char *name) {
         { "sci_logs_explain", 48 },  { "sci_logs_read", 32 },      { "sci_machine_logs", 32 }, { "sci_machine_open", 24 },
         { "sci_machine_clone", 24 }, { "sci_machine_replay", 24 }, { "sci_node_open", 24 },    { "sci_node_clone", 24 },
         { "sci_logs_open", 24 },     { "sci_logs_audit", 20 },     { "sci_logs_order", 20 },   { "sci_logs_order_kind", 20 },
-        { "sci_logs_wanted", 48 },   { "sci_scoreboard_open", 24 },
+        { "sci_logs_wanted", 48 },   { "sci_scoreboard_open", 24 }, { "sci_logs_audit_cut_off", 24 },
+        { "sci_trace_judge", 48 },
     };
     for (size_t i = 0; i < sizeof deep / sizeof *deep; i++) {
         if (strcmp(name, deep[i].name) == 0) {

@@ -130,7 +130,7 @@ static void run(uint32_t operations, uint32_t in_a_window) {
 static uint32_t found(uint64_t version, uint64_t word, const sci_entry *load, const sci_entry *add, sci_stamped last) {
     const sci_stamped first = { version, { 0, 0, 0, word, 9, 0, 0, 0 } };
     sci_logs window = SCI_INIT;
-    sci_verdict verdict = { 7, 7, 7, 7, 7 };
+    sci_verdict verdict = { 7, 7, 7, 7, 7 }, cut_off = { 7, 7, 7, 7, 7 };
     sci_entry order[2];
     uint32_t kind = 7;
     size_t used = 7;
@@ -140,6 +140,13 @@ static uint32_t found(uint64_t version, uint64_t word, const sci_entry *load, co
     EXPECT(sci_logs_push(&window, load), SCI_OK);
     EXPECT(sci_logs_set_last(&window, 0, &last), SCI_OK);
     EXPECT(sci_logs_audit(&window, &verdict), SCI_OK);
+    /* the same without last contents, but for them */
+    EXPECT(sci_logs_audit_cut_off(&window, &cut_off), SCI_OK);
+    if (verdict.kind == SCI_LAST_DIFFERS) {
+        CHECK(cut_off.kind == SCI_LAWFUL && cut_off.has_entry == 0);
+    } else {
+        CHECK(memcmp(&cut_off, &verdict, sizeof verdict) == 0);
+    }
     EXPECT(sci_logs_order(&window, &kind, order, 2, &used), SCI_OK);
     CHECK(kind == (verdict.kind == SCI_LAWFUL ? SCI_ORDER : SCI_UNLAWFUL));
     if (kind == SCI_ORDER) {
@@ -191,6 +198,28 @@ static void mistakes(void) {
     sci_entry top = add;
     top.version = end.version;
     CHECK(found(other.version, 42, &other, &top, end) == SCI_LAWFUL);
+}
+
+/* A fault on a line is found behind lines whose last contents differ. */
+static void cut_off(void) {
+    const sci_entry stores[] = { { 0, 0, 0, 0, { SCI_STORE, 0, 3, 0, 0, 42 }, 0, 1 }, { 0, 0, 0, 1, { SCI_STORE, 2, 3, 0, 0, 42 }, 0, 1 } };
+    sci_entry load = { 1, 1, 0, 0, { SCI_LOAD, 2, 3, 0, 0, 0 }, 42, 1 };
+    sci_logs window = SCI_INIT;
+    sci_verdict verdict = { 7, 7, 7, 7, 7 };
+    EXPECT(sci_logs_open(&window, 2, 3), SCI_OK);
+    EXPECT(sci_logs_push(&window, &stores[0]), SCI_OK);
+    EXPECT(sci_logs_push(&window, &stores[1]), SCI_OK);
+    EXPECT(sci_logs_push(&window, &load), SCI_OK);
+    EXPECT(sci_logs_audit_cut_off(&window, &verdict), SCI_OK);
+    CHECK(verdict.kind == SCI_LAWFUL);
+    load.serial = 1;
+    load.word = 41;
+    EXPECT(sci_logs_push(&window, &load), SCI_OK);
+    EXPECT(sci_logs_audit(&window, &verdict), SCI_OK);
+    CHECK(verdict.kind == SCI_LAST_DIFFERS && verdict.line == 0);
+    EXPECT(sci_logs_audit_cut_off(&window, &verdict), SCI_OK);
+    CHECK(verdict.kind == SCI_WRONG_REPLY && verdict.line == 2 && verdict.has_entry == 1 && verdict.node == 1 && verdict.serial == 1);
+    EXPECT(sci_logs_close(&window), SCI_OK);
 }
 
 /* Node 0 is given a request of node 1 about a line, and its answer is dropped. */
@@ -252,6 +281,7 @@ int main(int words, char **arguments) {
     const uint32_t operations = words > 1 ? (uint32_t)strtoul(arguments[1], NULL, 10) : 3000;
     const uint32_t in_a_window = words > 2 ? (uint32_t)strtoul(arguments[2], NULL, 10) : words > 1 ? SCI_MAX_OPERATIONS : 1000;
     mistakes();
+    cut_off();
     started();
     run(operations, in_a_window);
     if (words > 1) {

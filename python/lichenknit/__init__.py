@@ -16,17 +16,20 @@ from .judging import BadTrace, Judgement, judge
 from .logs import Log, Logs
 from .machine import Machine
 from .node import Node
-from .numbers import (LINE_WORDS, MAX_LINES, MAX_NODES, MAX_OPERATIONS, MAX_SLOTS, NO_NODE, PACKET_BYTES, PACKET_WORDS, Act, AskKind, Command,
-                      Decision, EventKind, HomeState, Lane, Obstacle, OrderKind, State, Status, TextKind, VerdictKind, WantKind)
+from .numbers import (LINE_WORDS, MAX_LINES, MAX_NODES, MAX_OPERATIONS, MAX_SLOTS, NO_NODE, PACKET_BYTES, PACKET_WORDS, AccessKind, Act, AskKind, Command,
+                      Consistency, Decision, EventKind, Freedom, HomeState, JudgementKind, Lane, Obstacle, OrderKind, State, Status, TextKind,
+                      VerdictKind, WantKind, Witness)
 from .scoreboard import Scoreboard
+from .traces import Access, TraceVerdict, judge_accesses
 from .values import Contents, Dead, Entry, Event, Held, Home, Op, Order, Packet, Seen, Turn, Verdict, Want, Wanted, packets, size_text
 
 __version__ = "0.1.0"
 __all__ = [
-    "LINE_WORDS", "MAX_LINES", "MAX_NODES", "MAX_OPERATIONS", "MAX_SLOTS", "NO_NODE", "PACKET_BYTES", "PACKET_WORDS", "Act", "AskKind",
-    "BadPacket", "BadText", "BadTrace", "Command", "Contents", "Dead", "Decision", "Entry", "Error", "Event", "EventKind", "Full", "Held", "Home", "HomeState",
-    "Judgement", "Lane", "Log", "Logs", "Machine", "Misuse", "NoMemory", "Node", "NotEnabled", "Obstacle", "Op", "Order", "OrderKind", "OutOfRange", "Packet", "Scoreboard", "Seen",
-    "State", "Status", "TextKind", "Turn", "Verdict", "VerdictKind", "Want", "WantKind", "Wanted", "judge", "library_version", "packets", "size_text",
+    "LINE_WORDS", "MAX_LINES", "MAX_NODES", "MAX_OPERATIONS", "MAX_SLOTS", "NO_NODE", "PACKET_BYTES", "PACKET_WORDS", "Access", "AccessKind", "Act",
+    "AskKind",
+    "BadPacket", "BadText", "BadTrace", "Command", "Consistency", "Contents", "Dead", "Decision", "Entry", "Error", "Event", "EventKind", "Freedom", "Full", "Held", "Home", "HomeState",
+    "Judgement", "JudgementKind", "Lane", "Log", "Logs", "Machine", "Misuse", "NoMemory", "Node", "NotEnabled", "Obstacle", "Op", "Order", "OrderKind", "OutOfRange", "Packet", "Scoreboard", "Seen",
+    "State", "Status", "TextKind", "TraceVerdict", "Turn", "Verdict", "VerdictKind", "Want", "WantKind", "Wanted", "Witness", "judge", "judge_accesses", "library_version", "packets", "size_text",
 ]
 
 

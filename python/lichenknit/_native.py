@@ -55,6 +55,24 @@ class sci_text_fault(Structure):
     _fields_ = [("line", c_uint64), ("kind", c_uint32), ("reserved", c_uint32)]
 
 
+class sci_access(Structure):
+    _fields_ = [("processor", c_uint8), ("kind", c_uint8), ("reserved", c_uint16), ("reserved2", c_uint32), ("address", c_uint64),
+                ("read", c_uint64), ("wrote", c_uint64), ("begin", c_uint64), ("end", c_uint64), ("id", c_uint64)]
+
+
+class sci_last_word(Structure):
+    _fields_ = [("address", c_uint64), ("word", c_uint64)]
+
+
+class sci_trace_way(Structure):
+    _fields_ = [("timed", c_uint32), ("ordered", c_uint32), ("limit", c_uint64)]
+
+
+class sci_judgement(Structure):
+    _fields_ = [("kind", c_uint32), ("freedom", c_uint32), ("consistency", c_uint32), ("witness", c_uint32), ("address", c_uint64),
+                ("named", c_uint64)]
+
+
 class sci_machine(Structure):
     _fields_ = [("at", c_void_p), ("live", c_uint32)]
 
@@ -80,7 +98,7 @@ PACKET_BYTES, PACKET_WORDS = c_uint8 * 88, c_uint64 * 11
 FUNCTIONS = {
     "sci_version": (),
     "sci_layout": (c_uint64 * 8,),
-    "sci_layout_more": (c_uint64 * 5,),
+    "sci_layout_more": (c_uint64 * 9,),
     "sci_status_text": (c_uint32,),
     "sci_status_name": (c_uint32,),
     "sci_command_name": (c_uint32,),
@@ -147,6 +165,7 @@ FUNCTIONS = {
     "sci_logs_count": (LOGS, c_uint8, SIZE),
     "sci_logs_entry": (LOGS, c_uint8, c_size_t, POINTER(sci_entry)),
     "sci_logs_audit": (LOGS, POINTER(sci_verdict)),
+    "sci_logs_audit_cut_off": (LOGS, POINTER(sci_verdict)),
     "sci_logs_explain": (LOGS, U8, c_size_t, SIZE),
     "sci_logs_wanted": (LOGS, U64, U32, POINTER(sci_entry)),
     "sci_logs_order": (LOGS, U32, POINTER(sci_entry), c_size_t, SIZE),
@@ -158,10 +177,12 @@ FUNCTIONS = {
     "sci_scoreboard_begin": (SCOREBOARD, c_uint8, POINTER(sci_stamped)),
     "sci_scoreboard_contents": (SCOREBOARD, c_uint8, POINTER(sci_stamped)),
     "sci_scoreboard_tell": (SCOREBOARD, POINTER(sci_entry), POINTER(sci_verdict)),
+    "sci_trace_judge": (POINTER(sci_access), c_size_t, POINTER(sci_last_word), c_size_t, POINTER(sci_trace_way), POINTER(sci_judgement),
+                        U64, c_size_t),
 }
 ANSWERS = {"sci_layout": None, "sci_layout_more": None, "sci_status_text": c_char_p, **{it: c_char_p for it in FUNCTIONS if it.endswith("_name")}}
 LAYOUT = (sci_op, sci_event, sci_packet, sci_stamped, sci_entry, sci_verdict, sci_text_fault, sci_machine, sci_held, sci_home, sci_seen, sci_want,
-          sci_dead)
+          sci_dead, sci_access, sci_last_word, sci_trace_way, sci_judgement)
 
 
 def opened(path):
@@ -170,7 +191,7 @@ def opened(path):
     for name, takes in FUNCTIONS.items():
         function = getattr(library, name)
         function.argtypes, function.restype = takes, ANSWERS.get(name, c_uint32)
-    sizes, more = (c_uint64 * 8)(), (c_uint64 * 5)()
+    sizes, more = (c_uint64 * 8)(), (c_uint64 * 9)()
     library.sci_layout(sizes)
     library.sci_layout_more(more)
     here = [ctypes.sizeof(it) for it in LAYOUT]

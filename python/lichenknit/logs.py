@@ -154,6 +154,12 @@ class Logs(Owner):
         self._call("audit", verdict)
         return Verdict._of(verdict)
 
+    def audit_cut_off(self) -> Verdict:
+        """The same whatever the last contents are, as of a simulation that was cut off: lawful if the logs are with some last contents."""
+        verdict = _native.sci_verdict()
+        self._call("audit_cut_off", verdict)
+        return Verdict._of(verdict)
+
     def wanted(self) -> Wanted | None:
         """Where the verdict of `audit` is a wrong reply, the word that one memory has there, and the entry that made it; None where it is
         another one."""

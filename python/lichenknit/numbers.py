@@ -201,6 +201,51 @@ class OrderKind(Number):
     UNLAWFUL = 2
 
 
+class AccessKind(Number):
+    """What an operation of a trace did."""
+
+    LOAD = 0
+    STORE = 1
+    ATOMIC = 2
+
+
+class JudgementKind(Number):
+    """What is found of a trace."""
+
+    COHERENT = 0
+    NOT_COHERENT = 1
+    UNDECIDED = 2
+
+
+class Freedom(Number):
+    """Whether other versions explain a coherent trace as well."""
+
+    FORCED = 0
+    FREE = 1
+    UNKNOWN = 2
+
+
+class Consistency(Number):
+    """Whether one order of all operations explains a coherent trace."""
+
+    UNASKED = 0
+    SEQUENTIAL = 1
+    CYCLE = 2
+    NOT_SEQUENTIAL = 3
+    UNKNOWN = 4
+
+
+class Witness(Number):
+    """What shows that operations at an address aren't coherent."""
+
+    NONE = 0
+    UNWRITTEN = 1
+    UNWRITTEN_LAST = 2
+    EARLY = 3
+    CIRCLE = 4
+    ROUND = 5
+
+
 class TextKind(Number):
     """What is wrong with a text."""
 

@@ -10,9 +10,9 @@ import unittest
 from copy import deepcopy
 
 import lichenknit
-from lichenknit import (Act, AskKind, BadPacket, BadText, BadTrace, Command, Contents, Dead, Decision, Entry, Event, Full, HomeState, Lane, Logs,
-                        Machine, Misuse, NoMemory, Node, NotEnabled, Obstacle, Op, OrderKind, OutOfRange, Packet, Scoreboard, State, Status, TextKind,
-                        Verdict, VerdictKind, WantKind, judge, packets, size_text)
+from lichenknit import (Access, Act, AskKind, BadPacket, BadText, BadTrace, Command, Consistency, Contents, Dead, Decision, Entry, Event,
+                        Freedom, Full, HomeState, JudgementKind, Lane, Logs, Machine, Misuse, NoMemory, Node, NotEnabled, Obstacle, Op, OrderKind, OutOfRange, Packet, Scoreboard, State, Status, TextKind,
+                        Verdict, VerdictKind, WantKind, Witness, judge, judge_accesses, packets, size_text)
 
 LOG = "log 2 2 1\nlast 0 @1 7 0 0 0 0 0 0 0\n0 0 store 0 0 7 = - @1\n1 0 load 0 0 = 7 @1\n"
 EXAMPLES = os.path.join(os.path.dirname(os.path.abspath(__file__)), "..", "..", "examples")
@@ -341,6 +341,14 @@ class Log(unittest.TestCase):
         self.assertRaises(OutOfRange, copy.push, Entry(1, 2, Op.load(0, 0), None, 1))
         self.assertEqual(str(Logs.read(example("last-differs.log")).audit()), "last-differs line 0")
 
+    def test_logs_that_were_cut_off_have_any_last_contents(self):
+        with Logs(nodes=1, lines=1) as logs:
+            logs.push(Entry(0, 0, STORE, None, 1))
+            self.assertEqual(logs.audit().kind, VerdictKind.LAST_DIFFERS)
+            self.assertTrue(logs.audit_cut_off())
+            logs.push(Entry(0, 1, STORE, None, 1))
+            self.assertEqual(logs.audit_cut_off().kind, VerdictKind.VERSION_TWICE)
+
     def test_the_word_that_a_wrong_reply_should_have_had(self):
         logs = Logs.read(LOG.replace("= 7 @1", "= 8 @1"))
         self.assertEqual(logs.audit(), Verdict(VerdictKind.WRONG_REPLY, 0, 1, 0))
@@ -445,6 +453,41 @@ class ManyCalls(unittest.TestCase):
 
 
 @unittest.skipUnless(shutil.which(os.environ.get("LICHENKNIT_SCIVIEW") or "sciview"), "sciview is missing")
+class Traces(unittest.TestCase):
+    BUFFER = [Access.store(0, 8, 1), Access.load(0, 16, 0), Access.store(1, 16, 1), Access.load(1, 8, 0)]
+
+    def test_a_coherent_trace(self):
+        found = judge_accesses([Access.store(0, 8, 5), Access.load(1, 8, 5), Access.atomic(1, 8, 5, 6)], {8: 6}, order=True)
+        self.assertTrue(found)
+        self.assertEqual((found.freedom, found.consistency, found.places), (Freedom.FORCED, Consistency.SEQUENTIAL, ()))
+        self.assertIsNone(found.address)
+        self.assertTrue(judge_accesses([]))
+
+    def test_one_order(self):
+        self.assertTrue(judge_accesses(self.BUFFER))
+        found = judge_accesses(self.BUFFER, order=True)
+        self.assertFalse(found)
+        self.assertEqual((found.kind, found.consistency), (JudgementKind.COHERENT, Consistency.CYCLE))
+        self.assertEqual(sorted(found.places), [0, 1, 2, 3])
+
+    def test_a_trace_that_is_not_coherent(self):
+        found = judge_accesses([Access.store(0, 8, 5), Access.load(1, 8, 6)])
+        self.assertEqual((found.kind, found.address, found.witness, found.places), (JudgementKind.NOT_COHERENT, 8, Witness.UNWRITTEN, (1,)))
+        self.assertIsNone(found.freedom)
+        late = [Access.store(0, 8, 5, 100, 110), Access.load(1, 8, 0, 120, 125)]
+        self.assertTrue(judge_accesses(late))
+        self.assertFalse(judge_accesses(late, times=True))
+        self.assertEqual(judge_accesses([Access.store(0, 8, 5)], {8: 4}).witness, Witness.UNWRITTEN_LAST)
+
+    def test_many_operations_are_named(self):
+        chain = [Access.store(0, 8, word) for word in range(1, 30)] + [Access.load(1, 8, word) for word in (29, 1)]
+        self.assertGreater(len(judge_accesses(chain).places), 1)
+
+    def test_what_is_no_operation_is_refused(self):
+        for access in (Access.load(16, 8, 0), Access.load(0, 8, 0, 2, 1), Access.load(0, 1 << 64, 0)):
+            self.assertRaises(OutOfRange, judge_accesses, [access])
+
+
 class Judging(unittest.TestCase):
     def test_a_coherent_trace(self):
         found = judge("0: M[8] := 1\n1: M[8] == 1\n")

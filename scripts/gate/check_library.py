@@ -3,7 +3,8 @@
 
 - the header compiles by itself as C11 and as C++17, without a warning;
 - the header declares the functions that the library has, and no other global name is in it (nm), and each has the parameters of its export in
-  crates/sci_c; the numbers of statuses and the fields of structs are those of crates/sci_c_values;
+  crates/sci_c; the numbers of statuses and the fields of structs are those of crates/sci_c_values
+  and crates/sci_c_traces;
 - the numbers of states, obstacles, commands and kinds of requests are those of the crates, and so are their names in
   library/support.c;
 - the tests of library/tests run, with each allocation refused in turn, and under valgrind;
@@ -26,7 +27,7 @@ from header import HEADER, declared, enum, header, number_of, read, structs  # n
 from tally import Tally  # noqa: E402
 
 CALLS = "200000"
-TESTS = ("layout", "misuse", "texts", "turns", "windows", "adversaries", "memory")
+TESTS = ("layout", "misuse", "texts", "turns", "windows", "traces", "adversaries", "memory")
 C = ["-std=c11", "-Wall", "-Wextra", "-Wpedantic", "-Werror", "-O2"]
 CXX = ["-std=c++17", "-Wall", "-Wextra", "-Wpedantic", "-Werror", "-O2"]
 # What stands in the header and not in the crates.
@@ -111,7 +112,7 @@ def fields_of(body):
 
 
 def check_structs(tally):
-    values, of_header = rattle("sci_c_values"), structs()
+    values, of_header = rattle("sci_c_values") + rattle("sci_c_traces"), structs()
     for name, body in re.findall(r"#\[repr\(C\)\][^{]*pub struct (\w+) \{(.*?)\n\}", values, re.DOTALL):
         wanted = list(fields_of(body))
         tally.count(name, of_header.get(c_name(name)) != wanted and f"{of_header.get(c_name(name))} in the header, and {wanted}")
@@ -183,7 +184,7 @@ def check_programs(tally, cc, room):
     cxx = next((it for it in (os.environ.get("CXX"), "c++", "g++", "clang++") if it and shutil.which(it)), None)
     tally.run("the header as C11", [cc, *C, *flags, "-fsyntax-only", "-x", "c", HEADER])
     made = [(cc, C, f"library/tests/{name}.c", [memory] if name == "memory" else []) for name in TESTS]
-    made += [(cc, C, f"examples/c/{name}.c", []) for name in ("first", "two_nodes", "any_order", "lock_step", "turns", "record", "scoreboard")]
+    made += [(cc, C, f"examples/c/{name}.c", []) for name in ("first", "two_nodes", "any_order", "lock_step", "turns", "record", "scoreboard", "trace")]
     if cxx:
         tally.run("the header as C++17", [cxx, *CXX, *flags, "-fsyntax-only", "-x", "c++", HEADER])
         made += [(cxx, CXX, f"examples/c/{name}.cpp", []) for name in ("two_nodes", "machine")]

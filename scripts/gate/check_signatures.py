@@ -77,6 +77,11 @@ def check_python(tally):
     check_python_enums(tally, numbers)
 
 
+# What the names of an enum begin with in the header alone.
+FRONTS = {"sci_command": "CMD_", "sci_want_kind": "WANT_", "sci_text_kind": "TEXT_", "sci_access_kind": "ACCESS_", "sci_freedom": "VERSIONS_",
+          "sci_consistency": "CONSISTENCY_", "sci_witness": "WITNESS_"}
+
+
 def check_python_enums(tally, numbers):
     """An enum of Python has the header's names without what all of them begin with."""
     for name, wanted in enums().items():
@@ -84,7 +89,7 @@ def check_python_enums(tally, numbers):
             found = {it: getattr(numbers, it, None) for it in wanted}
         else:
             of_python = "".join(it.title() for it in name.removeprefix("sci_").removesuffix("_number").split("_"))
-            front = {"sci_command": "CMD_", "sci_want_kind": "WANT_", "sci_text_kind": "TEXT_"}.get(name, "")
+            front = FRONTS.get(name, "")
             found = {f"{front}{it}": int(number) for it, number in getattr(numbers, of_python).__members__.items()}
             if name == "sci_obstacle":
                 found.pop("ENABLED")
@@ -137,7 +142,7 @@ def check_rust_enums(tally):
         pairs = re.findall(r"(\w+) = SCI_(\w+)", block)
         of_header = next((it for it in enums().values() if pairs and pairs[0][1] in it), {})
         found = [number for _, number in pairs]
-        wrong = [it for it, number in pairs if re.sub(r"^(CMD|TEXT|TO)_", "", number).replace("_", "").lower() != it.lower()]
+        wrong = [it for it, number in pairs if re.sub(r"^(CMD|TEXT|TO|VERSIONS|CONSISTENCY|WITNESS)_", "", number).replace("_", "").lower() != it.lower()]
         lacking = sorted((set(of_header) - {"NO_OBSTACLE"}) ^ set(found))
         tally.count(f"{name} of Rust", (wrong or lacking or not pairs) and f"names {wrong} or {lacking}")
 

@@ -1,5 +1,5 @@
 -- Logs that begin with zeros, and logs that begin with contents that were given.
-use Rattle.std.proofs.Common.{◌≡◌, ◌↔◌, ℕ, ◌+◌, ◌<◌, ◌≤◌, List, Option, Some, None, length, get_or, set, sym, subst, ap, ◌∙◌, arith, inl, inr}
+use Rattle.std.proofs.Common.{◌≡◌, ◌↔◌, ℕ, ◌+◌, ◌<◌, ◌≤◌, List, Option, Some, None, length, replicate, get_or, set, sym, subst, ap, ◌∙◌, arith, inl, inr}
 use Rattle.std.proofs.lemmas.{Bool.{cases_eq, cases_lt}, List.{get_or_past, get_or-set_other, get_or-set_same}}
 use Rattle.std.specs.Prelude.{IfOk, Result, Ok, Err}
 use Rattle.sci_words.specs.{declared.stamped.Stamped.{Stamped}, Stamped.{zero_stamped}}
@@ -9,7 +9,8 @@ use Rattle.sci_history.specs.Sequential.{IsSequentialOrder}
 use Rattle.sci_windows.specs.{declared.window_order.WindowOrder.{WindowOrder}, Order.{IsOrderFrom}, Relative.{AreEarly}, Window.{LawfulFrom}}
 use Rattle.sci_windows.specs.declared.window_order.WindowOrder.TheVariants as orders
 use Rattle.sci_history.specs.declared.verdict.FaultKind.{FaultKind}
-use Rattle.sci_c.specs.Begun.{AreLawfulIn, IsOrderIn}
+use Rattle.sci_windows.specs.CutOff.{IsVerdictCutOff}
+use Rattle.sci_c.specs.{Begun.{AreLawfulIn, IsOrderIn}, Journal.{first_or}}
 
 pub lawful_zeros : (first : Option (List Stamped)) (logs : List (List Entry)) (last : List Stamped) → first ≡ None → AreLawfulIn first logs last
     → Lawful logs last
@@ -48,6 +49,17 @@ pub faulty_begun : (logs seen : List (List Entry)) (first last kept : List Stamp
 faulty_begun logs seen first last kept found line kind at p q r h lawful =
     let fault : IsOrderFrom seen first kept (orders.Fault line kind at) = subst (IsOrderFrom seen first kept) r h in
     fault.unlawful (subst (λ (ls : List (List Entry)). LawfulFrom ls first kept) (sym p) (subst (LawfulFrom logs first) (sym q) lawful) line)
+
+-- what is found of logs that begin with zeros, whatever their last contents are
+pub cut_off_zeros : {E : Type 0} (first : Option (List Stamped)) (logs seen : List (List Entry)) (last from : List Stamped) (lines : ℕ)
+    (found : Result Verdict E) → None ≡ first → seen ≡ logs → lines ≡ length last → from ≡ replicate lines zero_stamped
+    → IfOk found (IsVerdictCutOff seen from) → IfOk found (IsVerdictCutOff logs (first_or (length last) first))
+cut_off_zeros first logs seen last from lines (Ok verdict) none is long zeros h =
+    subst (λ (f : Option (List Stamped)). IsVerdictCutOff logs (first_or (length last) f) verdict) none
+    (subst (λ (n : ℕ). IsVerdictCutOff logs (replicate n zero_stamped) verdict) long
+    (subst (λ (fs : List Stamped). IsVerdictCutOff logs fs verdict) zeros
+    (subst (λ (ls : List (List Entry)). IsVerdictCutOff ls from verdict) is h)))
+cut_off_zeros first logs seen last from lines (Err e) none is long zeros h = h
 
 -- ---- contents line by line
 

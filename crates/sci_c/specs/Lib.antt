@@ -22,5 +22,6 @@ pub mod Seeing
 pub mod Starting
 pub mod Taking
 pub mod Texts
+pub mod Traces
 pub mod Turning
 pub mod Written

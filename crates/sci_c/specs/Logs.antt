@@ -8,6 +8,7 @@ use Rattle.sci_c_values.specs.declared.{entry.SciEntry.{SciEntry}, stamped.SciSt
 use Rattle.sci_c_values.specs.declared.verdict.SciVerdict.{SciVerdict}
 use Rattle.sci_c_values.specs.{Entry.{SaysEntry, entry_struct}, Stamped.{stamped_of, stamped_struct}}
 use Rattle.sci_c_values.specs.Verdict.{verdict_struct}
+use Rattle.sci_windows.specs.CutOff.{IsVerdictCutOff}
 use Rattle.sci_c.specs.{Begun.{IsVerdictOf}, Journal.{JournalOf, FitsJournal, first_of, with_entry, with_first, with_last}, Written.{StandOver}}
 
 -- the entry that the struct says ends its node's log
@@ -55,6 +56,12 @@ pub record IsEntryAt (node place : ℕ) (c : SciEntry) (journal : JournalOf) : T
 pub record IsFound (c : SciVerdict) (journal : JournalOf) : Type 0 where
   pub verdict : Verdict
   pub is_verdict : IsVerdictOf journal verdict
+  pub struct_is : c ≡ verdict_struct verdict
+
+-- what an audit finds whatever the last contents are
+pub record IsFoundCutOff (c : SciVerdict) (journal : JournalOf) : Type 0 where
+  pub verdict : Verdict
+  pub is_verdict : IsVerdictCutOff journal.logs (first_of journal) verdict
   pub struct_is : c ≡ verdict_struct verdict
 
 -- the bytes are a text of the logs, which begin with zeros and have each number within the limits

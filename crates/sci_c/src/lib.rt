@@ -4,6 +4,7 @@
 mod cloning;
 mod closing;
 mod controller;
+mod cut_off;
 mod deciding;
 mod explaining;
 mod handle;
@@ -25,5 +26,6 @@ mod starting;
 mod taking;
 mod texts;
 mod thing;
+mod traces;
 mod turning;
 mod writing;

@@ -3,6 +3,7 @@
 ghost use Rattle.std.specs.Prelude.{◌≡◌, ◌∷◌, []};
 
 use crate::handle::SciObject;
+use sci_c_traces::{SciAccess, SciJudgement, SciLastWord, SciTraceWay};
 use sci_c_values::{
     SciDead, SciEntry, SciEvent, SciHeld, SciHome, SciOp, SciPacket, SciSeen, SciStamped,
     SciTextFault, SciVerdict, SciWant,
@@ -38,6 +39,14 @@ const WANT: usize = size_of::<SciWant>();
 
 const DEAD: usize = size_of::<SciDead>();
 
+const ACCESS: usize = size_of::<SciAccess>();
+
+const LAST_WORD: usize = size_of::<SciLastWord>();
+
+const TRACE_WAY: usize = size_of::<SciTraceWay>();
+
+const JUDGEMENT: usize = size_of::<SciJudgement>();
+
 /// The version of the library.
 #[unsafe(no_mangle)]
 pub extern "C" fn sci_version() -> u32
@@ -63,10 +72,10 @@ pub extern "C" fn sci_layout(sizes: &mut [u64; 8])
     ];
 }
 
-/// Writes the sizes of the structs for looks, for what a policy decides, and for what a schedule didn't do.
+/// Writes the sizes of the structs for looks, for what a policy decides, for what a schedule didn't do, and for traces.
 #[unsafe(no_mangle)]
-pub extern "C" fn sci_layout_more(sizes: &mut [u64; 5])
-    ensures { sizes.new ≡ 80 ∷ 80 ∷ 152 ∷ 4 ∷ 12 ∷ [] }
+pub extern "C" fn sci_layout_more(sizes: &mut [u64; 9])
+    ensures { sizes.new ≡ 80 ∷ 80 ∷ 152 ∷ 4 ∷ 12 ∷ 56 ∷ 16 ∷ 16 ∷ 32 ∷ [] }
 {
     *sizes = [
         HELD as u64,
@@ -74,5 +83,9 @@ pub extern "C" fn sci_layout_more(sizes: &mut [u64; 5])
         SEEN as u64,
         WANT as u64,
         DEAD as u64,
+        ACCESS as u64,
+        LAST_WORD as u64,
+        TRACE_WAY as u64,
+        JUDGEMENT as u64,
     ];
 }

@@ -2,7 +2,7 @@
 
 ghost use Rattle.std.specs.Prelude.{◌≡◌, ◌≢◌, ◌<◌, ◌⊎◌, length};
 ghost use Rattle.sci_c_values.specs.declared.status.TheConstants.{SCI_FULL, SCI_OK};
-ghost use Rattle.sci_c.specs.Written.{StandOver};
+ghost use Rattle.sci_c.specs.Written.{StandOver, first_over};
 
 use sci_c_values::{SCI_FULL, SCI_OK};
 
@@ -20,4 +20,12 @@ pub(crate) fn put_over<T: Copy>(items: &[T], room: &mut [T], used: &mut usize) -
     }
     room[..items.len()].copy_from_slice(items);
     SCI_OK
+}
+
+/// Writes items over the first ones of the room, as many as it has room for.
+pub(crate) fn put_first<T: Copy>(items: &[T], room: &mut [T])
+    ensures { room.new ≡ first_over items.now room.old }
+{
+    let count = items.len().min(room.len());
+    room[..count].copy_from_slice(&items[..count]);
 }

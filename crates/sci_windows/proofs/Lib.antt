@@ -13,3 +13,4 @@ pub mod CyclesBack
 pub mod Founds
 pub mod Told
 pub mod Alarms
+pub mod CutOffs

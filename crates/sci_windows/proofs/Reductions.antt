@@ -73,22 +73,19 @@ relative_start first long =
 
 -- ---- from the window to its relative logs
 
-pub relative_history : (logs : List (List Entry)) (first last : List Stamped) (line : ℕ) → length first ≡ length last → AreLines first
-    → HasHistoryFrom logs line (stamped_at first line) (stamped_at last line)
-    → HasHistory (relative_logs first logs) line (stamped_at (relative_contents first last) line)
-relative_history logs first last line long lines h =
+pub relative_end : (logs : List (List Entry)) (first : List Stamped) (line : ℕ) (last : Stamped) → AreLines first
+    → HasHistoryFrom logs line (stamped_at first line) last → HasHistory (relative_logs first logs) line (relative_stamped (stamped_at first line) last)
+relative_end logs first line last lines h =
     let from = stamped_at first line in
     let es = h.entries in
     let on = all_on_line logs line es h.nodes h.logged in
-    let run : IsHistory (map (relative_to from) es) (relative_stamped from from) (relative_stamped from (stamped_at last line)) =
-    to_relative from es from (stamped_at last line) h.history (omega arith) refl in
-    let begun : IsHistory (map (relative_to from) es) zero_stamped (relative_stamped from (stamped_at last line)) =
-    subst (λ (s : Stamped). IsHistory (map (relative_to from) es) s (relative_stamped from (stamped_at last line))) (relative_start from (lines line)) run in
-    let mapped : IsHistory (map (relative_entry first) es) zero_stamped (relative_stamped from (stamped_at last line)) =
-    subst (λ (xs : List Entry). IsHistory xs zero_stamped (relative_stamped from (stamped_at last line))) (sym (on_one_line first line es on)) begun in
+    let run : IsHistory (map (relative_to from) es) (relative_stamped from from) (relative_stamped from last) =
+    to_relative from es from last h.history (omega arith) refl in
+    let begun : IsHistory (map (relative_to from) es) zero_stamped (relative_stamped from last) =
+    subst (λ (s : Stamped). IsHistory (map (relative_to from) es) s (relative_stamped from last)) (relative_start from (lines line)) run in
     record {
       entries = map (relative_entry first) es;
-      history = subst (IsHistory (map (relative_entry first) es) zero_stamped) (sym (relative_at first last line long)) mapped;
+      history = subst (λ (xs : List Entry). IsHistory xs zero_stamped (relative_stamped from last)) (sym (on_one_line first line es on)) begun;
       nodes = all_mapped (relative_entry first) (λ e. e.node < MAX_NODES) (λ e. e.node < MAX_NODES) (λ e is. is) es h.nodes;
       logged = λ node lt.
           lined first logs line node ∙ ap (map (relative_entry first)) (h.logged node lt)
@@ -96,6 +93,13 @@ relative_history logs first last line long lines h =
       serials = λ node lt. subst Rises (sym (lined first logs line node))
           (rises_mapped (relative_entry first) (λ e. refl) (filter (is_on_line line) (log_of logs node)) (h.serials node lt));
     }
+
+pub relative_history : (logs : List (List Entry)) (first last : List Stamped) (line : ℕ) → length first ≡ length last → AreLines first
+    → HasHistoryFrom logs line (stamped_at first line) (stamped_at last line)
+    → HasHistory (relative_logs first logs) line (stamped_at (relative_contents first last) line)
+relative_history logs first last line long lines h =
+    subst (HasHistory (relative_logs first logs) line) (sym (relative_at first last line long))
+    (relative_end logs first line (stamped_at last line) lines h)
 
 pub to_lawful : (logs : List (List Entry)) (first last : List Stamped) → length logs ≡ MAX_NODES → length first ≡ length last → AreLines first
     → LawfulFrom logs first last → Lawful (relative_logs first logs) (relative_contents first last)
@@ -108,7 +112,7 @@ to_lawful logs first last sixteen long lines lawful line =
 filtered_less : (p : Entry → Bool) (es : List Entry) → length (filter p es) ≤ length es
 filtered_less p es = let is = length-filter p es in let low = count_by-le-length p es in omega arith
 
-few_makers : (first : List Stamped) (logs : List (List Entry)) (line : ℕ) → length logs ≡ MAX_NODES → AreFew logs
+pub few_makers : (first : List Stamped) (logs : List (List Entry)) (line : ℕ) → length logs ≡ MAX_NODES → AreFew logs
     → maker_count (on_line line (relative_logs first logs)) ≤ 68719476736
 few_makers first logs line sixteen few =
     let relative = relative_logs first logs in
@@ -144,14 +148,19 @@ history_back logs first last line es sixteen few long lines last_lines early law
     same_contents from found.new (stamped_at last line) (found.same ∙ at_end) found.long (lines line ∙ sym (last_lines line)) found.low (omega arith) in
     subst (IsHistory es from) same found.history
 
-pub from_lawful_line : (logs : List (List Entry)) (first last : List Stamped) (line : ℕ) → AreOwn logs → length logs ≡ MAX_NODES → AreFew logs
-    → length first ≡ length last → AreLines first → AreLines last → AreEarly first
-    → IsLawfulLine (relative_logs first logs) line (stamped_at (relative_contents first last) line)
-    → HasHistoryFrom logs line (stamped_at first line) (stamped_at last line)
-from_lawful_line logs first last line own sixteen few long lines last_lines early lawful =
+-- entries of the window whose relative ones are a lawful line's, in the order of their versions
+pub record IsPlacedBack (logs : List (List Entry)) (first : List Stamped) (line : ℕ) (end : Stamped) : Type 0 where
+  pub entries : List Entry
+  pub run : IsHistory (map (relative_to (stamped_at first line)) entries) zero_stamped end
+  pub nodes : AllByRecursion (λ e. e.node < MAX_NODES) entries
+  pub logged : (node : ℕ) → node < MAX_NODES → filter (is_on_line line) (log_of logs node) ≡ filter (is_of_node node) entries
+  pub serials : (node : ℕ) → node < MAX_NODES → Rises (filter (is_on_line line) (log_of logs node))
+
+pub placed_back : (logs : List (List Entry)) (first : List Stamped) (line : ℕ) (end : Stamped) → AreOwn logs → length logs ≡ MAX_NODES
+    → IsLawfulLine (relative_logs first logs) line end → IsPlacedBack logs first line end
+placed_back logs first line end own sixteen lawful =
     let relative = relative_logs first logs in
     let f = relative_entry first in
-    let end = stamped_at (relative_contents first last) line in
     let own_here = own_relative first logs own in
     let sixteen_here : length relative ≡ MAX_NODES = length-map logs (map f) ∙ sixteen in
     let nodes : AllByRecursion (λ e. e.node < MAX_NODES) (placed relative line) =
@@ -168,12 +177,25 @@ from_lawful_line logs first last line own sixteen few long lines last_lines earl
     subst (λ (xs : List Entry). IsHistory xs zero_stamped end) (sym back.same) (placed_history relative line end own_here sixteen_here lawful) in
     record {
       entries = es;
-      history = history_back logs first last line es sixteen few long lines last_lines early lawful
-          (subst (λ (xs : List Entry). IsHistory xs zero_stamped end) (on_one_line first line es on) run);
+      run = subst (λ (xs : List Entry). IsHistory xs zero_stamped end) (on_one_line first line es on) run;
       nodes = own_nodes;
       logged = back.own;
       serials = λ node lt. rises_from_mapped f (λ e. refl) (filter (is_on_line line) (log_of logs node))
           (subst Rises (lined first logs line node) (lawful.order node lt).serials);
+    }
+
+pub from_lawful_line : (logs : List (List Entry)) (first last : List Stamped) (line : ℕ) → AreOwn logs → length logs ≡ MAX_NODES → AreFew logs
+    → length first ≡ length last → AreLines first → AreLines last → AreEarly first
+    → IsLawfulLine (relative_logs first logs) line (stamped_at (relative_contents first last) line)
+    → HasHistoryFrom logs line (stamped_at first line) (stamped_at last line)
+from_lawful_line logs first last line own sixteen few long lines last_lines early lawful =
+    let back = placed_back logs first line (stamped_at (relative_contents first last) line) own sixteen lawful in
+    record {
+      entries = back.entries;
+      history = history_back logs first last line back.entries sixteen few long lines last_lines early lawful back.run;
+      nodes = back.nodes;
+      logged = back.logged;
+      serials = back.serials;
     }
 
 pub from_lawful : (logs : List (List Entry)) (first last : List Stamped) → AreOwn logs → length logs ≡ MAX_NODES → AreFew logs

@@ -139,7 +139,7 @@ differ_over es first last long right differ same =
       omega arith,
     )
 
-counted_fault : (es : List Entry) (first last : Stamped) (kind : FaultKind) (named : Option (ℕ × ℕ)) → length first.line ≡ 8
+pub counted_fault : (es : List Entry) (first last : Stamped) (kind : FaultKind) (named : Option (ℕ × ℕ)) → length first.line ≡ 8
     → IsLineFault (map (over first.line) es) (relative_stamped first last) kind named → IsCountedFault es first last kind named
 counted_fault es first last VersionTwice named long h =
     names_over first.line (first_twice es) named (subst (λ (o : Option Entry). Names o named) (twice_over first.line es) h)
@@ -180,7 +180,7 @@ all_mapped_logs f [] = refl
 all_mapped_logs f (log ∷ logs) =
     ap (λ (xs : List Entry). map f log ++ xs) (all_mapped_logs f logs) ∙ sym (map-append f log (flat_map (λ (log : List Entry). log) logs))
 
-on_line_over : (first : List Stamped) (logs : List (List Entry)) (line : ℕ)
+pub on_line_over : (first : List Stamped) (logs : List (List Entry)) (line : ℕ)
     → on_line line (relative_logs first logs)
     ≡ map (over (stamped_at first line).line) (map (counted (stamped_at first line).version) (on_line line logs))
 on_line_over first logs line =

@@ -1,3 +1,4 @@
+pub mod CutOff
 pub mod Fault
 pub mod Order
 pub mod Relative

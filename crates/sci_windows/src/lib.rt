@@ -3,6 +3,7 @@
 
 mod auditing;
 mod back;
+mod cut_off;
 mod laws;
 mod line_so_far;
 mod ordering;
@@ -12,6 +13,7 @@ mod scoreboard;
 mod window_order;
 
 pub use auditing::audit_from;
+pub use cut_off::audit_cut_off;
 pub use laws::{
     what_breaks_is_unlawful, what_is_taken_is_lawful, windows_from_zeros, windows_go_on,
     windows_meet,

@@ -149,6 +149,51 @@ pub struct sci_text_fault {
     pub reserved: u32,
 }
 
+/// An operation of a trace without versions. A word that its kind doesn't have isn't looked at.
+#[repr(C)]
+#[derive(Clone, Copy, Debug, Default, PartialEq, Eq)]
+pub struct sci_access {
+    pub processor: u8,
+    pub kind: u8,
+    pub reserved: u16,
+    pub reserved2: u32,
+    pub address: u64,
+    pub read: u64,
+    pub wrote: u64,
+    pub begin: u64,
+    pub end: u64,
+    pub id: u64,
+}
+
+/// The last word at an address.
+#[repr(C)]
+#[derive(Clone, Copy, Debug, Default, PartialEq, Eq)]
+pub struct sci_last_word {
+    pub address: u64,
+    pub word: u64,
+}
+
+/// How a trace is judged.
+#[repr(C)]
+#[derive(Clone, Copy, Debug, Default, PartialEq, Eq)]
+pub struct sci_trace_way {
+    pub timed: u32,
+    pub ordered: u32,
+    pub limit: u64,
+}
+
+/// What the judge says of a trace. What the kind doesn't have is 0.
+#[repr(C)]
+#[derive(Clone, Copy, Debug, Default, PartialEq, Eq)]
+pub struct sci_judgement {
+    pub kind: u32,
+    pub freedom: u32,
+    pub consistency: u32,
+    pub witness: u32,
+    pub address: u64,
+    pub named: u64,
+}
+
 /// A machine, in the caller's memory. All zero it is empty.
 #[repr(C)]
 #[derive(Debug)]
@@ -184,7 +229,7 @@ pub struct sci_scoreboard {
 unsafe extern "C" {
     pub fn sci_version() -> u32;
     pub fn sci_layout(sizes: *mut [u64; 8]);
-    pub fn sci_layout_more(sizes: *mut [u64; 5]);
+    pub fn sci_layout_more(sizes: *mut [u64; 9]);
     pub fn sci_status_text(status: sci_status) -> *const c_char;
     pub fn sci_status_name(status: sci_status) -> *const c_char;
     pub fn sci_command_name(command: u32) -> *const c_char;
@@ -409,6 +454,7 @@ unsafe extern "C" {
         entry: *mut sci_entry,
     ) -> sci_status;
     pub fn sci_logs_audit(logs: *const sci_logs, verdict: *mut sci_verdict) -> sci_status;
+    pub fn sci_logs_audit_cut_off(logs: *const sci_logs, verdict: *mut sci_verdict) -> sci_status;
     pub fn sci_logs_explain(
         logs: *const sci_logs,
         text: *mut u8,
@@ -458,5 +504,15 @@ unsafe extern "C" {
         scoreboard: *mut sci_scoreboard,
         entry: *const sci_entry,
         verdict: *mut sci_verdict,
+    ) -> sci_status;
+    pub fn sci_trace_judge(
+        accesses: *const sci_access,
+        count: usize,
+        last: *const sci_last_word,
+        last_count: usize,
+        way: *const sci_trace_way,
+        judgement: *mut sci_judgement,
+        ids: *mut u64,
+        room: usize,
     ) -> sci_status;
 }

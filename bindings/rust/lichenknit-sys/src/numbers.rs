@@ -143,6 +143,36 @@ pub const SCI_ORDER: u32 = 0;
 pub const SCI_CYCLE: u32 = 1;
 pub const SCI_UNLAWFUL: u32 = 2;
 
+// sci_access_kind: What an operation of a trace did, in sci_access.kind.
+pub const SCI_ACCESS_LOAD: u32 = 0;
+pub const SCI_ACCESS_STORE: u32 = 1;
+pub const SCI_ACCESS_ATOMIC: u32 = 2;
+
+// sci_judgement_kind: What is found of a trace, in sci_judgement.kind.
+pub const SCI_COHERENT: u32 = 0;
+pub const SCI_NOT_COHERENT: u32 = 1;
+pub const SCI_UNDECIDED: u32 = 2;
+
+// sci_freedom: Whether other versions explain a coherent trace as well, in sci_judgement.freedom.
+pub const SCI_VERSIONS_FORCED: u32 = 0;
+pub const SCI_VERSIONS_FREE: u32 = 1;
+pub const SCI_VERSIONS_UNKNOWN: u32 = 2;
+
+// sci_consistency: Whether one order of all operations explains a coherent trace, in sci_judgement.consistency.
+pub const SCI_CONSISTENCY_UNASKED: u32 = 0;
+pub const SCI_CONSISTENCY_SEQUENTIAL: u32 = 1;
+pub const SCI_CONSISTENCY_CYCLE: u32 = 2;
+pub const SCI_CONSISTENCY_NOT_SEQUENTIAL: u32 = 3;
+pub const SCI_CONSISTENCY_UNKNOWN: u32 = 4;
+
+// sci_witness: What shows that operations at an address aren't coherent, in sci_judgement.witness.
+pub const SCI_WITNESS_NONE: u32 = 0;
+pub const SCI_WITNESS_UNWRITTEN: u32 = 1;
+pub const SCI_WITNESS_UNWRITTEN_LAST: u32 = 2;
+pub const SCI_WITNESS_EARLY: u32 = 3;
+pub const SCI_WITNESS_CIRCLE: u32 = 4;
+pub const SCI_WITNESS_ROUND: u32 = 5;
+
 // sci_text_kind: The kinds of faults of a text, in sci_text_fault.kind.
 pub const SCI_TEXT_SYNTAX: u32 = 1;
 pub const SCI_TEXT_RANGE: u32 = 2;

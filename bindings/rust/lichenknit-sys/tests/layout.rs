@@ -6,7 +6,7 @@ use lichenknit_sys::*;
 
 #[test]
 fn sizes_are_those_of_the_library() {
-    let (mut sizes, mut more) = ([0; 8], [0; 5]);
+    let (mut sizes, mut more) = ([0; 8], [0; 9]);
     // SAFETY: the arrays are as long as the functions write.
     unsafe {
         sci_layout(&mut sizes);
@@ -30,7 +30,11 @@ fn sizes_are_those_of_the_library() {
             size_of::<sci_home>(),
             size_of::<sci_seen>(),
             size_of::<sci_want>(),
-            size_of::<sci_dead>()
+            size_of::<sci_dead>(),
+            size_of::<sci_access>(),
+            size_of::<sci_last_word>(),
+            size_of::<sci_trace_way>(),
+            size_of::<sci_judgement>()
         ]
     );
 }

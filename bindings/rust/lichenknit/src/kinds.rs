@@ -110,3 +110,28 @@ numbered! {
     /// What is wrong with a text.
     TextKind { Syntax = SCI_TEXT_SYNTAX, Range = SCI_TEXT_RANGE, TooMany = SCI_TEXT_TOO_MANY, }
 }
+
+numbered! {
+    /// Whether other versions explain a coherent trace as well.
+    Freedom { Forced = SCI_VERSIONS_FORCED, Free = SCI_VERSIONS_FREE, Unknown = SCI_VERSIONS_UNKNOWN, }
+}
+
+numbered! {
+    /// Whether one order of all operations explains a coherent trace.
+    Consistency {
+        Unasked = SCI_CONSISTENCY_UNASKED,
+        Sequential = SCI_CONSISTENCY_SEQUENTIAL,
+        /// None does: each operation that is named comes before the next one, and the last one before the first.
+        Cycle = SCI_CONSISTENCY_CYCLE,
+        NotSequential = SCI_CONSISTENCY_NOT_SEQUENTIAL,
+        Unknown = SCI_CONSISTENCY_UNKNOWN,
+    }
+}
+
+numbered! {
+    /// What shows that operations at an address aren't coherent.
+    Witness {
+        None = SCI_WITNESS_NONE, Unwritten = SCI_WITNESS_UNWRITTEN, UnwrittenLast = SCI_WITNESS_UNWRITTEN_LAST, Early = SCI_WITNESS_EARLY,
+        Circle = SCI_WITNESS_CIRCLE, Round = SCI_WITNESS_ROUND,
+    }
+}

@@ -22,17 +22,20 @@ mod machine;
 mod node;
 mod packet;
 mod scoreboard;
+mod traces;
 mod values;
 
 pub use error::{Error, Result, TextFault};
 pub use kinds::{
-    AskKind, Command, Decision, HomeState, Lane, Obstacle, State, TextKind, VerdictKind,
+    AskKind, Command, Consistency, Decision, Freedom, HomeState, Lane, Obstacle, State, TextKind,
+    VerdictKind, Witness,
 };
 pub use logs::{Entries, Logs};
 pub use machine::{LanePackets, Machine};
 pub use node::Node;
 pub use packet::{Packet, PacketBytes, Packets};
 pub use scoreboard::Scoreboard;
+pub use traces::{Access, AccessKind, TraceVerdict, TraceWay, judge};
 pub use values::{
     Act, Contents, Dead, Entry, Event, Held, Home, Op, Order, Seen, Size, Turn, Verdict, Want,
     Wanted,

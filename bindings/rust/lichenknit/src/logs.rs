@@ -117,6 +117,13 @@ impl Logs {
         Verdict::of(&verdict).ok_or(Error::OutOfRange)
     }
 
+    /// The same whatever the last contents are, as of a simulation that was cut off: lawful if the logs are with some last contents.
+    pub fn audit_cut_off(&self) -> Result<Verdict> {
+        let verdict =
+            written(|verdict| unsafe { sys::sci_logs_audit_cut_off(&self.raw, verdict) })?;
+        Verdict::of(&verdict).ok_or(Error::OutOfRange)
+    }
+
     /// Where the verdict of `audit` is a wrong reply, the word that one memory has there, and the entry that made it; None where it is
     /// another one.
     pub fn wanted(&self) -> Result<Option<Wanted>> {

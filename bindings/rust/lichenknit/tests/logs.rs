@@ -57,6 +57,18 @@ fn entries_are_pushed_and_judged() {
 }
 
 #[test]
+fn logs_that_were_cut_off_have_any_last_contents() {
+    let store = Op { line: 0, word: 3, act: Act::Store(42) };
+    let made = Entry { node: 0, serial: 0, op: store, word: None, version: 1 };
+    let mut logs = Logs::new(1, 1).unwrap();
+    logs.push(&made).unwrap();
+    assert!(!logs.audit().unwrap().is_lawful());
+    assert!(logs.audit_cut_off().unwrap().is_lawful());
+    logs.push(&Entry { serial: 1, ..made }).unwrap();
+    assert!(!logs.audit_cut_off().unwrap().is_lawful());
+}
+
+#[test]
 fn orders_and_cycles_are_found() {
     let logs: Logs = LOG.parse().unwrap();
     let Order::Order(entries) = logs.order().unwrap() else { panic!("there is an order") };

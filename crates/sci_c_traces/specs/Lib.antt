@@ -1,0 +1,3 @@
+-- The structs of traces, and what the judge says of them.
+pub mod Judgement
+pub mod Trace
