@@ -1,9 +1,10 @@
 //! The entries of a log with the lines of its text.
 
-ghost use Rattle.std.specs.Prelude.{◌≡◌, ◌≤◌, ◌<◌, ◌+◌, ◌*◌, ◌^◌, ◌++◌, ℕ, [], Some, All, IfOk, OnOk, IfSome, IfNone, length, slice_get, slice_index_or, take};
+ghost use Rattle.std.specs.Prelude.{◌≡◌, ◌≤◌, ◌<◌, ◌+◌, ◌*◌, ◌^◌, ◌++◌, ℕ, [], true, Some, All, IfOk, OnOk, IfSome, IfNone, length, slice_get, slice_index_or, take};
 ghost use Rattle.std.specs.List.Sorted.{IsPermutation};
 ghost use Rattle.sci_words.specs.declared.limits.TheConstants.{MAX_LINES, MAX_NODES, MAX_OPERATIONS};
 ghost use Rattle.sci_history.specs.{declared.entry.Entry.{Entry}, Audit.{AreWithin, IsWithin}, Placed.{by_version, log_of}};
+ghost use Rattle.sci_history.specs.Placed.{by_node_and_serial as by_node_and_serial_of};
 ghost use Rattle.sci_text.specs.LogValue.{entry_count};
 ghost use Rattle.sci_reports.specs.EntryLines.{IsBeforeEntries, IsLineOf, IsOpening, entries_in, numbered_lists, numbered_on, on_line_from};
 ghost use Rattle.sci_reports.specs.Placed.{KeepsTies};
@@ -133,6 +134,32 @@ pub fn entries_by_line<'a>(
     Ok(lists)
 }
 
+/// Whether the entries stand by node and serial already, as those of a line do in a text if its serials rise.
+fn are_read_in_order(entries: &[Numbered]) -> bool
+    ensures { All (λ entry. entry.node < MAX_NODES) (entries_in entries.now) → result ≡ true →
+        by_node_and_serial_of (entries_in entries.now) ≡ entries_in entries.now }
+{
+    entries.is_sorted_by_key(|it| (it.entry.node, it.entry.serial))
+}
+
+/// The entries by node, then by serial, then as they stand.
+fn by_node_and_serial<'a>(
+    alloc: Global,
+    entries: &[Numbered<'a>],
+) -> Result<Vec<Numbered<'a>>, AllocError>
+    ensures kept { IfOk result (λ read. IsPermutation entries.now read.items) }
+    ensures order { All (λ entry. entry.node < MAX_NODES) (entries_in entries.now)
+        → IfOk result (λ read. entries_in read.items ≡ by_node_and_serial_of (entries_in entries.now)) }
+    ensures ties { IfOk result (λ read. KeepsTies entries.now read.items) }
+{
+    let mut read = Vec::from_slice(alloc, entries)?;
+    if !are_read_in_order(entries) {
+        read.sort_by_key(|it| it.entry.serial)?;
+        read.sort_by_key(|it| it.entry.node)?;
+    }
+    Ok(read)
+}
+
 /// The entries on one line of memory in the order of their versions: at each version its maker first, and of the others
 /// those of lower nodes and serials first. Entries that tie in all of this stay in the order of the text.
 pub fn placed<'a>(alloc: Global, entries: &[Numbered<'a>]) -> Result<Vec<Numbered<'a>>, AllocError>
@@ -142,9 +169,7 @@ pub fn placed<'a>(alloc: Global, entries: &[Numbered<'a>]) -> Result<Vec<Numbere
         → IfOk result (λ placed. entries_in placed.items ≡ by_version bound (entries_in entries.now)) }
     ensures ties { IfOk result (λ placed. KeepsTies entries.now placed.items) }
 {
-    let mut placed = Vec::from_slice(alloc, entries)?;
-    placed.sort_by_key(|it| it.entry.serial)?;
-    placed.sort_by_key(|it| it.entry.node)?;
+    let mut placed = by_node_and_serial(alloc, entries)?;
     placed.sort_by_key(|it| (it.entry.version, !it.entry.op.is_maker()))?;
     Ok(placed)
 }
