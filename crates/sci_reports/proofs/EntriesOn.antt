@@ -1,7 +1,9 @@
 -- The entries of logs on a line of memory, with their lines of the text.
-use Rattle.std.proofs.Common.{◌≡◌, ◌<◌, ℕ, ◌+◌, List, [], ◌∷◌, ◌++◌, length, set, take, get_or, Bool, true, false, cond, append_assoc, ◌∙◌, arith, ap, inl, inr, refl, sym}
+use Rattle.std.proofs.Common.{◌≡◌, ◌<◌, ℕ, ◌+◌, List, [], ◌∷◌, ◌++◌, length, set, take, get_or, Bool, true, false, cond, append_assoc, ◌∙◌, arith, ap}
+use Rattle.std.proofs.Common.{inl, inr, refl, sym}
 use Rattle.std.proofs.lemmas.Bool.{cases_eq, eq-eqb, ne_eqb}
-use Rattle.std.proofs.lemmas.List.{append-nil, length-map, length-take-le, take_more, map-append, map-set, get_or-map, get_or-set_same, get_or-set_other, Concat.{flat_map-append}}
+use Rattle.std.proofs.lemmas.List.{append-nil, length-map, length-take-le, take_more, map-append, map-set, Concat.{flat_map-append}}
+use Rattle.std.proofs.lemmas.List.{get_or-map, get_or-set_same, get_or-set_other}
 use Rattle.std.proofs.lemmas.List.Elements.{filter-append}
 use Rattle.std.proofs.lemmas.Simd.{map-map}
 use Rattle.std.specs.{Prelude.{filter, map}, List.{enumerate_from, flat_map}, Global.{Vec}}

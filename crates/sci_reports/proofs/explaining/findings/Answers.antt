@@ -33,7 +33,8 @@ loop-line-preserved c =
           line_more before logs last faults line (Some c.in-Some.fault) c.loop-line.findings.items (finding ∷ []) c.push.new.self.items
           within was.found found (finding, is_about, c.in_ok-finding.ensures.found known, refl) c.in_ok-push.ensures.items;
       lines = length-set lists _ _ ∙ was.lines;
-      left = λ other above below. list_stays lists line other _ (numbered_on other before logs) (omega (arith, above)) (was.left other (omega (arith, above)) below);
+      left = λ other above below.
+          list_stays lists line other _ (numbered_on other before logs) (omega (arith, above)) (was.left other (omega (arith, above)) below);
     }
 
 pub loop-line-preserved-in_default : goal.loop-line-preserved-in_default
