@@ -1,13 +1,17 @@
 -- The entries of logs on a line of memory, with their lines of the text.
-use Rattle.std.proofs.Common.{◌≡◌, ◌<◌, ℕ, ◌+◌, List, [], ◌∷◌, ◌++◌, length, take, get_or, Bool, true, false, cond, append_assoc, ◌∙◌, arith, ap, refl, sym}
-use Rattle.std.proofs.lemmas.List.{append-nil, length-take-le, take_more, map-append, Concat.{flat_map-append}}
+use Rattle.std.proofs.Common.{◌≡◌, ◌<◌, ℕ, ◌+◌, List, [], ◌∷◌, ◌++◌, length, set, take, get_or, Bool, true, false, cond, append_assoc, ◌∙◌, arith, ap}
+use Rattle.std.proofs.Common.{inl, inr, refl, sym}
+use Rattle.std.proofs.lemmas.Bool.{cases_eq, eq-eqb, ne_eqb}
+use Rattle.std.proofs.lemmas.List.{append-nil, length-map, length-take-le, take_more, map-append, map-set, Concat.{flat_map-append}}
+use Rattle.std.proofs.lemmas.List.{get_or-map, get_or-set_same, get_or-set_other}
 use Rattle.std.proofs.lemmas.List.Elements.{filter-append}
 use Rattle.std.proofs.lemmas.Simd.{map-map}
-use Rattle.std.specs.{Prelude.{filter, map}, List.{enumerate_from, flat_map}}
+use Rattle.std.specs.{Prelude.{filter, map}, List.{enumerate_from, flat_map}, Global.{Vec}}
 use Rattle.sci_history.specs.{declared.entry.Entry.{Entry}, Placed.{is_on_line, log_of, on_line}}
+use Rattle.sci_history.proofs.AuditFinds.{no_entry}
 use Rattle.sci_text.specs.LogValue.{entry_count}
 use Rattle.sci_reports.specs.declared.numbered.Numbered.{Numbered}
-use Rattle.sci_reports.specs.EntryLines.{entries_in, numbered_on, numbering, numberings, on_line_from}
+use Rattle.sci_reports.specs.EntryLines.{entries_in, numbered_lists, numbered_on, numbering, numberings, on_line_from}
 
 enumerate_append : {X : Type 0} (n : ℕ) (xs ys : List X) → enumerate_from n (xs ++ ys) ≡ enumerate_from n xs ++ enumerate_from (n + length xs) ys
 enumerate_append n [] ys = let same : n ≡ n + 0 = omega arith in ap (λ m. enumerate_from m ys) same
@@ -32,7 +36,7 @@ one_more line first log k d lt =
     ∙ ap (λ (n : ℕ). on_line_from line first (take k log) ++ on_line_from line (first + n) (get_or log k d ∷ [])) long)
 
 -- one entry more, which is on the line
-pub entry_more : (line first text_line : ℕ) (log : List Entry) (k : ℕ) (d : Entry) (old : List (ℕ × Entry)) (list : List Numbered) (it : Numbered)
+entry_more : (line first text_line : ℕ) (log : List Entry) (k : ℕ) (d : Entry) (old : List (ℕ × Entry)) (list : List Numbered) (it : Numbered)
     → k < length log → text_line ≡ first + k → numbering it ≡ (text_line, get_or log k d) → is_on_line line (get_or log k d) ≡ true
     → numberings list ≡ old ++ on_line_from line first (take k log)
     → numberings (list ++ it ∷ []) ≡ old ++ on_line_from line first (take (k + 1) log)
@@ -48,16 +52,41 @@ entry_more line first text_line log k d old list it lt counted is on was =
     ∙ (append_assoc old (on_line_from line first (take k log)) ((first + k, e) ∷ []) ∙ ap (λ (l : List (ℕ × Entry)). old ++ l) (sym whole))))
 
 -- one entry more, which isn't
-pub entry_past : (line first : ℕ) (log : List Entry) (k : ℕ) (d : Entry) (old : List (ℕ × Entry)) (list : List Numbered) → k < length log
-    → is_on_line line (get_or log k d) ≡ false → numberings list ≡ old ++ on_line_from line first (take k log)
-    → numberings list ≡ old ++ on_line_from line first (take (k + 1) log)
-entry_past line first log k d old list lt off was =
+past : (line first : ℕ) (log : List Entry) (k : ℕ) (old list : List (ℕ × Entry)) → k < length log
+    → is_on_line line (get_or log k no_entry) ≡ false → list ≡ old ++ on_line_from line first (take k log)
+    → list ≡ old ++ on_line_from line first (take (k + 1) log)
+past line first log k old list lt off was =
+    let d = no_entry in
     let e = get_or log k d in
     let there : on_line_from line (first + k) (e ∷ []) ≡ [] = ap (λ (b : Bool). cond b ((first + k, e) ∷ []) []) off in
     let whole : on_line_from line first (take (k + 1) log) ≡ on_line_from line first (take k log) =
     one_more line first log k d lt
     ∙ (ap (λ (l : List (ℕ × Entry)). on_line_from line first (take k log) ++ l) there ∙ append-nil (on_line_from line first (take k log))) in
     was ∙ ap (λ (l : List (ℕ × Entry)). old ++ l) (sym whole)
+
+-- the list of the entry's line ends with it, and every other list stays
+pub list_more : (lists : List (Vec Numbered)) (log : List Entry) (base : List (ℕ × Entry)) (first text_line k line : ℕ) (old new : Vec Numbered) (it : Numbered)
+    → k < length log → text_line ≡ first + k → numbering it ≡ (text_line, get_or log k no_entry) → (get_or log k no_entry).op.line < length lists
+    → old ≡ get_or lists (get_or log k no_entry).op.line old → new.items ≡ old.items ++ it ∷ []
+    → get_or (numbered_lists lists) line [] ≡ base ++ on_line_from line first (take k log)
+    → get_or (numbered_lists (set lists (get_or log k no_entry).op.line new)) line [] ≡ base ++ on_line_from line first (take (k + 1) log)
+list_more lists log base first text_line k line old new it lt counted is below was pushed so_far =
+    let at_line = (get_or log k no_entry).op.line in
+    let f : Vec Numbered → List (ℕ × Entry) = λ list. numberings list.items in
+    let there : at_line < length (numbered_lists lists) = rw length-map below in
+    rw (map-set f lists at_line new) (
+    elim (cases_eq at_line line) [
+      | inl own ↦
+          let before : f old ≡ base ++ on_line_from line first (take k log) =
+          ap f was ∙ sym (get_or-map f lists at_line old [] below) ∙ ap (λ (n : ℕ). get_or (numbered_lists lists) n []) own ∙ so_far in
+          let here : get_or (set (numbered_lists lists) at_line (f new)) line [] ≡ f new =
+          ap (λ (n : ℕ). get_or (set (numbered_lists lists) at_line (f new)) n []) (sym own)
+          ∙ get_or-set_same (numbered_lists lists) at_line (f new) [] there in
+          here ∙ ap numberings pushed ∙ entry_more line first text_line log k no_entry base old.items it lt counted is (eq-eqb at_line line own) before
+      | inr other ↦
+          get_or-set_other (numbered_lists lists) at_line line (f new) [] (λ same. other (sym same))
+          ∙ past line first log k base (get_or (numbered_lists lists) line []) lt (ne_eqb at_line line other) so_far
+    ])
 
 -- ---- logs
 
@@ -75,6 +104,20 @@ log_more line before first logs n old new lt counted was is =
     ∙ (ap (λ (l : List (ℕ × Entry)). l ++ on_line_from line first (log_of logs n)) was
     ∙ (ap (λ (k : ℕ). on_line_from line (before + 1) so_far ++ on_line_from line k (log_of logs n)) place
     ∙ (sym (on_line_append line (before + 1) so_far (log_of logs n)) ∙ ap (on_line_from line (before + 1)) (sym all))))
+
+-- the list of a line, as the code takes it from the lists of all lines
+pub list_taken : (lists : List (Vec Numbered)) (line : ℕ) (list : Vec Numbered) (is : List (ℕ × Entry)) → line < length lists
+    → list ≡ get_or lists line list → get_or (numbered_lists lists) line [] ≡ is → numberings list.items ≡ is
+list_taken lists line list is lt at there =
+    let f : Vec Numbered → List (ℕ × Entry) = λ list. numberings list.items in
+    ap f at ∙ sym (get_or-map f lists line list [] lt) ∙ there
+
+-- the lists of higher lines stay
+pub list_stays : (lists : List (Vec Numbered)) (line other : ℕ) (new : Vec Numbered) (is : List (ℕ × Entry)) → line < other
+    → get_or (numbered_lists lists) other [] ≡ is → get_or (numbered_lists (set lists line new)) other [] ≡ is
+list_stays lists line other new is lt there =
+    let f : Vec Numbered → List (ℕ × Entry) = λ list. numberings list.items in
+    rw (map-set f lists line new) (get_or-set_other (numbered_lists lists) line other (f new) [] (λ same. absurd (omega (arith, lt, same))) ∙ there)
 
 -- ---- the entries alone
 

@@ -1,7 +1,7 @@
 -- On which lines of a log's text its entries stand.
 use denote.Ref.{Bor}
 use Rattle.std.specs.Prelude.{◌≡◌, ℕ, ◌+◌, ◌⊎◌, List, take, map, filter, slice_get, Option, Some, None}
-use Rattle.std.specs.List.{enumerate_from, flat_map}
+use Rattle.std.specs.{List.{enumerate_from, flat_map}, Global.{Vec}}
 use Rattle.sci_history.specs.{declared.entry.Entry.{Entry}, Audit.{entries_of}, Placed.{is_on_line, log_of}}
 use Rattle.sci_text.specs.LogValue.{BeginsLog, entry_count}
 use Rattle.sci_reports.specs.declared.numbered.Numbered.{Numbered}
@@ -12,6 +12,10 @@ numbering it = (it.text_line, it.entry.now)
 
 abbrev pub numberings : List Numbered → List (ℕ × Entry)
 numberings list = map numbering list
+
+-- lists of entries, one list for each line of memory
+abbrev pub numbered_lists : List (Vec Numbered) → List (List (ℕ × Entry))
+numbered_lists lists = map (λ list. numberings list.items) lists
 
 -- the entry alone
 abbrev pub entry_of : Numbered → Entry

@@ -2,45 +2,45 @@
 
 ghost use Rattle.std.specs.{Prelude.{◌≡◌, ◌+◌, ◌≤◌, ◌<◌, ℕ, List, Option, false, length, IfOk}, List.{flat_map}};
 ghost use Rattle.sci_words.specs.declared.limits.TheConstants.{MAX_LINES, MAX_OPERATIONS};
-ghost use Rattle.sci_history.specs.declared.faults.LineFault.{LineFault};
+ghost use Rattle.sci_history.specs.declared.{entry.Entry.{Entry}, faults.LineFault.{LineFault}};
 ghost use Rattle.sci_history.specs.{Audit.{AreFound, AreWithin}, Placed.{log_of}};
 ghost use Rattle.sci_text.specs.{FirstFault.{IsTold}, LogFault.{IsLogFault}, Tap.{has_failed}};
 ghost use Rattle.sci_command.specs.Answer.{HasAnswered};
 ghost use Rattle.sci_reports.specs.ExplainAnswer.{IsExplainAnswer, IsExplained, IsExplanationOf};
 ghost use Rattle.sci_reports.specs.ExplainAnswer.{findings_shown as findings_shown_of, lawful_shown as lawful_shown_of};
-ghost use Rattle.sci_reports.specs.{Finding.{AreFindings}, NoteText.{finding_text}, ReadLog.{IsReadLog}, Subject.{IsSubject}};
+ghost use Rattle.sci_reports.specs.{EntryLines.{numbered_on, numberings}, Finding.{AreFindings}, NoteText.{finding_text}, ReadLog.{IsReadLog}, Subject.{IsSubject}};
 
 use crate::explain_json::{findings_json, lawful_json};
 use crate::finding::{Finding, Subject};
 use crate::note::push_finding;
-use crate::numbered::entries_on;
+use crate::numbered::{Numbered, entries_by_line};
 use crate::read_log::ReadLog;
 use sci_command::{Answer, Answered, Outcome, verdict_line};
 use sci_history::{Last, Logs, Verdict, audit, line_faults};
 use sci_text::{Tap, read_input};
 use std::alloc::{AllocError, Global};
 use std::io::Read;
+use std::mem::replace;
 
-/// What a note of a line of memory is about, of a log with this many lines of text before its entries.
+/// What a note of a line of memory is about that has these entries, of a log with this many lines of text before its entries.
 pub(crate) fn subject_of<'a>(
-    alloc: Global,
     before: usize,
-    logs: &'a Logs,
     last: &Last,
     line: u8,
-) -> Result<Subject<'a>, AllocError>
+    entries: Vec<Numbered<'a>>,
+) -> Subject<'a>
     requires line { line < length last.now }
     requires lines { length last.now ≤ before }
     requires before { before ≤ MAX_LINES + 1 }
-    requires few { (n : ℕ) → length (log_of logs.now n) ≤ MAX_OPERATIONS }
-    ensures { IfOk result (IsSubject before logs.now last.now line) }
+    ensures { (logs : List (List Entry)) → numberings entries.entry.items ≡ numbered_on line before logs
+        → IsSubject before logs last.now line result }
 {
-    Ok(Subject {
+    Subject {
         line,
-        entries: entries_on(alloc, logs, before, line)?,
+        entries,
         last: last.get(line),
         last_line: before - last.lines() as usize + 1 + line as usize,
-    })
+    }
 }
 
 /// What is found on all lines of memory that have a fault, of a log with this many lines of text before its entries.
@@ -61,12 +61,14 @@ fn findings<'a>(
     // Read, so that the prover knows that there are sixteen logs, and that each has its own node's entries.
     let _nodes = logs.nodes();
     let faults = line_faults(alloc, logs, last)?;
+    let mut lists = entries_by_line(alloc, logs, before, last.lines())?;
     let mut findings = Vec::new(alloc);
     for line in 0..last.lines() {
         let Some(fault) = faults[line as usize] else {
             continue;
         };
-        let subject = subject_of(alloc, before, logs, last, line)?;
+        let entries = replace(&mut lists[line as usize], Vec::new(alloc));
+        let subject = subject_of(before, last, line, entries);
         let finding = Finding::of(alloc, fault, subject)?;
         findings.push(finding)?;
     }

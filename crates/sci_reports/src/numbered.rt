@@ -1,11 +1,12 @@
 //! The entries of a log with the lines of its text.
 
-ghost use Rattle.std.specs.Prelude.{◌≡◌, ◌≤◌, ◌<◌, ◌+◌, ◌*◌, ◌^◌, ◌++◌, ℕ, Some, All, IfOk, OnOk, IfSome, IfNone, length, slice_get, take};
+ghost use Rattle.std.specs.Prelude.{◌≡◌, ◌≤◌, ◌<◌, ◌+◌, ◌*◌, ◌^◌, ◌++◌, ℕ, [], true, Some, All, IfOk, OnOk, IfSome, IfNone, length, slice_get, slice_index_or, take};
 ghost use Rattle.std.specs.List.Sorted.{IsPermutation};
 ghost use Rattle.sci_words.specs.declared.limits.TheConstants.{MAX_LINES, MAX_NODES, MAX_OPERATIONS};
-ghost use Rattle.sci_history.specs.{declared.entry.Entry.{Entry}, Placed.{by_version, log_of}};
+ghost use Rattle.sci_history.specs.{declared.entry.Entry.{Entry}, Audit.{AreWithin, IsWithin}, Placed.{by_version, log_of}};
+ghost use Rattle.sci_history.specs.Placed.{by_node_and_serial as by_node_and_serial_of};
 ghost use Rattle.sci_text.specs.LogValue.{entry_count};
-ghost use Rattle.sci_reports.specs.EntryLines.{IsBeforeEntries, IsLineOf, IsOpening, entries_in, numbered_on, numberings, on_line_from};
+ghost use Rattle.sci_reports.specs.EntryLines.{IsBeforeEntries, IsLineOf, IsOpening, entries_in, numbered_lists, numbered_on, on_line_from};
 ghost use Rattle.sci_reports.specs.Placed.{KeepsTies};
 
 use sci_history::{Entry, Last, Logs};
@@ -86,45 +87,77 @@ pub fn line_of_entry(logs: &Logs, before: usize, entry: &Entry) -> Option<usize>
     Some(before + entries_before(logs, entry.node) + place + 1)
 }
 
-/// Ends a list with the entries of a log that are on a line of memory, if its first entry stands on this line of the text.
+/// Ends each line's list with the entries of a log that are on it, if the log's first entry stands on this line of the text.
 fn add_log<'a>(
-    list: &mut Vec<Numbered<'a>>,
+    lists: &mut Vec<Vec<Numbered<'a>>>,
     log: &'a [Entry],
-    line: u8,
     first: usize,
 ) -> Result<(), AllocError>
-    requires { first + length log.now < 2 ^ 64 }
-    ensures { OnOk result (numberings list.new.items
-        ≡ numberings list.old.items ++ on_line_from line first log.now) }
+    requires within { All (IsWithin (length lists.old.items)) log.now }
+    requires few { first + length log.now < 2 ^ 64 }
+    ensures lines { length lists.new.items ≡ length lists.old.items }
+    ensures added { OnOk result ((line : ℕ) → line < length lists.old.items →
+        slice_index_or (numbered_lists lists.new.items) line []
+        ≡ slice_index_or (numbered_lists lists.old.items) line [] ++ on_line_from line first log.now) }
 {
     let mut text_line = first;
     for entry in log {
-        if entry.op.line == line {
-            list.push(Numbered { text_line, entry })?;
-        }
+        lists[entry.op.line as usize].push(Numbered { text_line, entry })?;
         text_line += 1;
     }
     Ok(())
 }
 
-/// The entries on a line of memory, in the order of the text, behind this many lines of text before all entries. A node has at
-/// most 65,536 entries.
-pub fn entries_on<'a>(
+/// The entries on each of this many lines of memory, in the order of the text, behind this many lines of text before all
+/// entries. A node has at most 65,536 entries.
+pub fn entries_by_line<'a>(
     alloc: Global,
     logs: &'a Logs,
     before: usize,
-    line: u8,
-) -> Result<Vec<Numbered<'a>>, AllocError>
+    lines: u8,
+) -> Result<Vec<Vec<Numbered<'a>>>, AllocError>
+    requires within { AreWithin lines logs.now }
     requires few { (n : ℕ) → length (log_of logs.now n) ≤ MAX_OPERATIONS }
     requires before { before ≤ MAX_LINES + 1 }
-    ensures { IfOk result (λ list. numberings list.items ≡ numbered_on line before logs.now) }
+    ensures lines { IfOk result (λ lists. length lists.items ≡ lines) }
+    ensures lists { IfOk result (λ lists. (line : ℕ) → line < lines →
+        slice_index_or (numbered_lists lists.items) line [] ≡ numbered_on line before logs.now) }
 {
-    let mut list = Vec::new(alloc);
+    let mut lists = Vec::new(alloc);
+    for _ in 0..lines {
+        lists.push(Vec::new(alloc))?;
+    }
     for node in 0..logs.nodes() {
         let first = before + entries_before(logs, node) + 1;
-        add_log(&mut list, logs.of(node), line, first)?;
+        add_log(&mut lists, logs.of(node), first)?;
     }
-    Ok(list)
+    Ok(lists)
+}
+
+/// Whether the entries stand by node and serial already, as those of a line do in a text if its serials rise.
+fn are_read_in_order(entries: &[Numbered]) -> bool
+    ensures { All (λ entry. entry.node < MAX_NODES) (entries_in entries.now) → result ≡ true →
+        by_node_and_serial_of (entries_in entries.now) ≡ entries_in entries.now }
+{
+    entries.is_sorted_by_key(|it| (it.entry.node, it.entry.serial))
+}
+
+/// The entries by node, then by serial, then as they stand.
+fn by_node_and_serial<'a>(
+    alloc: Global,
+    entries: &[Numbered<'a>],
+) -> Result<Vec<Numbered<'a>>, AllocError>
+    ensures kept { IfOk result (λ read. IsPermutation entries.now read.items) }
+    ensures order { All (λ entry. entry.node < MAX_NODES) (entries_in entries.now)
+        → IfOk result (λ read. entries_in read.items ≡ by_node_and_serial_of (entries_in entries.now)) }
+    ensures ties { IfOk result (λ read. KeepsTies entries.now read.items) }
+{
+    let mut read = Vec::from_slice(alloc, entries)?;
+    if !are_read_in_order(entries) {
+        read.sort_by_key(|it| it.entry.serial)?;
+        read.sort_by_key(|it| it.entry.node)?;
+    }
+    Ok(read)
 }
 
 /// The entries on one line of memory in the order of their versions: at each version its maker first, and of the others
@@ -136,9 +169,7 @@ pub fn placed<'a>(alloc: Global, entries: &[Numbered<'a>]) -> Result<Vec<Numbere
         → IfOk result (λ placed. entries_in placed.items ≡ by_version bound (entries_in entries.now)) }
     ensures ties { IfOk result (λ placed. KeepsTies entries.now placed.items) }
 {
-    let mut placed = Vec::from_slice(alloc, entries)?;
-    placed.sort_by_key(|it| it.entry.serial)?;
-    placed.sort_by_key(|it| it.entry.node)?;
+    let mut placed = by_node_and_serial(alloc, entries)?;
     placed.sort_by_key(|it| (it.entry.version, !it.entry.op.is_maker()))?;
     Ok(placed)
 }

@@ -8,6 +8,7 @@ ghost use Rattle.sci_reports.specs.{ReadLog.{IsReadLog}, Wanted.{IsWanted, IsWan
 use crate::explaining::subject_of;
 use crate::faulty::{Cause, FaultyEntry};
 use crate::finding::Finding;
+use crate::numbered::entries_by_line;
 use crate::read_log::ReadLog;
 use sci_history::{Entry, FaultKind, LineFault, Verdict, audit};
 use sci_words::Word;
@@ -62,7 +63,9 @@ fn wanted_in(alloc: Global, log: &ReadLog) -> Result<Option<Wanted>, AllocError>
         kind: FaultKind::WrongReply,
         at,
     };
-    let subject = subject_of(alloc, log.before, &log.logs, &log.last, line)?;
+    let mut lists = entries_by_line(alloc, &log.logs, log.before, log.last.lines())?;
+    let entries = lists.swap_remove(line as usize);
+    let subject = subject_of(log.before, &log.last, line, entries);
     let finding = Finding::of(alloc, fault, subject)?;
     Ok(wanted_at(&finding.found))
 }

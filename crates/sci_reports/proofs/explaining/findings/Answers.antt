@@ -1,7 +1,8 @@
-use Rattle.std.proofs.Common.{◌<◌, [], ◌∷◌, arith, length, refl, Some, sym, ◌∙◌, subst}
+use Rattle.std.proofs.Common.{◌≡◌, ◌<◌, [], ◌∷◌, arith, length, refl, Some, sym, ◌∙◌, subst}
+use Rattle.std.proofs.lemmas.List.{length-set}
 use Rattle.sci_history.proofs.AuditLines.{known_on_line}
-use Rattle.sci_reports.specs.{declared.finding.{Subject.{Subject}}, Subject.{IsSubject}}
-use Rattle.sci_reports.proofs.{EntriesOn.{entries_on_line}, FoundOnLines.{line_more, line_past}}
+use Rattle.sci_reports.specs.{declared.finding.{Subject.{Subject}}, EntryLines.{numbered_on, numberings}, Subject.{IsSubject}}
+use Rattle.sci_reports.proofs.{EntriesOn.{entries_on_line, list_stays, list_taken}, FoundOnLines.{line_more, line_past}}
 use Rattle.sci_reports.proofs.explaining.findings.Goals as goal
 
 pub loop-line-preserved : goal.loop-line-preserved
@@ -11,20 +12,39 @@ loop-line-preserved c =
     let logs = c.args.logs.now in
     let last = c.args.last.now in
     let line = c.loop-line.line in
+    let lists = c.loop-line.lists.items in
+    let was = c.loop-line.invariant in
     let finding = c.in_ok-finding.finding in
     let within : line < length faults = omega (arith, c.in_ok-faults.ensures.many, c.loop-line-test.true) in
-    let about = c.in_ok-subject.ensures in
-    let on_line = entries_on_line line before logs c.in_ok-subject.subject.entries.items about.entries in
+    let low : line < length last = omega (arith, within, c.in_ok-faults.ensures.many) in
+    let low_list : line < length lists = omega (arith, low, was.lines) in
+    let entries = c.replace-entries.result in
+    let taken : numberings entries.items ≡ numbered_on line before logs =
+    list_taken lists line entries (numbered_on line before logs) low_list (rw (sym c.replace-entries.ensures.value) at c.index_mut.ensures.value)
+    (was.left line (omega arith) low) in
+    let about = c.subject_of-subject.ensures logs taken in
+    let on_line = entries_on_line line before logs c.subject_of-subject.result.entries.items about.entries in
     let sixteen = sym c.nodes-nodes.ensures.nodes ∙ c.nodes-nodes.ensures.sixteen in
     let known = known_on_line line logs _ _ on_line c.nodes-nodes.ensures.own sixteen c.requires.within in
     let is_about = subst (λ (subject : Subject). IsSubject before logs last line subject) (sym c.in_ok-finding.ensures.subject) about in
     let found = rw c.in-Some.is at c.index.ensures in
-    line_more before logs last faults line (Some c.in-Some.fault) c.loop-line.findings.items (finding ∷ []) c.push.new.self.items
-    within c.loop-line.invariant found (finding, is_about, c.in_ok-finding.ensures.found known, refl) c.in_ok-push.ensures.items
+    record {
+      found =
+          line_more before logs last faults line (Some c.in-Some.fault) c.loop-line.findings.items (finding ∷ []) c.push.new.self.items
+          within was.found found (finding, is_about, c.in_ok-finding.ensures.found known, refl) c.in_ok-push.ensures.items;
+      lines = length-set lists _ _ ∙ was.lines;
+      left = λ other above below.
+          list_stays lists line other _ (numbered_on other before logs) (omega (arith, above)) (was.left other (omega (arith, above)) below);
+    }
 
 pub loop-line-preserved-in_default : goal.loop-line-preserved-in_default
 loop-line-preserved-in_default c =
     let faults = c.in_ok-faults.faults.items in
+    let was = c.loop-line.invariant in
     let within : c.loop-line.line < length faults = omega (arith, c.in_ok-faults.ensures.many, c.loop-line-test.true) in
     let found = rw c.in_default.is at c.index.ensures in
-    line_past c.args.before c.args.logs.now c.args.last.now faults c.loop-line.line c.loop-line.findings.items within c.loop-line.invariant found
+    record {
+      found = line_past c.args.before c.args.logs.now c.args.last.now faults c.loop-line.line c.loop-line.findings.items within was.found found;
+      lines = was.lines;
+      left = λ other above below. was.left other (omega (arith, above)) below;
+    }
