@@ -1,5 +1,5 @@
 /* Nodes take turns in orders that adversaries choose. While an operation is pending, one is performed before many windows have
-** passed, in each of which each node takes a turn.
+** passed, in each of which each node takes a turn. And no operation waits for many windows, while others go on.
 **
 **     adversaries [TURNS [SEED]]
 */
@@ -7,8 +7,9 @@
 
 #include "expect.h"
 
-/* The most windows without a perform that a run may have. The greatest number that was seen is far below. */
-enum { MOST_WINDOWS = 1000, RUN_TURNS = 20000, NODES = SCI_MAX_NODES, CAME = NODES * 8, SENT = CAME + SCI_TURN_ROOM };
+/* The most windows without a perform that a run may have, and the most that an operation may wait. The greatest numbers that were seen
+** are far below. */
+enum { MOST_WINDOWS = 1000, MOST_WAIT = 10000, RUN_TURNS = 20000, NODES = SCI_MAX_NODES, CAME = NODES * 8, SENT = CAME + SCI_TURN_ROOM };
 
 /* In which order nodes take turns: one after another; any node; one or two nodes 61 times as often as others; one node as seldom as
 ** it may; each node many times in a row. */
@@ -24,7 +25,8 @@ static sci_node node[NODES];
 static sci_packet way[NODES][CAME];
 static size_t count[NODES];
 static int pending[NODES];
-static unsigned long turns, performs, longest;
+static unsigned long issued_at[NODES][SCI_MAX_LINES];
+static unsigned long turns, performs, longest, passed, longest_wait;
 static uint64_t state;
 
 static uint64_t drawn(uint64_t below) {
@@ -66,6 +68,7 @@ static void issue_one(const run_shape *shape, int n) {
     uint32_t serial;
     if (pending[n] < shape->most_pending && drawn(2) && sci_node_issue(&node[n], &op, &serial) == SCI_OK) {
         pending[n]++;
+        issued_at[n][op.line] = passed;
     }
 }
 
@@ -91,6 +94,9 @@ static int turn(int n) {
         return 0;
     }
     EXPECT(sci_node_perform(&node[n], want.line, &done), SCI_OK);
+    const unsigned long waited = passed - issued_at[n][want.line];
+    longest_wait = waited > longest_wait ? waited : longest_wait;
+    CHECK(waited < MOST_WAIT);
     pending[n]--;
     performs++;
     return 1;
@@ -106,8 +112,9 @@ static int is_pending(int nodes) {
 
 /* Turns in one order, until this many were taken and nothing is pending any more. */
 static void run(run_shape *shape) {
+    const unsigned all = (1u << shape->nodes) - 1;
     unsigned long windows = 0, end = turns + RUN_TURNS;
-    unsigned came = 0;
+    unsigned came = 0, came_all = 0;
     memset(count, 0, sizeof count);
     memset(pending, 0, sizeof pending);
     for (int n = 0; n < shape->nodes; n++) {
@@ -118,13 +125,19 @@ static void run(run_shape *shape) {
         if (turns < end) {
             issue_one(shape, n);
         }
-        if (turn(n) || !is_pending(shape->nodes)) {
+        const int performed = turn(n);
+        came_all |= 1u << n;
+        if (came_all == all) {
+            came_all = 0;
+            passed++;
+        }
+        if (performed || !is_pending(shape->nodes)) {
             windows = 0;
             came = 0;
             continue;
         }
         came |= 1u << n;
-        if (came == (1u << shape->nodes) - 1) {
+        if (came == all) {
             came = 0;
             windows++;
             longest = windows > longest ? windows : longest;
@@ -155,7 +168,7 @@ int main(int words, char **arguments) {
         }
     }
     if (words > 1) {
-        printf("%lu turns, %lu performs, at most %lu windows without one\n", turns, performs, longest);
+        printf("%lu turns, %lu performs, at most %lu windows without one, and at most %lu until an operation's own\n", turns, performs, longest, longest_wait);
     }
     return failed;
 }
