@@ -110,7 +110,7 @@ impl Policy {
         self.draining.and(node.kinds.drains).has(line)
             || (matches!(node.held(line), Held::Head { .. })
                 && node.has_maker(line)
-                && !self.used.has(line))
+                && !(self.turns == 0 && self.used.has(line)))
     }
 
     pub fn keeps(&self, node: &Node, request: &Packet) -> bool {

@@ -3,7 +3,7 @@ use Rattle.std.proofs.Common.{◌≡◌, ◌<◌, ℕ, ◌∷◌, All, Bool, tru
 use Rattle.std.proofs.Common.{◌∙◌, not}
 use Rattle.std.proofs.lemmas.List.Elements.{All-head}
 use Rattle.std.specs.List.{AllByRecursion}
-use Rattle.std.specs.Prelude.{IfSome, is_some, slice_get}
+use Rattle.std.specs.Prelude.{IfSome, is_some, slice_get, ◌==◌}
 use Rattle.sci_words.specs.{declared.event.{AskKind.{AskKind}, Event.{Event}}, Operation.{is_maker}}
 use Rattle.sci_packets.specs.declared.body.Body.{Body}
 use Rattle.sci_cache.specs.{State.{CacheState, Asking, is_out}, Asking.{Asked, asking}, Accepting.{accepting}}
@@ -54,22 +54,27 @@ held_bits cread drains head is = search rules
 served_if : (keep refuse : Bool) → (if keep then decision.Keep else if refuse then decision.Refuse else decision.Serve) ≡ decision.Serve → refuse ≡ false
 served_if keep refuse is = search rules
 
-held_work : (used b cread drains : Bool) (s : CacheState) (request : Body) → is_cread request ≡ cread
-    → (cread && (drains || (is_head s && (b && not used)))) ≡ false → IsHeldFor used (Some b) s request
-held_work true b cread drains s request is none = tt
-held_work false true cread drains s request is none = ap (λ (c : Bool). c && is_head s) is ∙ held_bits cread drains (is_head s) none
-held_work false false cread drains s request is none = tt
+held_last : (last : Bool) → not (last && false) ≡ true
+held_last last = search rules
 
-held_by : (used : Bool) (o : Option Pending) (cread drains : Bool) (s : CacheState) (request : Body) → is_cread request ≡ cread
-    → (cread && (drains || (is_head s && (is_maker_of o && not used)))) ≡ false → IsHeldFor used (work_in o) s request
-held_by true o cread drains s request is none = tt
-held_by false None cread drains s request is none = tt
-held_by false (Some p) cread drains s request is none = held_work false (is_maker p.op) cread drains s request is none
+held_work : (used last b cread drains : Bool) (s : CacheState) (request : Body) → is_cread request ≡ cread
+    → (cread && (drains || (is_head s && (b && not (last && used))))) ≡ false → IsHeldFor used (Some b) s request
+held_work true last b cread drains s request is none = tt
+held_work false last true cread drains s request is none =
+    ap (λ (c : Bool). c && is_head s) is
+    ∙ held_bits cread drains (is_head s) (subst (λ (h : Bool). (cread && (drains || (is_head s && h))) ≡ false) (held_last last) none)
+held_work false last false cread drains s request is none = tt
+
+held_by : (used last : Bool) (o : Option Pending) (cread drains : Bool) (s : CacheState) (request : Body) → is_cread request ≡ cread
+    → (cread && (drains || (is_head s && (is_maker_of o && not (last && used))))) ≡ false → IsHeldFor used (work_in o) s request
+held_by true last o cread drains s request is none = tt
+held_by false last None cread drains s request is none = tt
+held_by false last (Some p) cread drains s request is none = held_work false last (is_maker p.op) cread drains s request is none
 
 pub serve_held : (policy : PolicyOf) (node : NodeOf) (request : Letter) → decided policy node request ≡ decision.Serve
     → IsHeldFor (has policy.used request.line) (work_on node request.line) (state_on node request.line) request.body
 serve_held policy node request serves =
-    held_by (has policy.used request.line) (pending_on node request.line) (is_cread request.body) (still_draining policy node request.line)
+    held_by (has policy.used request.line) (policy.turns == 0) (pending_on node request.line) (is_cread request.body) (still_draining policy node request.line)
     (state_on node request.line) request.body refl (served_if (kept_by policy node request) (refused_by policy node request) serves)
 
 -- ---- each side

@@ -20,7 +20,7 @@ pub fn purges_find_followers()
 
 /// The tables never raise the level, whatever is pending and whether the line was used or not, but where a load is purged that
 /// could be performed: to accept, if an answer to a read fits what is pending; to serve, if a Cread for the head of a pending
-/// maker is refused until the line was used; and to ask what suits what is pending, where it can't be performed, and where a
+/// maker is refused, unless the line was used; and to ask what suits what is pending, where it can't be performed, and where a
 /// read begins anew.
 pub fn tables_never_raise_the_level()
     ensures accept { (used : Bool) (work : Option Bool) (state : CacheState) (answer : Body)

@@ -218,16 +218,17 @@ head_awaits s head = search rules
 head_busy : (s : CacheState) → is_head s ≡ true → is_busy_now s ≡ false
 head_busy s head = search rules
 
-used_no : (c drains head maker used : Bool) → drains ≡ false → used ≡ true → (c && (drains || (head && (maker && not used)))) ≡ false
-used_no c drains head maker used none is = search rules
+used_no : (c drains head maker used last : Bool) → drains ≡ false → used ≡ true → last ≡ true
+    → (c && (drains || (head && (maker && not (last && used))))) ≡ false
+used_no c drains head maker used last none is now = search rules
 
-pub used_given : (policy : PolicyOf) (node : NodeOf) (request : Letter) → is_head (state_on node request.line) ≡ true
+pub used_given : (policy : PolicyOf) (node : NodeOf) (request : Letter) → policy.turns ≡ 0 → is_head (state_on node request.line) ≡ true
     → has policy.used request.line ≡ true → still_draining policy node request.line ≡ false → decided policy node request ≡ Serve
-used_given policy node request head used drains =
+used_given policy node request zero head used drains =
     let s = state_on node request.line in
     let refused : refused_by policy node request ≡ false =
-    used_no (is_cread request.body) (still_draining policy node request.line) (is_head s) (has_maker node request.line) (has policy.used request.line) drains
-    used in
+    used_no (is_cread request.body) (still_draining policy node request.line) (is_head s) (has_maker node request.line) (has policy.used request.line)
+    (policy.turns == 0) drains used (eq-eqb policy.turns 0 zero) in
     let kept : kept_by policy node request ≡ false =
     kept_no (is_cread request.body) _ (awaits_home s) _ (is_busy_now s) (refused_by policy node request) (head_awaits s head) (head_busy s head) refused in
     serve_if (kept_by policy node request) (refused_by policy node request) kept refused

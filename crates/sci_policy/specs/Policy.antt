@@ -188,9 +188,9 @@ abbrev pub is_cread : Body → Bool
 is_cread Cread = true
 is_cread _ = false
 
--- a line that its node doesn't give away yet: it is Head, a maker waits for it, and it wasn't used
+-- a line that its node doesn't give away yet: it is Head, a maker waits for it, and it wasn't used, or the turn isn't the one of PATIENCE
 abbrev pub is_held : PolicyOf → NodeOf → ℕ → Bool
-is_held policy node line = is_head (state_on node line) && (has_maker node line && not (has policy.used line))
+is_held policy node line = is_head (state_on node line) && (has_maker node line && not (policy.turns == 0 && has policy.used line))
 
 -- a request is refused: a Cread for a line that is draining, or held
 abbrev pub refused_by : PolicyOf → NodeOf → Letter → Bool

@@ -62,11 +62,12 @@ pub fn due_lines_stay_due()
         → has (next_policy policy node).due line ≡ true }
 {}
 
-/// A Head that was used, and that isn't draining, is given to the next node that asks, though a maker waits for it. So a node
-/// that always has one more store to a line doesn't keep it from the others.
+/// In the turn of 64 in which the count of turns is 0, a Head that was used, and that isn't draining, is given to the next node
+/// that asks, though a maker waits for it. So a node that always has one more store to a line doesn't keep it from the others.
 pub fn used_lines_are_given_away()
     ensures { (policy : PolicyOf) (node : NodeOf) (request : Letter)
-        → is_head (state_on node request.line) ≡ true → has policy.used request.line ≡ true
+        → policy.turns ≡ 0 → is_head (state_on node request.line) ≡ true
+        → has policy.used request.line ≡ true
         → still_draining policy node request.line ≡ false → decided policy node request ≡ Serve }
 {}
 

@@ -201,8 +201,8 @@ impl Policy {
     }
 
     /// Whether a request is refused: a Cread for a line that is draining; or for one that is Head, while a maker of this
-    /// node is pending on it, until the line was used: it was Head, and an operation there could be performed, when `next`
-    /// wanted to perform something, and the node didn't read the line since then.
+    /// node is pending on it. In one turn of 64 such a line is given away if it was used: it was Head, and an operation
+    /// there could be performed, when `next` wanted to perform something, and the node didn't read the line since then.
     pub fn refuses(&self, node: &Node, request: &Packet) -> bool
         ensures { result ≡ refused_by self.now node.now (letter_of request.now) }
     {
@@ -216,7 +216,7 @@ impl Policy {
     fn holds(&self, node: &Node, line: u8) -> bool
         ensures { result ≡ is_held self.now node.now line }
     {
-        is_head(node, line) && has_maker(node, line) && !self.used.has(line)
+        is_head(node, line) && has_maker(node, line) && !(self.turns == 0 && self.used.has(line))
     }
 
     /// Whether a request stays where it is for now, to be looked at again in a later turn: another node's Cread for a line
