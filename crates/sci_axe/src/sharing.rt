@@ -34,13 +34,34 @@ fn sampled(alloc: Global, accesses: &[Access]) -> Result<Vec<u64>, AllocError> {
     Ok(sample)
 }
 
-/// Where the addresses are cut, so that each of so many parts has about as many operations. There are fewer parts where many
-/// operations are at one address.
-fn cuts_for(alloc: Global, accesses: &[Access], parts: usize) -> Result<Vec<u64>, AllocError> {
-    let sample = sampled(alloc, accesses)?;
-    let mut low = sample.first().copied().unwrap_or(0);
+/// In how many parts a trace is judged: one if it is small, or if versions are taken from one order of all operations, and else
+/// one a processor.
+fn parts_for<T: Threads>(rt: &T, trace: &Trace, way: Way) -> usize {
+    if way.ordered || trace.accesses.len() < SHARED_OPERATIONS {
+        return 1;
+    }
+    match available_parallelism(rt) {
+        Ok(processors) => processors.get(),
+        Err(_) => 1,
+    }
+}
+
+/// Where the addresses of a trace are cut, so that each part has about as many operations. There are fewer parts where many
+/// operations are at one address, and no cuts if it is judged in one part.
+fn cuts_for<T: Threads>(
+    rt: &T,
+    alloc: Global,
+    trace: &Trace,
+    way: Way,
+) -> Result<Vec<u64>, AllocError> {
     let mut cuts = Vec::new(alloc);
-    for chunk in sample.chunks(sample.len() / parts.max(1) + 1) {
+    let parts = parts_for(rt, trace, way);
+    if parts < 2 {
+        return Ok(cuts);
+    }
+    let sample = sampled(alloc, &trace.accesses)?;
+    let mut low = sample.first().copied().unwrap_or(0);
+    for chunk in sample.chunks(sample.len() / parts + 1) {
         let first = chunk[0];
         if low < first {
             cuts.push(first)?;
@@ -157,20 +178,9 @@ fn judge_by_parts<T: Threads + Sync>(
     share.joined(alloc, judgements)
 }
 
-/// In how many parts a trace is judged: one if it is small, or if versions are taken from one order of all operations, and else
-/// one a processor.
-fn parts_for<T: Threads>(rt: &T, trace: &Trace, way: Way) -> usize {
-    if way.ordered || trace.accesses.len() < SHARED_OPERATIONS {
-        return 1;
-    }
-    match available_parallelism(rt) {
-        Ok(processors) => processors.get(),
-        Err(_) => 1,
-    }
-}
-
 /// Judges a trace as `sci_judge` does. The addresses of a large one are shared out among the processors, and the judgement is
-/// that of one thread. Refused only if memory is.
+/// that of one thread. Where memory for the parts is refused, one thread judges the whole, which takes less. Refused only if
+/// memory is.
 pub(crate) fn judge_shared<T: Threads + Sync>(
     rt: &T,
     alloc: Global,
@@ -180,11 +190,7 @@ pub(crate) fn judge_shared<T: Threads + Sync>(
     requires { AreKnown trace.now.accesses.items }
     ensures { IfOk result (IsJudgement way.timed trace.now) }
 {
-    let parts = parts_for(rt, trace, way);
-    if parts < 2 {
-        return judge(alloc, trace, way);
-    }
-    let cuts = cuts_for(alloc, &trace.accesses, parts)?;
+    let cuts = cuts_for(rt, alloc, trace, way)?;
     if cuts.is_empty() {
         return judge(alloc, trace, way);
     }
@@ -193,5 +199,8 @@ pub(crate) fn judge_shared<T: Threads + Sync>(
         way,
         cuts: &cuts,
     };
-    judge_by_parts(rt, alloc, share)
+    match judge_by_parts(rt, alloc, share) {
+        Ok(judgement) => Ok(judgement),
+        Err(_) => judge(alloc, trace, way),
+    }
 }
