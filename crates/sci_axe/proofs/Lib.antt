@@ -1,3 +1,4 @@
+pub mod Parts
 pub mod Lines
 pub mod Appends
 pub mod Logs

@@ -7,15 +7,15 @@ ghost use Rattle.sci_judge.specs.{Access.{AreKnown}, Judgement.{addresses_of}};
 ghost use Rattle.sci_axe.specs.JudgeAnswer.{IsJudgeAnswer, IsJudgeRefusal, IsOrdering, IsLogText, IsNoLogFault, logged_sites};
 
 use crate::misread::read_trace;
+use crate::sharing::judge_shared;
 use crate::telling::told;
 use sci_command::{Answer, Answered, Note, Outcome, Refusal};
-use sci_judge::{
-    Consistency, Judgement, NoLog, SiteVersions, Trace, Way, consistency_of, judge, log_of,
-};
+use sci_judge::{Consistency, Judgement, NoLog, SiteVersions, Trace, Way, consistency_of, log_of};
 use sci_text::{Tap, TextFaultKind, logs_text, read_input};
 use sci_words::MAX_NODES;
 use std::alloc::{AllocError, Global};
 use std::io::Read;
+use std::thread::Threads;
 
 /// What is asked of a trace.
 #[derive(Clone, Copy)]
@@ -113,8 +113,10 @@ fn ordering(
 /// nothing was found of them. A text with a fault is refused, as are a reader that fails, too long an input and running out of
 /// memory, at line 0; so is a coherent trace with more than 64 addresses or more than 65,536 operations of a processor, or of which
 /// no log was found, if a log is asked for. After a failed read nothing more is read. If a log is written, `lines` are the addresses
-/// of its lines of memory; if a verdict is, there are none.
-pub fn judge_trace<R: Read>(
+/// of its lines of memory; if a verdict is, there are none. The addresses of a large trace are shared out among the processors,
+/// unless an order of all operations is asked for, and the answer is that of one thread.
+pub fn judge_trace<T: Threads + Sync, R: Read>(
+    rt: &T,
     alloc: Global,
     request: JudgeRequest,
     reader: &mut Tap<R>,
@@ -133,7 +135,7 @@ pub fn judge_trace<R: Read>(
         ordered: request.ordered,
         limit: request.limit.unwrap_or(LIMIT),
     };
-    let judgement = judge(alloc, &trace, way)?;
+    let judgement = judge_shared(rt, alloc, &trace, way)?;
     match sites_to_log(request, &judgement) {
         Some(sites) => logged(alloc, &trace, sites, lines),
         None => {

@@ -6,6 +6,7 @@ mod line;
 mod misread;
 mod notation;
 mod reading;
+mod sharing;
 mod telling;
 
 pub use judging::{JudgeRequest, judge_trace};

@@ -74,7 +74,7 @@ pub fn carried_out<T: Threads + Sync, R: Read, W: Write>(
         Command::Check => show(writer, check(alloc, reader)),
         Command::Judge(request) => show(
             writer,
-            judge_trace(alloc, request, reader, &mut kept.lines),
+            judge_trace(rt, alloc, request, reader, &mut kept.lines),
         ),
         Command::Packets => show(writer, packets(alloc, reader)),
         Command::Trace(request) => show(writer, trace(alloc, request, reader)),
