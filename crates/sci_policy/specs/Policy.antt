@@ -188,7 +188,7 @@ abbrev pub is_cread : Body → Bool
 is_cread Cread = true
 is_cread _ = false
 
--- a line that its node doesn't give away yet: it is Head, a maker waits for it, and it wasn't used, or the turn isn't the one of PATIENCE
+-- a line that its node doesn't give away yet: it is Head, and a maker waits for it; in the one turn of PATIENCE only if it wasn't used
 abbrev pub is_held : PolicyOf → NodeOf → ℕ → Bool
 is_held policy node line = is_head (state_on node line) && (has_maker node line && not (policy.turns == 0 && has policy.used line))
 

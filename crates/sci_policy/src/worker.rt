@@ -11,8 +11,8 @@ use std::alloc::AllocError;
 ///
 /// Submit, then perform what can be performed, and then take a turn, again and again, as a round of `sci_drive` does. A
 /// caller has to perform what a turn calls ready: until then the node asks for nothing. One that always has one more store
-/// to a line doesn't keep it from other nodes, whether it submits before it performs or after: within 64 turns the line
-/// is given to the next node that asks.
+/// to a line doesn't keep it from other nodes, whether it submits before it performs or after: in the one turn of 64 in
+/// which requests are let go, a Head that was used is given to the next node that asks.
 pub trait Worker {
     ghost use Rattle.std.specs.Prelude.{◌≡◌, ◌++◌, true, List, [], ◌∷◌, Some, None, IfOk, IfErr, IfSome, IsErr};
     ghost use Rattle.sci_core.specs.{Node.{NodeOf, node_performing}, Work.{IsIssued, IsLogged}};
