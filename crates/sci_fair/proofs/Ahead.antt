@@ -20,7 +20,7 @@ use Rattle.sci_fair.proofs.Descents.{Comes, Falls, Stays, descend, turns_join, w
 use Rattle.sci_fair.proofs.{FirstWants.{performs_can}, Kept.{kept_along, leads, performable}, LaneTurns.{asks_keep}}
 use Rattle.sci_fair.proofs.{ReadCarries.{AsksAs, ask_as}, Requests.{good_along, size_along}, Retries.{never_purge}}
 use Rattle.sci_fair.proofs.StateSteps.{By_accept, By_ask, By_serve, StateStep, Stays as Remains, ask_one, state_step}
-use Rattle.sci_fair.proofs.{Steadied.{IsSteady, Steadily}, SteadyTurns.{Held, steady_turn}, Trace.{AreAll, is_taking}}
+use Rattle.sci_fair.proofs.{Steadied.{IsSame, IsSteady, Steadily}, SteadyTurns.{Held, steady_turn}, Trace.{AreAll, is_taking}}
 use Rattle.sci_fair.proofs.{Whereabouts.{Answered_from, Asked_at, in_lane, lane_packets, where_is}, WholeTurns.{sole}}
 use Rattle.sci_words.specs.declared.event.Event.TheVariants as event
 
@@ -249,7 +249,7 @@ asked_now n line old new good held some idle waiting =
     let f2 : from < c2.size.nodes = subst (λ (z : Size). from < z.nodes) (sym since.size) f_old in
     let n2 : n < c2.size.nodes = subst (λ (z : Size). n < z.nodes) (sym since.size) some in
     let l2 : line < c2.size.lines = subst (λ (z : Size). line < z.lines) (held.size ∙ sym since.size) inside in
-    let keeps = asks_keep n t.p2 c2 t.e3 t.p3 core from n t.are_asks held.asks f2 n2 in
+    let keeps = asks_keep IsSame n t.p2 c2 t.e3 t.p3 core from n t.are_asks held.asks f2 n2 in
     let there : IsAmong letter (lane_of c2 Answers from n) = subst (IsAmong letter) keeps.1 among in
     let packet = lane_packets c2 Answers from n n line letter since.reached f2 n2 about there in
     let alone = sole (line % c2.size.nodes) (line_of (node_at c2 n).cache line) (packets_of c2 n line) letter (reached_tidy c2 since.reached n line n2 l2)

@@ -7,7 +7,7 @@ use Rattle.std.specs.Prelude.{IfSome}
 use Rattle.sci_words.specs.declared.event.{AskKind.{AskKind}, Event.{Event}}
 use Rattle.sci_packets.specs.{declared.body.Body.{Body, TheVariants.{Cread}}, Table.{is_request}}
 use Rattle.sci_home.specs.{Serving.{is_for_home}}
-use Rattle.sci_cache.specs.{State.{CacheState, FreshHead, Head, waits}, Accepting.{accepting}, Asking.{Asked, asking}, Serving.{serving}}
+use Rattle.sci_cache.specs.{State.{CacheState, FreshHead, Head, Out, waits}, Accepting.{accepting}, Asking.{Asked, asking}, Serving.{serving}}
 use Rattle.sci_cache.specs.{Line.{LineState, line_in, untouched}, Cache.{Letter, line_of}}
 use Rattle.sci_core.specs.declared.lane.LaneKind.TheVariants.{Requests, Answers}
 use Rattle.sci_history.specs.Seen.{IsAmong}
@@ -18,8 +18,8 @@ use Rattle.sci_policy.specs.{Lines.{state_on}, Policy.{PolicyOf, awaits_home, tu
 use Rattle.sci_fair.specs.{Rank.{rank, work_in, work_on}, Steady.{Working}}
 use Rattle.sci_fair.specs.Steady.{WorksByTurns}
 use Rattle.sci_fair.proofs.ReadCarries.{asks_free}
-use Rattle.sci_fair.proofs.{StateSteps.{By_accept, By_ask, By_serve, StateStep, Stays, serve_one, state_step}, Steadied.{IsSteady, Steadily}}
-use Rattle.sci_fair.proofs.{SteadyTurns.{Held}, Trace.{AreAll, is_taking}, Whereabouts.{Answered_from, Asked_at, Where, lane_packets, same_packet, where_is}}
+use Rattle.sci_fair.proofs.{StateSteps.{By_accept, By_ask, By_serve, StateStep, Stays, serve_one, state_step}, Steadied.{Change, GoesBy, IsSteady, Steadily}}
+use Rattle.sci_fair.proofs.{SteadyTurns.{Held, HeldBy}, Trace.{AreAll, is_taking}, Whereabouts.{Answered_from, Asked_at, Where, lane_packets, same_packet, where_is}}
 use Rattle.sci_words.specs.declared.event.Event.TheVariants as event
 
 -- ---- the tables
@@ -57,6 +57,22 @@ open_waits work s opened = search rules
 
 pub awaiting_waits : (s : CacheState) → awaits_home s ≡ true → waits s ≡ true
 awaiting_waits s awaits = search rules
+
+-- what an answer of its home makes of such a line
+abbrev pub is_settled : CacheState → Bool
+is_settled Out = true
+is_settled (Head f c) = true
+is_settled (FreshHead f c) = true
+is_settled _ = false
+
+awaiting_settles : (s : CacheState) (a : Body) → awaits_home s ≡ true → IfSome (accepting s a) (λ t. is_settled t ≡ true)
+awaiting_settles s a awaits = search rules
+
+pub settled_accepts : (s : CacheState) (a : Body) → is_settled s ≡ true → accepting s a ≡ None
+settled_accepts s a settled = search rules
+
+pub settled_waits : (s : CacheState) → is_settled s ≡ true → waits s ≡ false
+settled_waits s settled = search rules
 
 -- ---- one event
 
@@ -137,6 +153,18 @@ step_awaits e line s t (By_accept is a accepts) never awaits = absurd (never is)
 step_awaits e line s t (By_ask is k asked asks next) never awaits =
     absurd (let clash : None ≡ Some asked = sym (awaiting_asks s k awaits) ∙ asks in cc)
 
+abbrev pub IsSettledAt : ℕ → ℕ → Core → Type 0
+IsSettledAt n line x = is_settled (state_on (node_at x n) line) ≡ true
+
+step_settles : (e : Event) (line : ℕ) (s t : CacheState) → StateStep e line s t → is_accept e ≡ true → (awaits_home s ≡ true) ⊎ (is_settled s ≡ true)
+    → (awaits_home t ≡ true) ⊎ (is_settled t ≡ true)
+step_settles e line s t (Stays same) kind either = subst (λ (r : CacheState). (awaits_home r ≡ true) ⊎ (is_settled r ≡ true)) (sym same) either
+step_settles e line s t (By_accept is a accepts) kind (inl awaits) =
+    inr (of_some (λ (r : CacheState). is_settled r ≡ true) (accepting s a) t accepts (awaiting_settles s a awaits))
+step_settles e line s t (By_accept is a accepts) kind (inr settled) = absurd (let clash : None ≡ Some t = sym (settled_accepts s a settled) ∙ accepts in cc)
+step_settles e line s t (By_serve is m r b serves) kind either = absurd (accept_no_service e kind is)
+step_settles e line s t (By_ask is k asked asks next) kind either = absurd (accept_no_ask e kind is)
+
 -- ---- many events
 
 module _ (n line : ℕ) where
@@ -163,24 +191,33 @@ module _ (n line : ℕ) where
       (step_opens e line (work_on (node_at x n) line) (state_on (node_at x n) line) (state_on (node_at mid n) line)
       (state_step n p x steady.0 mid line e st) kinds.0 (same_rank n p x e steady.0 mid line st) opened))
 
-  pub await_all : (kind : Event → Bool) → ((e : Event) → kind e ≡ true → is_accept e ≡ true → ⊥) → (p : PolicyOf) (x : Core) (events : List Event)
-      → (q : PolicyOf) (y : Core) → AreAll kind events → Steadily n p x events q y → Awaits n line x → Awaits n line y
-  await_all kind never p x [] q y kinds steady awaits = subst (Awaits n line) steady.1 awaits
-  await_all kind never p x (e ∷ events) q y kinds steady awaits =
-      let mid = steady.1 in
-      await_all kind never steady.0 mid events q y kinds.1 steady.3
-      (step_awaits e line (state_on (node_at x n) line) (state_on (node_at mid n) line) (state_step n p x steady.0 mid line e steady.2)
+  pub await_all : (K : Change) (kind : Event → Bool) → ((e : Event) → kind e ≡ true → is_accept e ≡ true → ⊥) → (p : PolicyOf) (x : Core)
+      → (events : List Event) (q : PolicyOf) (y : Core) → AreAll kind events → GoesBy K n p x events q y → Awaits n line x → Awaits n line y
+  await_all K kind never p x [] q y kinds goes awaits = subst (Awaits n line) goes.1 awaits
+  await_all K kind never p x (e ∷ events) q y kinds goes awaits =
+      let mid = goes.1 in
+      await_all K kind never goes.0 mid events q y kinds.1 goes.3
+      (step_awaits e line (state_on (node_at x n) line) (state_on (node_at mid n) line) (state_step n p x goes.0 mid line e goes.2)
       (never e kinds.0) awaits)
+
+  -- while answers are accepted, the line awaits its home's word, or has it
+  pub settle_all : (K : Change) (p : PolicyOf) (x : Core) (events : List Event) (q : PolicyOf) (y : Core) → AreAll is_accept events
+      → GoesBy K n p x events q y → Awaits n line x ⊎ IsSettledAt n line x → Awaits n line y ⊎ IsSettledAt n line y
+  settle_all K p x [] q y kinds goes either = subst (λ (c : Core). Awaits n line c ⊎ IsSettledAt n line c) goes.1 either
+  settle_all K p x (e ∷ events) q y kinds goes either =
+      let mid = goes.1 in
+      settle_all K goes.0 mid events q y kinds.1 goes.3
+      (step_settles e line (state_on (node_at x n) line) (state_on (node_at mid n) line) (state_step n p x goes.0 mid line e goes.2) kinds.0 either)
 
 -- ---- a turn of the node that awaits
 
-pub answered_core : (n : ℕ) (old new : Working) → WorksByTurns old.core → (held : Held n old new) → (m : ℕ) → (node_at held.trace.c1 m).waiting ≡ None
+pub answered_core : {K : Change} (n : ℕ) (old new : Working) → WorksByTurns old.core → (held : HeldBy K n old new) → (m : ℕ) → (node_at held.trace.c1 m).waiting ≡ None
 answered_core n old new good held m = elim (cases_eq m n) [
   | inl same ↦ subst (λ (k : ℕ). (node_at held.trace.c1 k).waiting ≡ None) (sym same) held.trace.accepted.free
   | inr other ↦ ap (λ (part : NodeOf). part.waiting) (held.trace.accepted.since.others m other) ∙ good.between.free m
 ]
 
-never_where : (n from line : ℕ) (old new : Working) (answer : Letter) → WorksByTurns old.core → (held : Held n old new) → n < old.core.size.nodes
+never_where : {K : Change} (n from line : ℕ) (old new : Working) (answer : Letter) → WorksByTurns old.core → (held : HeldBy K n old new) → n < old.core.size.nodes
     → line < old.core.size.lines → from < old.core.size.nodes → is_request answer.body ≡ false → is_about n line answer ≡ true
     → IsAmong answer (lane_of old.core Answers from n) → Where held.trace.c1 n line → ⊥
 never_where n from line old new answer good held some inside f answers about among (Asked_at to letter g asks asked there) =
@@ -198,7 +235,7 @@ never_where n from line old new answer good held some inside f answers about amo
     elim none [ ]
 
 -- an answer that has come is accepted: where one is under way to a line, the line doesn't wait when the turn has accepted
-pub accepted_idle : (n from line : ℕ) (old new : Working) (answer : Letter) → WorksByTurns old.core → (held : Held n old new) → n < old.core.size.nodes
+pub accepted_idle : {K : Change} (n from line : ℕ) (old new : Working) (answer : Letter) → WorksByTurns old.core → (held : HeldBy K n old new) → n < old.core.size.nodes
     → line < old.core.size.lines → from < old.core.size.nodes → is_request answer.body ≡ false → is_about n line answer ≡ true
     → IsAmong answer (lane_of old.core Answers from n) → waits (state_on (node_at held.trace.c1 n) line) ≡ false
 accepted_idle n from line old new answer good held some inside f answers about among = elim (cases_Bool (waits (state_on (node_at held.trace.c1 n) line))) [

@@ -106,6 +106,11 @@ pub data Falls (Help : ℕ → ℕ → Working → Type 0) (k h i : ℕ) (new : 
   Less : (less next : ℕ) → less < k → Help less next new → Falls Help k h i new
   Stays : i ≢ h → Help k h new → Falls Help k h i new
 
+pub falls_as : (Help More : ℕ → ℕ → Working → Type 0) (k h i : ℕ) (new : Working) → ((less next : ℕ) → Help less next new → More less next new)
+    → Falls Help k h i new → Falls More k h i new
+falls_as Help More k h i new give (Less less next lt help) = Less less next lt (give less next help)
+falls_as Help More k h i new give (Stays other help) = Stays other (give k h help)
+
 module _ (IsTurn : ℕ → Working → Working → Type 0) (nodes : ℕ) (Done : ℕ → Working → Working → Type 0) (Help : ℕ → ℕ → Working → Type 0)
     (step : (k h i : ℕ) (old new : Working) → Help k h old → IsTurn i old new → Done i old new ⊎ Falls Help k h i new)
     (some : (k h : ℕ) (w : Working) → Help k h w → h < nodes) (extra : ℕ) (last : Working) where

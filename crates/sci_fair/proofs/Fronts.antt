@@ -1,5 +1,5 @@
 -- In steady turns the front of each lane of requests is taken before many windows have passed.
-use Rattle.std.proofs.Common.{◌≡◌, ◌≢◌, ◌<◌, ◌+◌, ◌-◌, ◌%◌, ◌⊎◌, ◌&&◌, ◌||◌, ℕ, zero, suc, Bool, true, false, arith}
+use Rattle.std.proofs.Common.{◌≡◌, ◌≢◌, ◌≤◌, ◌<◌, ◌+◌, ◌-◌, ◌%◌, ◌⊎◌, ◌&&◌, ◌||◌, ℕ, zero, suc, Bool, true, false, arith}
 use Rattle.std.proofs.Common.{List, [], ◌∷◌, ◌++◌, length, Option, Some, None, refl, sym, ap, subst, ◌∙◌, inl, inr, rules}
 use Rattle.std.proofs.lemmas.{Bool.{cases_eq}, List.{length-append}}
 use Rattle.std.proofs.Math.Nat.{mod-lt}
@@ -17,7 +17,7 @@ use Rattle.sci_policy.proofs.{Deciding.{kept_if}, PolicyLaws.{kept_awaits_home, 
 use Rattle.sci_fair.specs.{Rank.{work_in, work_on}, Steady.{AreTurns, HasWindows, IsSteadyTurn, Working}}
 use Rattle.sci_fair.specs.Steady.{WorksByTurns}
 use Rattle.sci_fair.proofs.Awaiting.{Awaits, ask_no_accept, await_all, awaited_opens, is_open_head, open_all, serves_no_cread, taking_no_accept}
-use Rattle.sci_fair.proofs.{Descents.{ComesBy, Falls, Less, Stays, descend, windows_fewer}}
+use Rattle.sci_fair.proofs.{Descents.{ComesBy, Falls, Less, Stays, descend, falls_as, windows_fewer}}
 use Rattle.sci_fair.proofs.{HomeAnswers.{AnsweredAt, AskedAt, answered_turn, asked_turn, where_home}}
 use Rattle.sci_fair.proofs.LaneTurns.{Is_kept, Is_taken, front_at}
 use Rattle.sci_turn.specs.Moves.{IsOwn}
@@ -28,7 +28,9 @@ use Rattle.sci_core.proofs.Step.Places.{place_requests}
 use Rattle.sci_policy.specs.declared.decision.Decision.{Decision}
 use Rattle.sci_fair.proofs.HomeAnswers.{gained_by, lane_kept}
 use Rattle.sci_fair.proofs.Whereabouts.{in_lane}
-use Rattle.sci_fair.proofs.{Steadied.{IsSteady, Steadily}, SteadyTurns.{Held, steady_turn}, Trace.{AreAll, is_taking}, Vain.{first_need, next_turns, one_more}}
+use Rattle.sci_fair.proofs.{Standing.{AwaitsWord, FrontTaken, StandsAt, asks_home, counts_turn, front_inside, lets_go, own_front, stands_kept, stands_own, within}}
+use Rattle.sci_fair.proofs.Standing.{never_longer, word_below, word_of, word_other, word_own}
+use Rattle.sci_fair.proofs.{Steadied.{IsSame, IsSteady, Steadily}, SteadyTurns.{Held, steady_turn}, Trace.{AreAll, is_taking}, Vain.{first_need, next_turns, one_more}}
 use Rattle.sci_policy.specs.declared.decision.Decision.TheVariants as decision
 use Rattle.sci_words.specs.declared.event.Event.TheVariants as event
 
@@ -72,214 +74,37 @@ opens_serve policy node request opened =
     refused in
     serve_if (kept_by policy node request) (refused_by policy node request) kept refused
 
--- ---- the turns that a policy has counted
-
-own_turns : (n : ℕ) (p : PolicyOf) (x : Core) (e : Event) (q : PolicyOf) → IsOwn n p x e q → q.turns ≡ p.turns
-own_turns n p x (event.Serve from i) q own = ap (λ (r : PolicyOf). r.turns) own.decides.1
-own_turns n p x (event.Refuse from i) q own = ap (λ (r : PolicyOf). r.turns) own.decides.1
-own_turns n p x (event.Accept from i) q own = ap (λ (r : PolicyOf). r.turns) own.decides
-own_turns n p x (event.Reply i) q own = ap (λ (r : PolicyOf). r.turns) own.decides
-own_turns n p x (event.Ask i line k) q own = ap (λ (r : PolicyOf). r.turns) own.decides.1 ∙ next_turns p (node_at x n)
-own_turns n p x (event.Issue i op) q own = let no = own.kind.kind in cc
-own_turns n p x (event.Perform i line) q own = let no = own.kind.kind in cc
-
-turns_all : (n : ℕ) (p : PolicyOf) (x : Core) (events : List Event) (q : PolicyOf) (y : Core) → Steadily n p x events q y → q.turns ≡ p.turns
-turns_all n p x [] q y steady = ap (λ (r : PolicyOf). r.turns) (sym steady.0)
-turns_all n p x (e ∷ events) q y steady = turns_all n steady.0 steady.1 events q y steady.3 ∙ own_turns n p x e steady.0 steady.2.own
-
--- ---- the front of a lane is taken, or is there still
-
-pub record TookIt (n j : ℕ) (front : Letter) (rest : List Letter) (last : Core) : Type 0 where
-  pub p : PolicyOf
-  pub x : Core
-  pub e : Event
-  pub q : PolicyOf
-  pub y : Core
-  pub steady : IsSteady n p x e q y
-  pub lane : lane_of x Requests j n ≡ front ∷ rest
-  pub takes : (e ≡ event.Serve j n) ⊎ (e ≡ event.Refuse j n)
-  pub more : List Letter
-  pub left : rest ≡ more ++ lane_of last Requests j n
-
-module _ (n j : ℕ) (front : Letter) (rest : List Letter) where
-  took_now : (p : PolicyOf) (x : Core) (e : Event) (events : List Event) (r : PolicyOf) (last : Core) (q : PolicyOf) (y : Core)
-      → IsSteady n p x e q y → (e ≡ event.Serve j n) ⊎ (e ≡ event.Refuse j n) → lane_of x Requests j n ≡ front ∷ rest → lane_of y Requests j n ≡ rest
-      → AreAll is_taking events → Steadily n q y events r last → j < x.size.nodes → TookIt n j front rest last
-  took_now p x e events r last q y st takes lane now kinds steady f =
-      let size = size_kept n p x q y e st in
-      let lost = lost_all n q y events r last j kinds steady (subst (λ (z : Size). j < z.nodes) (sym size) f) in
-      record { p = p; x = x; e = e; q = q; y = y; steady = st; lane = lane; takes = takes; more = lost.0; left = sym now ∙ lost.1 }
-
-  first_taken : (p : PolicyOf) (x : Core) (events : List Event) (q : PolicyOf) (y : Core) → AreAll is_taking events → Steadily n p x events q y
-      → j < x.size.nodes → lane_of x Requests j n ≡ front ∷ rest → (lane_of y Requests j n ≡ front ∷ rest) ⊎ TookIt n j front rest y
-  first_taken p x [] q y kinds steady f lane = inl (subst (λ (c : Core). lane_of c Requests j n ≡ front ∷ rest) steady.1 lane)
-  first_taken p x (e ∷ events) q y kinds steady f lane =
-      let mid = steady.1 in
-      let size = size_kept n p x steady.0 mid e steady.2 in
-      elim (take_one n j p x steady.0 mid e front rest steady.2 kinds.0 f lane) [
-        | inl same ↦ first_taken steady.0 mid events q y kinds.1 steady.3 (subst (λ (z : Size). j < z.nodes) (sym size) f) same
-        | inr took ↦ inr (took_now p x e events q y steady.0 mid steady.2 took.0 lane took.1 kinds.1 steady.3 f)
-      ]
-
 -- ---- what is helpful while the front is kept
 
--- the front of the lane from node j to node n
-record StandsAt (size : Size) (n j : ℕ) (front : Letter) (w : Working) : Type 0 where
-  good : WorksByTurns w.core
-  size_is : w.core.size ≡ size
-  rest : List Letter
-  lane : lane_of w.core Requests j n ≡ front ∷ rest
-
--- node n counts its turns to the one in which it lets requests go; or its line awaits its home's word, and then has its answer
-data Helps (size : Size) (n j : ℕ) (front : Letter) (k h : ℕ) (w : Working) : Type 0 where
+-- node n counts its turns to the one in which it lets requests go; or its line awaits its home's word
+pub data Helps (size : Size) (n j : ℕ) (front : Letter) (k h : ℕ) (w : Working) : Type 0 where
   Counts : StandsAt size n j front w → h ≡ n → (need : ℕ) → ((w.policies n).turns + need + 1) % 64 ≡ 0 → k ≡ need + 6 → Helps size n j front k h w
-  Asked_home : StandsAt size n j front w → front.body ≡ Cread → Awaits n front.line w.core → h ≡ front.line % size.nodes → (ahead : ℕ)
-      → AskedAt n h front.line ahead w.core → k ≡ suc ahead → Helps size n j front k h w
-  Has_answer : StandsAt size n j front w → front.body ≡ Cread → Awaits n front.line w.core → h ≡ n → AnsweredAt n front.line w.core → k ≡ 0
-      → Helps size n j front k h w
-
--- the front was taken in this turn
-pub record FrontTaken (n j : ℕ) (front : Letter) (i : ℕ) (old new : Working) : Type 0 where
-  pub server : i ≡ n
-  pub good : WorksByTurns old.core
-  pub held : Held i old new
-  pub rest : List Letter
-  pub lane : lane_of old.core Requests j n ≡ front ∷ rest
-  pub took : TookIt n j front rest held.trace.c2
-
--- ---- a turn of another node, and of the node
-
-front_inside : (core : Core) (n j : ℕ) (front : Letter) (rest : List Letter) → WorksByTurns core → n < core.size.nodes → j < core.size.nodes
-    → lane_of core Requests j n ≡ front ∷ rest → front.line < core.size.lines
-front_inside core n j front rest good some f lane =
-    let place = lane_place core.size.nodes Requests j n in
-    let is = in_lane core place front good.reached (subst (IsAmong front) (sym lane) (inl refl)) in
-    (is.request (place_requests core.size.nodes j n f some)).letter_ok.about
-
-never_longer : (front : Letter) (rest more lane : List Letter) → rest ≡ more ++ lane → lane ≡ front ∷ rest → ⊥
-never_longer front rest more lane is same =
-    let long : length rest ≡ length (more ++ lane) = ap length is in
-    let parts = length-append more lane in
-    let longer : length lane ≡ suc (length rest) = ap length same in
-    absurd (omega (arith, long, parts, longer))
+  Word : AwaitsWord 0 size n j front k h w → Helps size n j front k h w
 
 module _ (size : Size) (n j : ℕ) (some : n < size.nodes) (f : j < size.nodes) (front : Letter) where
-  within : (a : ℕ) (core : Core) → core.size ≡ size → a < size.nodes → a < core.size.nodes
-  within a core is below = subst (λ (z : Size). a < z.nodes) (sym is) below
-
-  stands_kept : (i : ℕ) (old new : Working) → (held : Held i old new) → i ≢ n → i < old.core.size.nodes → StandsAt size n j front old
-      → StandsAt size n j front new
-  stands_kept i old new held other here at =
-      let gained = lane_kept i j n old new held here (within j old.core at.size_is f) (within n old.core at.size_is some) other in
-      record {
-        good = held.good;
-        size_is = held.size ∙ at.size_is;
-        rest = at.rest ++ gained.0;
-        lane = gained.1 ∙ ap (λ (l : List Letter). l ++ gained.0) at.lane;
-      }
-
-  stands_own : (old new : Working) → (held : Held n old new) → (at : StandsAt size n j front old) → lane_of held.trace.c2 Requests j n ≡ front ∷ at.rest
-      → StandsAt size n j front new
-  stands_own old new held at lane =
-      let gained = gained_by n j n old new held (within j old.core at.size_is f) (within n old.core at.size_is some) in
-      record {
-        good = held.good;
-        size_is = held.size ∙ at.size_is;
-        rest = at.rest ++ gained.0;
-        lane = gained.1 ∙ ap (λ (l : List Letter). l ++ gained.0) lane;
-      }
-
-  -- in the node's own turn the front is taken, or it is kept when it is looked at
-  own_front : (old new : Working) → (held : Held n old new) → (at : StandsAt size n j front old)
-      → (lane_of held.trace.c2 Requests j n ≡ front ∷ at.rest) ⊎ FrontTaken n j front n old new
-  own_front old new held at =
-      let f0 = within j old.core at.size_is f in
-      let n0 = within n old.core at.size_is some in
-      let c1 = held.trace.c1 in
-      let f1 : j < c1.size.nodes = subst (λ (z : Size). j < z.nodes) (sym held.trace.accepted.since.size) f0 in
-      let lane : lane_of c1 Requests j n ≡ front ∷ at.rest = held.trace.accepted.requests j n f0 n0 ∙ at.lane in
-      elim (first_taken n j front at.rest held.trace.p1 c1 held.trace.e2 held.trace.p2 held.trace.c2 held.trace.are_takes held.takes f1 lane) [
-        | inl same ↦ inl same
-        | inr took ↦ inr (record { server = refl; good = at.good; held = held; rest = at.rest; lane = at.lane; took = took })
-      ]
-
-  kept_there : (old new : Working) → (held : Held n old new) → (at : StandsAt size n j front old) → lane_of held.trace.c2 Requests j n ≡ front ∷ at.rest
-      → (g : j < old.core.size.nodes) → kept_by (held.trace.looks j g).p (node_at (held.trace.looks j g).c n) front ≡ true
-  kept_there old new held at same g = elim (front_at n j old new held g front at.rest at.good (within n old.core at.size_is some) at.lane) [
-    | Is_kept keep ↦ kept_if (kept_by (held.trace.looks j g).p (node_at (held.trace.looks j g).c n) front)
-        (refused_by (held.trace.looks j g).p (node_at (held.trace.looks j g).c n) front) keep
-    | Is_taken more is q next e decides st ↦ absurd (never_longer front at.rest more (lane_of held.trace.c2 Requests j n) is same)
-  ]
-
-  -- the policy counts the turn
-  counts_turn : (old new : Working) → (held : Held n old new) → (new.policies n).turns ≡ (turned (old.policies n)).turns
-  counts_turn old new held =
-      let t = held.trace in
-      let begins = turned (old.policies n) in
-      let first = turns_all n begins old.core t.e1 t.p1 t.c1 held.accepts in
-      let second = turns_all n t.p1 t.c1 t.e2 t.p2 t.c2 held.takes in
-      let third = turns_all n t.p2 t.c2 t.e3 t.p3 new.core held.asks in
-      let all : t.p3.turns ≡ begins.turns = third ∙ (second ∙ first) in
-      elim t.last [
-        | inl same ↦ ap (λ (r : PolicyOf). r.turns) same ∙ all
-        | inr next ↦ ap (λ (r : PolicyOf). r.turns) next ∙ (next_turns t.p3 (node_at new.core n) ∙ all)
-      ]
-
-  look_turns : (old new : Working) → (held : Held n old new) → (g : j < old.core.size.nodes) → (held.trace.looks j g).p.turns ≡ (turned (old.policies n)).turns
-  look_turns old new held g =
-      let t = held.trace in
-      let look = t.looks j g in
-      turns_all n t.p1 t.c1 look.first look.p look.c (held.before j g) ∙ turns_all n (turned (old.policies n)) old.core t.e1 t.p1 t.c1 held.accepts
-
-  -- the turn in which requests are let go: what is kept then is about a line that awaits its home's word
-  lets_go : (old new : Working) → (held : Held n old new) → (at : StandsAt size n j front old) → lane_of held.trace.c2 Requests j n ≡ front ∷ at.rest
-      → (turned (old.policies n)).turns ≡ 0 → (front.body ≡ Cread) × Awaits n front.line new.core
-  lets_go old new held at same due =
-      let g = within j old.core at.size_is f in
-      let t = held.trace in
-      let look = t.looks j g in
-      let kept = kept_there old new held at same g in
-      let awaits = kept_awaits_home look.p (node_at look.c n) front (look_turns old new held g ∙ due) kept in
-      let second = await_all n front.line is_taking taking_no_accept look.p look.c look.second t.p2 t.c2 look.second_takes (held.after j g) awaits in (
-        (kept_is_cread look.p (node_at look.c n) front kept).0,
-        await_all n front.line is_ask ask_no_accept t.p2 t.c2 t.e3 t.p3 new.core t.are_asks held.asks second,
-      )
-
-  -- where its home is asked, or has answered
-  asks_home : (new : Working) → (at : StandsAt size n j front new) → front.body ≡ Cread → Awaits n front.line new.core → (k i : ℕ) → 5 < k
-      → Falls (Helps size n j front) k n i new
-  asks_home new at cread awaits k i more =
-      let n0 = within n new.core at.size_is some in
-      let f0 = within j new.core at.size_is f in
-      let home : front.line % new.core.size.nodes ≡ front.line % size.nodes = ap (λ (z : Size). front.line % z.nodes) at.size_is in
-      elim (where_home new.core n front.line at.good.reached at.good.between n0 (front_inside new.core n j front at.rest at.good n0 f0 at.lane) awaits) [
-        | inl asked ↦ Less 5 (front.line % size.nodes) more
-            (Asked_home at cread awaits refl 4 (subst (λ (h : ℕ). AskedAt n h front.line 4 new.core) home asked) refl)
-        | inr answered ↦ Less 0 n (omega (arith, more)) (Has_answer at cread awaits refl answered refl)
-      ]
-
   own_counts : (old new : Working) (k need : ℕ) → (held : Held n old new) → StandsAt size n j front old → ((old.policies n).turns + need + 1) % 64 ≡ 0
-      → k ≡ need + 6 → FrontTaken n j front n old new ⊎ Falls (Helps size n j front) k n n new
-  own_counts old new k zero held at due is = elim (own_front old new held at) [
+      → k ≡ need + 6 → FrontTaken IsSame n j front n old new ⊎ Falls (Helps size n j front) k n n new
+  own_counts old new k zero held at due is = elim (own_front size n j some f front old new held at) [
     | inr took ↦ inl took
     | inl same ↦
         let let_go : (turned (old.policies n)).turns ≡ 0 = (let now : ((old.policies n).turns + 0 + 1) % 64 ≡ 0 = due in omega (arith, now)) in
-        let now = lets_go old new held at same let_go in
-        inr (asks_home new (stands_own old new held at same) now.0 now.1 k n (omega (arith, is)))
+        let now = lets_go size n j some f front old new held at same let_go in
+        inr (falls_as (AwaitsWord 0 size n j front) (Helps size n j front) k n n new (λ a b word. Word word)
+        (asks_home size n j some f front new (stands_own size n j some f front old new held at same) now.0 now.1 0 k n (omega (arith, is))))
   ]
-  own_counts old new k (suc need) held at due is = elim (own_front old new held at) [
+  own_counts old new k (suc need) held at due is = elim (own_front size n j some f front old new held at) [
     | inr took ↦ inl took
     | inl same ↦
-        inr (Less (need + 6) n (omega (arith, is)) (Counts (stands_own old new held at same) refl need
-        (ap (λ (t : ℕ). (t + need + 1) % 64) (counts_turn old new held) ∙ one_more (old.policies n).turns need due) refl))
+        inr (Less (need + 6) n (omega (arith, is)) (Counts (stands_own size n j some f front old new held at same) refl need
+        (ap (λ (t : ℕ). (t + need + 1) % 64) (counts_turn size n j some f front old new held) ∙ one_more (old.policies n).turns need due) refl))
   ]
 
   -- where the answer has come, the Cread would be served: the line would get another rank
   own_answer : (old new : Working) → (held : Held n old new) → StandsAt size n j front old → front.body ≡ Cread → Awaits n front.line old.core
       → AnsweredAt n front.line old.core → ⊥
   own_answer old new held at cread awaits answered =
-      let n0 = within n old.core at.size_is some in
-      let g = within j old.core at.size_is f in
+      let n0 = within size n j some f front n old.core at.size_is some in
+      let g = within size n j some f front j old.core at.size_is f in
       let line = front.line in
       let inside = front_inside old.core n j front at.rest at.good n0 g at.lane in
       let opens = awaited_opens n answered.from line old new answered.letter at.good held n0 inside answered.sender answered.answers answered.about
@@ -300,90 +125,70 @@ module _ (size : Size) (n j : ℕ) (some : n < size.nodes) (f : j < size.nodes) 
             opened
       ]
 
-  -- any turn, while the home is asked
-  home_step : (i : ℕ) (old new : Working) (k h : ℕ) → (held : Held i old new) → i < old.core.size.nodes → (at : StandsAt size n j front old)
-      → front.body ≡ Cread → Awaits n front.line old.core → h ≡ front.line % size.nodes → (ahead : ℕ) → AskedAt n h front.line ahead old.core → k ≡ suc ahead
-      → StandsAt size n j front new → Falls (Helps size n j front) k h i new
-  home_step i old new k h held here at cread awaits home ahead asked is now =
-      let n0 = within n old.core at.size_is some in
-      let f0 = within j old.core at.size_is f in
-      let line = front.line in
-      let there : front.line % old.core.size.nodes ≡ h = ap (λ (z : Size). line % z.nodes) at.size_is ∙ sym home in
-      let below : line % old.core.size.nodes < old.core.size.nodes = mod-lt line (omega (arith, n0)) in
-      let turn = asked_turn i n line ahead old new at.good held here n0 (front_inside old.core n j front at.rest at.good n0 f0 at.lane) below awaits
-      (subst (λ (m : ℕ). AskedAt n m line ahead old.core) (sym there) asked) in
-      elim turn.1 [
-        | inl answered ↦ Less 0 n (omega (arith, is)) (Has_answer now cread turn.0 refl answered refl)
-        | inr asks ↦ elim asks [
-          | inl stays ↦ Stays (λ e. stays.0 (e ∙ sym there))
-              (Asked_home now cread turn.0 home ahead (subst (λ (m : ℕ). AskedAt n m line ahead new.core) there stays.1) is)
-          | inr less ↦ (let lt = less.1 in Less (suc less.0) h (omega (arith, lt, is))
-              (Asked_home now cread turn.0 home less.0 (subst (λ (m : ℕ). AskedAt n m line less.0 new.core) there less.2) refl))
-        ]
-      ]
-
   -- a turn of the node itself
   own_step : (old new : Working) (k h : ℕ) → (held : Held n old new) → Helps size n j front k h old
-      → FrontTaken n j front n old new ⊎ Falls (Helps size n j front) k h n new
+      → FrontTaken IsSame n j front n old new ⊎ Falls (Helps size n j front) k h n new
   own_step old new k h held (Counts at here need due is) = elim (own_counts old new k need held at due is) [
     | inl took ↦ inl took
     | inr falls ↦ inr (subst (λ (m : ℕ). Falls (Helps size n j front) k m n new) (sym here) falls)
   ]
-  own_step old new k h held (Has_answer at cread awaits here answered is) = absurd (own_answer old new held at cread awaits answered)
-  own_step old new k h held (Asked_home at cread awaits home ahead asked is) = elim (own_front old new held at) [
-    | inr took ↦ inl took
-    | inl same ↦ inr (home_step n old new k h held (within n old.core at.size_is some) at cread awaits home ahead asked is
-        (stands_own old new held at same))
-  ]
+  own_step old new k h held (Word word) =
+      let is = word_of 0 size n j k h front old word in
+      elim (own_front size n j some f front old new held is.0) [
+        | inr took ↦ inl took
+        | inl same ↦ elim (word_own size n j some f front 0 old new k h held is.0 same word) [
+          | inl falls ↦ inr (falls_as (AwaitsWord 0 size n j front) (Helps size n j front) k h n new (λ a b one. Word one) falls)
+          | inr came ↦ absurd (own_answer old new held is.0 is.1.0 is.1.1 came.2)
+        ]
+      ]
 
   -- a turn of another node
   other_step : (i : ℕ) (old new : Working) (k h : ℕ) → (held : Held i old new) → i < old.core.size.nodes → i ≢ n → new.policies n ≡ old.policies n
       → Helps size n j front k h old → Falls (Helps size n j front) k h i new
   other_step i old new k h held here other policy (Counts at node need due is) =
-      Stays (λ e. other (e ∙ node)) (Counts (stands_kept i old new held other here at) node need
+      Stays (λ e. other (e ∙ node)) (Counts (stands_kept size n j some f front i old new held other here at) node need
       (ap (λ (r : PolicyOf). (r.turns + need + 1) % 64) policy ∙ due) is)
-  other_step i old new k h held here other policy (Has_answer at cread awaits node answered is) =
-      let kept = answered_turn i n front.line old new held other here (within n old.core at.size_is some) awaits answered in
-      Stays (λ e. other (e ∙ node)) (Has_answer (stands_kept i old new held other here at) cread kept.0 node kept.1 is)
-  other_step i old new k h held here other policy (Asked_home at cread awaits home ahead asked is) =
-      home_step i old new k h held here at cread awaits home ahead asked is (stands_kept i old new held other here at)
+  other_step i old new k h held here other policy (Word word) =
+      falls_as (AwaitsWord 0 size n j front) (Helps size n j front) k h i new (λ a b one. Word one)
+      (word_other size n j some f front 0 i old new k h held other here word)
 
-good_of : (size : Size) (n j k h : ℕ) (front : Letter) (w : Working) → Helps size n j front k h w → StandsAt size n j front w
+pub good_of : (size : Size) (n j k h : ℕ) (front : Letter) (w : Working) → Helps size n j front k h w → StandsAt size n j front w
 good_of size n j k h front w (Counts at here need due is) = at
-good_of size n j k h front w (Asked_home at cread awaits home ahead asked is) = at
-good_of size n j k h front w (Has_answer at cread awaits here answered is) = at
+good_of size n j k h front w (Word word) = (word_of 0 size n j k h front w word).0
 
-any_step : (size : Size) (n j : ℕ) (some : n < size.nodes) (f : j < size.nodes) (front : Letter) (k h i : ℕ) (old new : Working)
-    → Helps size n j front k h old → IsSteadyTurn i old new → FrontTaken n j front i old new ⊎ Falls (Helps size n j front) k h i new
+pub any_step : (size : Size) (n j : ℕ) (some : n < size.nodes) (f : j < size.nodes) (front : Letter) (k h i : ℕ) (old new : Working)
+    → Helps size n j front k h old → IsSteadyTurn i old new → FrontTaken IsSame n j front i old new ⊎ Falls (Helps size n j front) k h i new
 any_step size n j some f front k h i old new helps turn = elim (cases_eq i n) [
   | inl same ↦
-      let own : FrontTaken n j front n old new ⊎ Falls (Helps size n j front) k h n new =
+      let own : FrontTaken IsSame n j front n old new ⊎ Falls (Helps size n j front) k h n new =
       own_step size n j some f front old new k h
       (steady_turn n old new (good_of size n j k h front old helps).good (subst (λ (m : ℕ). IsSteadyTurn m old new) same turn)) helps in
-      subst (λ (m : ℕ). FrontTaken n j front m old new ⊎ Falls (Helps size n j front) k h m new) (sym same) own
+      subst (λ (m : ℕ). FrontTaken IsSame n j front m old new ⊎ Falls (Helps size n j front) k h m new) (sym same) own
   | inr other ↦
       inr (other_step size n j some f front i old new k h (steady_turn i old new (good_of size n j k h front old helps).good turn) turn.alone.some other
       (turn.alone.others n (λ e. other (sym e))) helps)
 ]
 
-below_of : (size : Size) (n j : ℕ) → n < size.nodes → (front : Letter) (k h : ℕ) (w : Working) → Helps size n j front k h w → h < size.nodes
+pub below_of : (size : Size) (n j : ℕ) → n < size.nodes → (front : Letter) (k h : ℕ) (w : Working) → Helps size n j front k h w → h < size.nodes
 below_of size n j some front k h w (Counts at here need due is) = subst (λ (m : ℕ). m < size.nodes) (sym here) some
-below_of size n j some front k h w (Asked_home at cread awaits home ahead asked is) =
-    subst (λ (m : ℕ). m < size.nodes) (sym home) (mod-lt front.line (omega (arith, some)))
-below_of size n j some front k h w (Has_answer at cread awaits here answered is) = subst (λ (m : ℕ). m < size.nodes) (sym here) some
+below_of size n j some front k h w (Word word) = word_below 0 size n j some front k h w word
+
+-- the count begins
+pub helps_first : (size : Size) (n j : ℕ) (front : Letter) (w : Working) → StandsAt size n j front w
+    → (k : ℕ) × (h : ℕ) × (k ≤ 69) × Helps size n j front k h w
+helps_first size n j front w at =
+    let t = (w.policies n).turns in
+    let need = 63 - t % 64 in
+    (need + 6, n, omega arith, Counts at refl need (first_need t) refl)
 
 -- the front of a lane is taken within 70 windows, of whatever turns that are steady
 pub front_taken : (IsTurn : ℕ → Working → Working → Type 0) → ((i : ℕ) (old new : Working) → IsTurn i old new → IsSteadyTurn i old new) → (n j extra : ℕ)
     → (front : Letter) (rest : List Letter) (order : List ℕ) (old last : Working) → WorksByTurns old.core → n < old.core.size.nodes
     → j < old.core.size.nodes → lane_of old.core Requests j n ≡ front ∷ rest → AreTurns IsTurn order old last
-    → HasWindows old.core.size.nodes (70 + extra) order → ComesBy IsTurn (FrontTaken n j front) old.core.size.nodes extra order old last
+    → HasWindows old.core.size.nodes (70 + extra) order → ComesBy IsTurn (FrontTaken IsSame n j front) old.core.size.nodes extra order old last
 front_taken IsTurn steady n j extra front rest order old last good some f lane turns windows =
     let size = old.core.size in
-    let t = (old.policies n).turns in
-    let need = 63 - t % 64 in
-    let helps : Helps size n j front (need + 6) n old =
-    Counts (record { good = good; size_is = refl; rest = rest; lane = lane }) refl need (first_need t) refl in
-    descend IsTurn size.nodes (FrontTaken n j front) (Helps size n j front)
+    let helps = helps_first size n j front old (record { good = good; size_is = refl; rest = rest; lane = lane }) in
+    descend IsTurn size.nodes (FrontTaken IsSame n j front) (Helps size n j front)
     (λ k h i one two help turn. any_step size n j some f front k h i one two help (steady i one two turn)) (below_of size n j some front) extra last 69
-    (need + 6) n
-    order old (omega arith) helps turns (windows_fewer size.nodes (suc (69 + extra)) (70 + extra) order (omega arith) windows)
+    helps.0 helps.1 order old helps.2 helps.3 turns (windows_fewer size.nodes (suc (69 + extra)) (70 + extra) order (omega arith) windows)

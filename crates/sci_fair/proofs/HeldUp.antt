@@ -16,8 +16,8 @@ use Rattle.sci_turn.specs.{Posts.{post_at}, Whole.{EndsAt}}
 use Rattle.sci_fair.specs.Steady.{AreSteadyTurns, AreTurns, HasWindows, IsSteadyTurn, Working, WorksByTurns}
 use Rattle.sci_fair.proofs.AnswersGo.{front_source}
 use Rattle.sci_fair.proofs.Descents.{Comes, ComesBy, comes_later, turns_join, turns_part, windows_after, windows_fewer, windows_part}
-use Rattle.sci_fair.proofs.{Fronts.{FrontTaken, front_taken}, LaneTurns.{Is_kept, Is_taken, asks_keep, front_at, lost_all}}
-use Rattle.sci_fair.proofs.{Requests.{comes_behind, good_along}, SteadyTurns.{Held, steady_turn}, Trace.{AsksFirst, Ends_there, Makes_ask}}
+use Rattle.sci_fair.proofs.{Fronts.{front_taken}, Standing.{FrontTaken}, LaneTurns.{Is_kept, Is_taken, asks_keep, front_at, lost_all}}
+use Rattle.sci_fair.proofs.{Requests.{comes_behind, good_along}, Steadied.{IsSame}, SteadyTurns.{Held, steady_turn}, Trace.{AsksFirst, Ends_there, Makes_ask}}
 use Rattle.sci_words.specs.declared.event.Event.TheVariants as event
 
 -- ---- what a node's turn comes to
@@ -55,10 +55,10 @@ other_lanes n i b old new held here some other t = elim (cases_eq b i) [
       let n1 : n < t_.c1.size.nodes = subst (λ (z : Size). n < z.nodes) (sym t_.accepted.since.size) some in
       let n2 : n < t_.c2.size.nodes = subst (λ (z : Size). n < z.nodes) (sym t_.taken.so.since.size) some in
       let i2 : i < t_.c2.size.nodes = subst (λ (z : Size). i < z.nodes) (sym t_.taken.so.since.size) here in
-      let lost = lost_all i t_.p1 t_.c1 t_.e2 t_.p2 t_.c2 n t_.are_takes held.takes n1 in
+      let lost = lost_all IsSame i t_.p1 t_.c1 t_.e2 t_.p2 t_.c2 n t_.are_takes held.takes n1 in
       let first : lane_of t_.c1 Requests n i ≡ lane_of old.core Requests n i = t_.accepted.requests n i some here in
       let last : lane_of new.core Requests n i ≡ lane_of t_.c2 Requests n i =
-      (asks_keep i t_.p2 t_.c2 t_.e3 t_.p3 new.core n i t_.are_asks held.asks n2 i2).0 other in
+      (asks_keep IsSame i t_.p2 t_.c2 t_.e3 t_.p3 new.core n i t_.are_asks held.asks n2 i2).0 other in
       subst (λ (m : ℕ). length (lane_of new.core Requests n m) ≤ length (lane_of old.core Requests n m)) (sym same)
       (lost_shorter (lane_of old.core Requests n i) (lane_of new.core Requests n i) lost.0
       (sym first ∙ (lost.1 ∙ ap (λ (l : List Letter). lost.0 ++ l) (sym last))))
@@ -74,7 +74,7 @@ own_by : (n : ℕ) (old new : Working) (lane : List Letter) → WorksByTurns old
 own_by n old new [] good held some is =
     let t = held.trace in
     let n1 : n < t.c1.size.nodes = subst (λ (z : Size). n < z.nodes) (sym t.accepted.since.size) some in
-    let lost = lost_all n t.p1 t.c1 t.e2 t.p2 t.c2 n t.are_takes held.takes n1 in
+    let lost = lost_all IsSame n t.p1 t.c1 t.e2 t.p2 t.c2 n t.are_takes held.takes n1 in
     let first : lane_of t.c1 Requests n n ≡ [] = t.accepted.requests n n some some ∙ is in
     let none = lost_shorter [] (lane_of t.c2 Requests n n) lost.0 (sym first ∙ lost.1) in
     omega (arith, none)
@@ -237,7 +237,7 @@ emptied_by n b [] order first last good some t other turns windows is =
     omega (arith, shorter, none)
 emptied_by n b (front ∷ rest) order first last good some t other turns windows is =
     let nodes = first.core.size.nodes in
-    let c : ComesBy (QuietTurn n) (FrontTaken b n front) nodes 0 order first last =
+    let c : ComesBy (QuietTurn n) (FrontTaken IsSame b n front) nodes 0 order first last =
     front_taken (QuietTurn n) (λ i o w turn. turn.steady) b n 0 front rest order first last good t some is turns
     (windows_fewer nodes (70 + 0) 70 order (omega arith) windows) in
     let held = c.done.held in
@@ -250,7 +250,7 @@ emptied_by n b (front ∷ rest) order first last good some t other turns windows
     let b2 : b < c2.size.nodes = subst (λ (z : Size). b < z.nodes) (sym size) b0 in
     let apart : n ≢ c.node = λ same. other (sym (same ∙ c.done.server)) in
     let now : length (lane_of c.new.core Requests n b) ≡ length (lane_of c2 Requests n b) = ap length
-    ((asks_keep c.node held.trace.p2 c2 held.trace.e3 held.trace.p3 c.new.core n b held.trace.are_asks held.asks n2 b2).0 apart) in
+    ((asks_keep IsSame c.node held.trace.p2 c2 held.trace.e3 held.trace.p3 c.new.core n b held.trace.are_asks held.asks n2 b2).0 apart) in
     let most : length (front ∷ c.done.rest) ≤ 4 =
     subst (λ (l : List Letter). length l ≤ 4) c.done.lane (c.done.good.between.short (lane_place c.old.core.size.nodes Requests n b)) in
     let few = lost_shorter c.done.rest (lane_of c2 Requests n b) c.done.took.more c.done.took.left in
@@ -296,7 +296,7 @@ free_turn n extra order first last good some turns windows =
       | inr quiet ↦
           let size = quiet_size n part.first first mid quiet in
           let n_mid : n < mid.core.size.nodes = subst (λ (z : Size). n < z.nodes) (sym size) some in
-          comes_behind (FreeTurn n) nodes extra part.first (window ++ rest) first mid last one.1
+          comes_behind IsSteadyTurn (FreeTurn n) nodes extra part.first (window ++ rest) first mid last one.1
           (elim (free_or_quiet n nodes extra window rest mid two.0 last (good_along part.first first mid good one.1) n_mid two.1 two.2 part.later.4) [
             | inl comes ↦ comes
             | inr more ↦ absurd (never_quiet n window mid two.0 (part.later.3 n some) more (λ b below other. (

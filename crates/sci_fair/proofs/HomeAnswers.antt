@@ -15,10 +15,10 @@ use Rattle.sci_policy.specs.{Lines.{state_on}, Policy.{awaits_home, is_cread, ke
 use Rattle.sci_policy.proofs.{Deciding.{kept_if}, PolicyLaws.{kept_is_cread}}
 use Rattle.sci_fair.specs.{Between.{IsBetweenTurns}, Lanes.{IsOpen, changes_list}, Steady.{Working}}
 use Rattle.sci_fair.specs.Steady.{WorksByTurns}
-use Rattle.sci_fair.proofs.Awaiting.{Awaits, accept_all, ask_no_accept, await_all, awaiting_waits, open_waits, taking_no_accept}
+use Rattle.sci_fair.proofs.Awaiting.{Awaits, ask_no_accept, await_all, awaiting_waits, settle_all, settled_waits, taking_no_accept}
 use Rattle.sci_fair.proofs.LaneTurns.{HasGained, Is_kept, Is_taken, among_gained, among_stands, asks_keep, front_at, gains_all, no_two, suffix_cases}
 use Rattle.sci_fair.proofs.LaneTurns.{among_tail, takes_answers}
-use Rattle.sci_fair.proofs.{SteadyTurns.{Held}, Trace.{is_taking}, WholeTurns.{sole}}
+use Rattle.sci_fair.proofs.{Steadied.{Change}, SteadyTurns.{HeldBy}, Trace.{is_taking}, WholeTurns.{sole}}
 use Rattle.sci_fair.proofs.Whereabouts.{Answered_from, Asked_at, in_lane, lane_packets, stands, where_is}
 use Rattle.sci_policy.specs.Turn.{is_ask}
 
@@ -110,13 +110,13 @@ plain_front front letter rest (b ∷ before) after is opened changes cread =
 -- ---- the node's own turn
 
 -- while its request is in a lane, no answer is accepted
-pub still_awaits : (n line to : ℕ) (old new : Working) (letter : Letter) → WorksByTurns old.core → (held : Held n old new) → n < old.core.size.nodes
+pub still_awaits : {K : Change} (n line to : ℕ) (old new : Working) (letter : Letter) → WorksByTurns old.core → (held : HeldBy K n old new) → n < old.core.size.nodes
     → line < old.core.size.lines → to < old.core.size.nodes → Awaits n line old.core → is_about n line letter ≡ true
     → IsAmong letter (lane_of old.core Requests n to) → Awaits n line held.trace.c1
-still_awaits n line to old new letter good held some inside t awaits about among =
-    elim (accept_all n line (turned (old.policies n)) old.core held.trace.e1 held.trace.p1 held.trace.c1 held.trace.are_accepts held.accepts (inl awaits)) [
+still_awaits {K = K} n line to old new letter good held some inside t awaits about among =
+    elim (settle_all n line K (turned (old.policies n)) old.core held.trace.e1 held.trace.p1 held.trace.c1 held.trace.are_accepts held.accepts (inl awaits)) [
       | inl still ↦ still
-      | inr opened ↦
+      | inr settled ↦
           let c1 = held.trace.c1 in
           let since = held.trace.accepted.since in
           let here : n < c1.size.nodes = subst (λ (z : Size). n < z.nodes) (sym since.size) some in
@@ -127,7 +127,7 @@ still_awaits n line to old new letter good held some inside t awaits about among
           let alone = sole (line % c1.size.nodes) (line_of (node_at c1 n).cache line) (packets_of c1 n line) letter
           (reached_tidy c1 since.reached n line here there)
           packet in
-          let clash : true ≡ false = sym alone.awaited.waiting ∙ open_waits _ (state_on (node_at c1 n) line) opened in cc
+          let clash : true ≡ false = sym alone.awaited.waiting ∙ settled_waits (state_on (node_at c1 n) line) settled in cc
     ]
 
 -- ---- any node's turn
@@ -145,27 +145,27 @@ asked_gained n h line k old new asked gained = record {
 }
 
 -- the line awaits its home when the node has taken requests, and when the turn has ended
-record AwaitsOn (i n line : ℕ) (old new : Working) (held : Held i old new) : Type 0 where
+record AwaitsOn {K : Change} (i n line : ℕ) (old new : Working) (held : HeldBy K i old new) : Type 0 where
   taken : Awaits n line held.trace.c2
   ended : Awaits n line new.core
 
-own_awaits : (n i line to : ℕ) (old new : Working) (letter : Letter) → WorksByTurns old.core → (held : Held i old new) → n < old.core.size.nodes
+own_awaits : {K : Change} (n i line to : ℕ) (old new : Working) (letter : Letter) → WorksByTurns old.core → (held : HeldBy K i old new) → n < old.core.size.nodes
     → line < old.core.size.lines → to < old.core.size.nodes → Awaits n line old.core → is_about n line letter ≡ true
     → IsAmong letter (lane_of old.core Requests n to) → n ≡ i → AwaitsOn i n line old new held
-own_awaits n i line to old new letter good held some inside t awaits about among same =
+own_awaits {K = K} n i line to old new letter good held some inside t awaits about among same =
     let P = λ (m : ℕ). Awaits m line old.core in
     let first : Awaits i line held.trace.c1 = still_awaits i line to old new letter good held (subst (λ (m : ℕ). m < old.core.size.nodes) same some) inside t
     (subst P same awaits) (subst (λ (m : ℕ). is_about m line letter ≡ true) same about)
     (subst (λ (m : ℕ). IsAmong letter (lane_of old.core Requests m to)) same among) in
-    let second = await_all i line is_taking taking_no_accept held.trace.p1 held.trace.c1 held.trace.e2 held.trace.p2 held.trace.c2 held.trace.are_takes
+    let second = await_all i line K is_taking taking_no_accept held.trace.p1 held.trace.c1 held.trace.e2 held.trace.p2 held.trace.c2 held.trace.are_takes
     held.takes first in
-    let third = await_all i line is_ask ask_no_accept held.trace.p2 held.trace.c2 held.trace.e3 held.trace.p3 new.core held.trace.are_asks held.asks second in
+    let third = await_all i line K is_ask ask_no_accept held.trace.p2 held.trace.c2 held.trace.e3 held.trace.p3 new.core held.trace.are_asks held.asks second in
     record {
       taken = subst (λ (m : ℕ). Awaits m line held.trace.c2) (sym same) second;
       ended = subst (λ (m : ℕ). Awaits m line new.core) (sym same) third;
     }
 
-awaits_on : (i n line to : ℕ) (old new : Working) (letter : Letter) → WorksByTurns old.core → (held : Held i old new) → n < old.core.size.nodes
+awaits_on : {K : Change} (i n line to : ℕ) (old new : Working) (letter : Letter) → WorksByTurns old.core → (held : HeldBy K i old new) → n < old.core.size.nodes
     → line < old.core.size.lines → to < old.core.size.nodes → Awaits n line old.core → is_about n line letter ≡ true
     → IsAmong letter (lane_of old.core Requests n to) → AwaitsOn i n line old new held
 awaits_on i n line to old new letter good held some inside t awaits about among = elim (cases_eq n i) [
@@ -176,7 +176,7 @@ awaits_on i n line to old new letter good held some inside t awaits about among 
   }
 ]
 
-pub free_taken : (i : ℕ) (old new : Working) → WorksByTurns old.core → (held : Held i old new) → (m : ℕ) → (node_at held.trace.c2 m).waiting ≡ None
+pub free_taken : {K : Change} (i : ℕ) (old new : Working) → WorksByTurns old.core → (held : HeldBy K i old new) → (m : ℕ) → (node_at held.trace.c2 m).waiting ≡ None
 free_taken i old new good held m = elim (cases_eq m i) [
   | inl same ↦ subst (λ (k : ℕ). (node_at held.trace.c2 k).waiting ≡ None) (sym same) held.trace.taken.free
   | inr other ↦ ap (λ (part : NodeOf). part.waiting) (held.trace.taken.so.since.others m other) ∙ good.between.free m
@@ -200,24 +200,24 @@ front_of (b ∷ before) after letter = (b, before ++ letter ∷ after, refl)
 
 -- ---- the home's turn
 
-pub gained_by : (h n b : ℕ) (old new : Working) (held : Held h old new) → n < old.core.size.nodes → b < old.core.size.nodes
+pub gained_by : {K : Change} (h n b : ℕ) (old new : Working) (held : HeldBy K h old new) → n < old.core.size.nodes → b < old.core.size.nodes
     → HasGained (lane_of held.trace.c2 Requests n b) (lane_of new.core Requests n b)
-gained_by h n b old new held some t =
+gained_by {K = K} h n b old new held some t =
     let size = held.trace.taken.so.since.size in
     let f2 : n < held.trace.c2.size.nodes = subst (λ (z : Size). n < z.nodes) (sym size) some in
     let t2 : b < held.trace.c2.size.nodes = subst (λ (z : Size). b < z.nodes) (sym size) t in
     elim (cases_eq n h) [
       | inl same ↦ subst (λ (m : ℕ). HasGained (lane_of held.trace.c2 Requests m b) (lane_of new.core Requests m b)) (sym same)
-          (gains_all h held.trace.p2 held.trace.c2 held.trace.e3 held.trace.p3 new.core b held.trace.are_asks held.asks t2)
+          (gains_all K h held.trace.p2 held.trace.c2 held.trace.e3 held.trace.p3 new.core b held.trace.are_asks held.asks t2)
       | inr other ↦
-          let keeps = asks_keep h held.trace.p2 held.trace.c2 held.trace.e3 held.trace.p3 new.core n b held.trace.are_asks held.asks f2 t2 in
+          let keeps = asks_keep K h held.trace.p2 held.trace.c2 held.trace.e3 held.trace.p3 new.core n b held.trace.are_asks held.asks f2 t2 in
           ([], keeps.0 other ∙ sym (append-nil (lane_of held.trace.c2 Requests n b)))
     ]
 
-gone_answered : (h n line k : ℕ) (old new : Working) → WorksByTurns old.core → (held : Held h old new) → h < old.core.size.nodes → n < old.core.size.nodes
+gone_answered : {K : Change} (h n line k : ℕ) (old new : Working) → WorksByTurns old.core → (held : HeldBy K h old new) → h < old.core.size.nodes → n < old.core.size.nodes
     → line < old.core.size.lines → h ≡ line % old.core.size.nodes → (asked : AskedAt n h line k old.core) → Awaits n line held.trace.c2 → (gone : List Letter)
     → asked.after ≡ gone ++ lane_of held.trace.c2 Requests n h → AnsweredAt n line new.core
-gone_answered h n line k old new good held server some inside home asked awaits gone is =
+gone_answered {K = K} h n line k old new good held server some inside home asked awaits gone is =
     let c2 = held.trace.c2 in
     let since = held.trace.taken.so.since in
     let here : n < c2.size.nodes = subst (λ (z : Size). n < z.nodes) (sym since.size) some in
@@ -230,7 +230,7 @@ gone_answered h n line k old new good held server some inside home asked awaits 
           let behind : IsAmong letter asked.after = subst (IsAmong letter) (sym is) (among_tail letter gone (lane_of c2 Requests n h) left) in
           absurd (no_two old.core n h line asked.letter letter asked.before asked.after good.reached some server inside asked.lane asked.about about behind)
       | Answered_from from letter f answers about among ↦
-          let keeps = asks_keep h held.trace.p2 c2 held.trace.e3 held.trace.p3 new.core from n held.trace.are_asks held.asks f here in
+          let keeps = asks_keep K h held.trace.p2 c2 held.trace.e3 held.trace.p3 new.core from n held.trace.are_asks held.asks f here in
           record {
             from = from;
             sender = subst (λ (z : Size). from < z.nodes) (sym held.size) (subst (λ (z : Size). from < z.nodes) since.size f);
@@ -241,7 +241,7 @@ gone_answered h n line k old new good held server some inside home asked awaits 
           }
     ]
 
-pub server_turn : (h n line k : ℕ) (old new : Working) → WorksByTurns old.core → (held : Held h old new) → h < old.core.size.nodes → n < old.core.size.nodes
+pub server_turn : {K : Change} (h n line k : ℕ) (old new : Working) → WorksByTurns old.core → (held : HeldBy K h old new) → h < old.core.size.nodes → n < old.core.size.nodes
     → line < old.core.size.lines → h ≡ line % old.core.size.nodes → AskedAt n h line k old.core → Awaits n line held.trace.c2
     → AnsweredAt n line new.core ⊎ ((less : ℕ) × (less < k) × AskedAt n h line less new.core)
 server_turn h n line k old new good held server some inside home asked awaits =
@@ -280,7 +280,7 @@ server_turn h n line k old new good held server some inside home asked awaits =
 
 -- ---- other nodes' turns
 
-pub lane_kept : (i n h : ℕ) (old new : Working) (held : Held i old new) → i < old.core.size.nodes → n < old.core.size.nodes → h < old.core.size.nodes → i ≢ h
+pub lane_kept : {K : Change} (i n h : ℕ) (old new : Working) (held : HeldBy K i old new) → i < old.core.size.nodes → n < old.core.size.nodes → h < old.core.size.nodes → i ≢ h
     → HasGained (lane_of old.core Requests n h) (lane_of new.core Requests n h)
 lane_kept i n h old new held here some t other = elim (cases_eq n i) [
   | inl same ↦
@@ -292,7 +292,7 @@ lane_kept i n h old new held here some t other = elim (cases_eq n i) [
 ]
 
 -- what a turn leaves of a line that has asked its home
-pub asked_turn : (i n line k : ℕ) (old new : Working) → WorksByTurns old.core → (held : Held i old new) → i < old.core.size.nodes → n < old.core.size.nodes
+pub asked_turn : {K : Change} (i n line k : ℕ) (old new : Working) → WorksByTurns old.core → (held : HeldBy K i old new) → i < old.core.size.nodes → n < old.core.size.nodes
     → line < old.core.size.lines → line % old.core.size.nodes < old.core.size.nodes → Awaits n line old.core
     → AskedAt n (line % old.core.size.nodes) line k old.core
     → Awaits n line new.core × (AnsweredAt n line new.core
@@ -314,10 +314,10 @@ asked_turn i n line k old new good held here some inside home awaits asked =
       ],
     )
 
-pub answers_kept : (i n from : ℕ) (old new : Working) (held : Held i old new) → i ≢ n → i < old.core.size.nodes → n < old.core.size.nodes
+pub answers_kept : {K : Change} (i n from : ℕ) (old new : Working) (held : HeldBy K i old new) → i ≢ n → i < old.core.size.nodes → n < old.core.size.nodes
     → from < old.core.size.nodes
     → HasGained (lane_of old.core Answers from n) (lane_of new.core Answers from n)
-answers_kept i n from old new held other here some f = elim (cases_eq from i) [
+answers_kept {K = K} i n from old new held other here some f = elim (cases_eq from i) [
   | inl same ↦
       let apart : n ≢ i = λ e. other (sym e) in
       let c1 = held.trace.c1 in
@@ -326,8 +326,8 @@ answers_kept i n from old new held other here some f = elim (cases_eq from i) [
       let n2 : n < c2.size.nodes = subst (λ (z : Size). n < z.nodes) (sym held.trace.taken.so.since.size) some in
       let i2 : i < c2.size.nodes = subst (λ (z : Size). i < z.nodes) (sym held.trace.taken.so.since.size) here in
       let first : lane_of c1 Answers i n ≡ lane_of old.core Answers i n = held.trace.accepted.answers i n here some apart in
-      let second = takes_answers i held.trace.p1 c1 held.trace.e2 held.trace.p2 c2 n held.trace.are_takes held.takes n1 in
-      let third = (asks_keep i held.trace.p2 c2 held.trace.e3 held.trace.p3 new.core i n held.trace.are_asks held.asks i2 n2).1 in
+      let second = takes_answers K i held.trace.p1 c1 held.trace.e2 held.trace.p2 c2 n held.trace.are_takes held.takes n1 in
+      let third = (asks_keep K i held.trace.p2 c2 held.trace.e3 held.trace.p3 new.core i n held.trace.are_asks held.asks i2 n2).1 in
       subst (λ (m : ℕ). HasGained (lane_of old.core Answers m n) (lane_of new.core Answers m n)) (sym same)
       (second.0, third ∙ (second.1 ∙ ap (λ (l : List Letter). l ++ second.0) first))
   | inr another ↦
@@ -335,7 +335,7 @@ answers_kept i n from old new held other here some f = elim (cases_eq from i) [
 ]
 
 -- what another's turn leaves of a line whose answer is on its way
-pub answered_turn : (i n line : ℕ) (old new : Working) (held : Held i old new) → i ≢ n → i < old.core.size.nodes → n < old.core.size.nodes
+pub answered_turn : {K : Change} (i n line : ℕ) (old new : Working) (held : HeldBy K i old new) → i ≢ n → i < old.core.size.nodes → n < old.core.size.nodes
     → Awaits n line old.core → AnsweredAt n line old.core → Awaits n line new.core × AnsweredAt n line new.core
 answered_turn i n line old new held other here some awaits answered = (
   subst (λ (part : NodeOf). awaits_home (state_on part line) ≡ true) (sym (held.trace.asked.since.others n (λ e. other (sym e)))) awaits,

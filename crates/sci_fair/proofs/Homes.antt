@@ -33,7 +33,7 @@ use Rattle.sci_fair.proofs.{Comers.{coming_is, coming_links, leading_links}, Joi
 use Rattle.sci_fair.proofs.LaneTurns.{among_gained, among_tail, asks_keep, take_answers}
 use Rattle.sci_fair.proofs.{Promised.{never_on}, ReadSteps.{refuses_cread, refuses_it, replied_sent}}
 use Rattle.sci_fair.proofs.Requests.{LetterTaken, request_taken, size_along, stands_in}
-use Rattle.sci_fair.proofs.{Retries.{never_once}, StateSteps.{reply_one, serve_one, size_kept}, Steadied.{IsSteady, Steadily}, Trace.{AreAll, is_taking}}
+use Rattle.sci_fair.proofs.{Retries.{never_once}, StateSteps.{reply_one, serve_one, size_kept}, Steadied.{IsSame, IsSteady, Steadily}, Trace.{AreAll, is_taking}}
 use Rattle.sci_fair.proofs.{Whereabouts.{in_lane, lane_packets}, WholeTurns.{request_alone, sole}}
 use Rattle.sci_home.specs.declared.state.HomeState.TheVariants as at
 use Rattle.sci_packets.specs.declared.body.Body.TheVariants as body
@@ -336,9 +336,9 @@ module _ (n h i : ℕ) (old new last : Working) (letter : Letter) (taken : Lette
         | inl same ↦
             let kind : is_taking took.e ≡ true = elim took.takes [ inl serve ↦ ap is_taking serve | inr refuse ↦ ap is_taking refuse ] in
             let begun : Awaits h line took.x = subst (λ (m : ℕ). Awaits m line took.x) same awaits in
-            let second = await_all h line is_taking taking_no_accept took.p took.x (took.e ∷ took.later) t.p2 t.c2 (kind, took.later_take)
-            (took.q, took.y, took.steady, took.after) begun in
-            let third = await_all i line is_ask ask_no_accept t.p2 t.c2 t.e3 t.p3 new.core t.are_asks taken.held.asks
+            let second = await_all h line IsSame is_taking taking_no_accept took.p took.x (took.e ∷ took.later) t.p2 t.c2 (kind, took.later_take)
+            (took.q, took.y, took.goes, took.after) begun in
+            let third = await_all i line IsSame is_ask ask_no_accept t.p2 t.c2 t.e3 t.p3 new.core t.are_asks taken.held.asks
             (subst (λ (m : ℕ). Awaits m line t.c2) (sym taken.server) second) in
             subst (λ (m : ℕ). Awaits m line new.core) (taken.server ∙ sym same) third
       ]
@@ -352,12 +352,12 @@ module _ (n h i : ℕ) (old new last : Working) (letter : Letter) (taken : Lette
       let reply = answering letter Wbok in
       let since = t.taken.so.since in
       let size_x : took.x.size ≡ old.core.size = taker_since.size in
-      let size_y = size_kept h took.p took.x took.q took.y took.e took.steady in
+      let size_y = size_kept h took.p took.x took.q took.y took.e took.goes in
       let n_y : n < took.y.size.nodes = subst (λ (z : Size). n < z.nodes) (sym (size_y ∙ size_x)) some in
       let at_c2 = reply_all h n reply took.q took.y took.later t.p2 t.c2 took.later_take took.after source n_y replying in
       let n2 : n < t.c2.size.nodes = subst (λ (z : Size). n < z.nodes) (sym since.size) some in
-      let h2 : h < t.c2.size.nodes = subst (λ (z : Size). h < z.nodes) (sym since.size) (subst (λ (z : Size). h < z.nodes) size_x took.steady.some) in
-      let keeps = asks_keep i t.p2 t.c2 t.e3 t.p3 new.core h n t.are_asks taken.held.asks h2 n2 in
+      let h2 : h < t.c2.size.nodes = subst (λ (z : Size). h < z.nodes) (sym since.size) (subst (λ (z : Size). h < z.nodes) size_x took.goes.some) in
+      let keeps = asks_keep IsSame i t.p2 t.c2 t.e3 t.p3 new.core h n t.are_asks taken.held.asks h2 n2 in
       elim at_c2 [
         | Has_gone among ↦ subst (IsAmong reply) (sym keeps.1) among
         | Waits_there waiting ↦
@@ -376,15 +376,15 @@ module _ (n h i : ℕ) (old new last : Working) (letter : Letter) (taken : Lette
       let h_x : h < x.size.nodes = subst (λ (z : Size). h < z.nodes) (sym size) to in
       let l_x : line < x.size.lines = subst (λ (z : Size). line < z.lines) (sym size) inside in
       let among : IsAmong letter (lane_of x Requests n h) = subst (IsAmong letter) (sym took.lane) (inl refl) in
-      let packet = lane_packets x Requests n h n line letter took.steady.reached n_x h_x about among in
-      let alone = sole (line % x.size.nodes) (line_of (node_at x n).cache line) (packets_of x n line) letter (reached_tidy x took.steady.reached n line n_x l_x)
+      let packet = lane_packets x Requests n h n line letter took.goes.reached n_x h_x about among in
+      let alone = sole (line % x.size.nodes) (line_of (node_at x n).cache line) (packets_of x n line) letter (reached_tidy x took.goes.reached n line n_x l_x)
       packet in
       let s = state_on (node_at x n) line in
       let sent = alone.awaited.sent asks in
       let awaits = sent_awaits (line % x.size.nodes) s letter changes sent in
       let none : answer_to x n line ≡ None = ap answer_in alone.one ∙ request_alone letter asks in
       let home_x : h ≡ line % x.size.nodes = home ∙ ap (λ (z : Size). line % z.nodes) (sym size) in
-      let replying = served_word h n took.p x took.e took.q took.y letter took.rest s took.steady n_x took.lane took.takes l_x asks about changes awaits sent
+      let replying = served_word h n took.p x took.e took.q took.y letter took.rest s took.goes n_x took.lane took.takes l_x asks about changes awaits sent
       refl (nobody_then line inside amid) none home_x in
       let source : letter.source ≡ n = sym (request_asker letter asks) ∙ about_asker n line letter about in
       let goes = word_goes some replying source in

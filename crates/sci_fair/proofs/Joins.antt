@@ -334,7 +334,7 @@ pub taker_ends : (class : Class) (n to line i : ℕ) (old new : Working) (letter
 taker_ends class n to line i old new letter taken is =
     let t = taken.held.trace in
     let took = taken.took in
-    let then_ = kept_event class to line took.p took.x took.e took.q took.y took.steady is in
+    let then_ = kept_event class to line took.p took.x took.e took.q took.y took.goes is in
     let c2 = kept_events class to line took.q took.y took.later t.p2 t.c2 took.after then_ in
     let ended = (kept_in class i line old new taken.held).ended (subst (λ (m : ℕ). IsIn class m line t.c2) (sym taken.server) c2) in
     subst (λ (m : ℕ). IsIn class m line new.core) taken.server ended
@@ -358,7 +358,7 @@ taken_never j a line i old new last letter taken amid ahead f to other cread her
       | inr idle ↦
           let back : (P : CacheState → Option Bool → Type 0) → P s work → P (state_on (node_at x a) letter.line) (work_on (node_at x a) letter.line) =
           λ P so. subst (λ (l : ℕ). P (state_on (node_at x a) l) (work_on (node_at x a) l)) (sym here) so in
-          takes_no_cread a j took.p x took.e took.q took.y letter took.rest took.steady (subst (λ (z : Size). j < z.nodes) (sym size) f) other took.lane
+          takes_no_cread a j took.p x took.e took.q took.y letter took.rest took.goes (subst (λ (z : Size). j < z.nodes) (sym size) f) other took.lane
           took.takes cread (back (λ r w. leads r ≡ true) led_x) (back (λ r w. can_drain r ≡ false) out_x) (back (λ r w. can_perform w r ≡ false) idle)
     ]
 

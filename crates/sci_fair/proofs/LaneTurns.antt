@@ -16,8 +16,8 @@ use Rattle.sci_policy.proofs.Deciding.{keep_of}
 use Rattle.sci_turn.specs.Moves.{taken_next, taking_event}
 use Rattle.sci_fair.specs.Steady.{Working}
 use Rattle.sci_fair.specs.Steady.{WorksByTurns}
-use Rattle.sci_fair.proofs.{StateSteps.{IsTaken, ask_one, refuse_one, reply_one, serve_one, size_kept, take_lost}, Steadied.{IsSteady, Steadily}}
-use Rattle.sci_fair.proofs.{SteadyTurns.{Held}, Trace.{AreAll, is_taking}, Whereabouts.{lane_packets}, WholeTurns.{sole}}
+use Rattle.sci_fair.proofs.{StateSteps.{IsTaken, ask_one, refuse_one, reply_one, serve_one, size_kept, take_lost}, Steadied.{Change, GoesBy, IsGoing}}
+use Rattle.sci_fair.proofs.{SteadyTurns.{HeldBy}, Trace.{AreAll, is_taking}, Whereabouts.{lane_packets}, WholeTurns.{sole}}
 use Rattle.sci_policy.specs.declared.decision.Decision.TheVariants as decision
 use Rattle.sci_words.specs.declared.event.Event.TheVariants as event
 
@@ -98,18 +98,18 @@ no_two core n to line one two before after reached some t inside lane first seco
 
 -- ---- requests are taken
 
-pub lost_all : (n : ℕ) (p : PolicyOf) (x : Core) (events : List Event) (q : PolicyOf) (y : Core) (j : ℕ) → AreAll is_taking events → Steadily n p x events q y
+pub lost_all : (K : Change) (n : ℕ) (p : PolicyOf) (x : Core) (events : List Event) (q : PolicyOf) (y : Core) (j : ℕ) → AreAll is_taking events → GoesBy K n p x events q y
     → j < x.size.nodes → IsTaken x y j n
-lost_all n p x [] q y j kinds steady f = ([], ap (λ (c : Core). lane_of c Requests j n) steady.1)
-lost_all n p x (e ∷ events) q y j kinds steady f =
+lost_all K n p x [] q y j kinds steady f = ([], ap (λ (c : Core). lane_of c Requests j n) steady.1)
+lost_all K n p x (e ∷ events) q y j kinds steady f =
     let mid = steady.1 in
     let first = take_lost n p x steady.0 mid j e steady.2 kinds.0 f in
     let size = size_kept n p x steady.0 mid e steady.2 in
-    let second = lost_all n steady.0 mid events q y j kinds.1 steady.3 (subst (λ (z : Size). j < z.nodes) (sym size) f) in
+    let second = lost_all K n steady.0 mid events q y j kinds.1 steady.3 (subst (λ (z : Size). j < z.nodes) (sym size) f) in
     (first.0 ++ second.0, first.1 ∙ (ap (λ (l : List Letter). first.0 ++ l) second.1 ∙ sym (append_assoc first.0 second.0 (lane_of y Requests j n))))
 
 -- an event that takes requests leaves a lane, or takes its front
-pub take_one : (n j : ℕ) (p : PolicyOf) (x : Core) (q : PolicyOf) (y : Core) (e : Event) (front : Letter) (rest : List Letter) → IsSteady n p x e q y
+pub take_one : {K : Change} (n j : ℕ) (p : PolicyOf) (x : Core) (q : PolicyOf) (y : Core) (e : Event) (front : Letter) (rest : List Letter) → IsGoing K n p x e q y
     → is_taking e ≡ true → j < x.size.nodes → lane_of x Requests j n ≡ front ∷ rest
     → (lane_of y Requests j n ≡ front ∷ rest) ⊎ (((e ≡ event.Serve j n) ⊎ (e ≡ event.Refuse j n)) × (lane_of y Requests j n ≡ rest))
 take_one n j p x q y (event.Serve from i) front rest st kind f lane =
@@ -143,11 +143,11 @@ take_one n j p x q y (event.Issue i op) front rest st kind f lane = cc
 take_one n j p x q y (event.Perform i line) front rest st kind f lane = cc
 
 -- the front is kept; or it is taken, and perhaps more behind it
-pub data FrontAt (n j : ℕ) (old new : Working) (held : Held n old new) (f : j < old.core.size.nodes) (front : Letter) (rest : List Letter) : Type 0 where
+pub data FrontAt {K : Change} (n j : ℕ) (old new : Working) (held : HeldBy K n old new) (f : j < old.core.size.nodes) (front : Letter) (rest : List Letter) : Type 0 where
   Is_kept : decided (held.trace.looks j f).p (node_at (held.trace.looks j f).c n) front ≡ decision.Keep → FrontAt n j old new held f front rest
   Is_taken : (more : List Letter) → rest ≡ more ++ lane_of held.trace.c2 Requests j n → (q : PolicyOf) (next : Core) (e : Event)
       → decided_event (decided (held.trace.looks j f).p (node_at (held.trace.looks j f).c n) front) j n ≡ Some e
-      → IsSteady n (held.trace.looks j f).p (held.trace.looks j f).c e q next → FrontAt n j old new held f front rest
+      → IsGoing K n (held.trace.looks j f).p (held.trace.looks j f).c e q next → FrontAt n j old new held f front rest
 
 decides_at : (policy : PolicyOf) (node : NodeOf) (j n : ℕ) (front : Letter) (o : Option Event) → node.waiting ≡ None
     → taking_event policy node j n (Some front) ≡ o → decided_event (decided policy node front) j n ≡ o
@@ -155,46 +155,46 @@ decides_at policy node j n front o free is =
     subst (λ (w : Option Letter). (if is_some w then None else decided_event (decided policy node front) j n) ≡ o) free is
 
 -- an event that takes a request leaves the rest of the lane
-taken_rest : (n j : ℕ) (p : PolicyOf) (x : Core) (q : PolicyOf) (y : Core) (d : Decision) (e : Event) (front : Letter) (rest : List Letter)
-    → decided_event d j n ≡ Some e → IsSteady n p x e q y → lane_of x Requests j n ≡ front ∷ rest → lane_of y Requests j n ≡ rest
-taken_rest n j p x q y decision.Keep e front rest is st lane = cc
-taken_rest n j p x q y decision.Serve e front rest is st lane =
+taken_rest : {K : Change} (n j : ℕ) (p : PolicyOf) (x : Core) (q : PolicyOf) (y : Core) (d : Decision) (e : Event) (front : Letter) (rest : List Letter)
+    → decided_event d j n ≡ Some e → IsGoing K n p x e q y → lane_of x Requests j n ≡ front ∷ rest → lane_of y Requests j n ≡ rest
+taken_rest {K = K} n j p x q y decision.Keep e front rest is st lane = cc
+taken_rest {K = K} n j p x q y decision.Serve e front rest is st lane =
     let event_is : event.Serve j n ≡ e = (let both : Some (event.Serve j n) ≡ Some e = is in cc) in
-    let one = serve_one n p x q y j n (subst (λ (o : Event). IsSteady n p x o q y) (sym event_is) st) in
+    let one = serve_one n p x q y j n (subst (λ (o : Event). IsGoing K n p x o q y) (sym event_is) st) in
     let same : one.front.rest ≡ rest = (let both : one.front.letter ∷ one.front.rest ≡ front ∷ rest = sym one.front.front ∙ lane in cc) in
     one.sets.now ∙ same
-taken_rest n j p x q y decision.Refuse e front rest is st lane =
+taken_rest {K = K} n j p x q y decision.Refuse e front rest is st lane =
     let event_is : event.Refuse j n ≡ e = (let both : Some (event.Refuse j n) ≡ Some e = is in cc) in
-    let one = refuse_one n p x q y j n (subst (λ (o : Event). IsSteady n p x o q y) (sym event_is) st) in
+    let one = refuse_one n p x q y j n (subst (λ (o : Event). IsGoing K n p x o q y) (sym event_is) st) in
     let same : one.front.rest ≡ rest = (let both : one.front.letter ∷ one.front.rest ≡ front ∷ rest = sym one.front.front ∙ lane in cc) in
     one.sets.now ∙ same
 
-front_in : (n j : ℕ) (old new : Working) (held : Held n old new) (f : j < old.core.size.nodes) (front : Letter) (rest : List Letter)
+front_in : {K : Change} (n j : ℕ) (old new : Working) (held : HeldBy K n old new) (f : j < old.core.size.nodes) (front : Letter) (rest : List Letter)
     → WorksByTurns old.core → n < old.core.size.nodes → lane_of (held.trace.looks j f).c Requests j n ≡ front ∷ rest
     → (taken_next (held.trace.looks j f).p (held.trace.looks j f).c j n ≡ None)
     ⊎ ((e : Event) × (events : List Event) × ((held.trace.looks j f).second ≡ e ∷ events)
     × (taken_next (held.trace.looks j f).p (held.trace.looks j f).c j n ≡ Some e)) → FrontAt n j old new held f front rest
-front_in n j old new held f front rest good some lane (inl none) =
+front_in {K = K} n j old new held f front rest good some lane (inl none) =
     let look = held.trace.looks j f in
     let takes = subst (λ (l : List Letter). taking_event look.p (node_at look.c n) j n (slice_get l 0) ≡ None) lane none in
     Is_kept (keep_of (decided look.p (node_at look.c n) front) j n (decides_at look.p (node_at look.c n) j n front None look.so.free takes))
-front_in n j old new held f front rest good some lane (inr took) =
+front_in {K = K} n j old new held f front rest good some lane (inr took) =
     let look = held.trace.looks j f in
     let e = took.0 in
     let events = took.1 in
     let takes = subst (λ (l : List Letter). taking_event look.p (node_at look.c n) j n (slice_get l 0) ≡ Some e) lane took.3 in
     let decides = decides_at look.p (node_at look.c n) j n front (Some e) look.so.free takes in
-    let steady = subst (λ (es : List Event). Steadily n look.p look.c es held.trace.p2 held.trace.c2) took.2 (held.after j f) in
+    let steady = subst (λ (es : List Event). GoesBy K n look.p look.c es held.trace.p2 held.trace.c2) took.2 (held.after j f) in
     let kinds = subst (AreAll is_taking) took.2 look.second_takes in
     let st = steady.2 in
     let mid = steady.1 in
     let left = taken_rest n j look.p look.c steady.0 mid (decided look.p (node_at look.c n) front) e front rest decides st lane in
     let size = size_kept n look.p look.c steady.0 mid e st in
     let below : j < look.c.size.nodes = subst (λ (z : Size). j < z.nodes) (sym look.so.so.since.size) f in
-    let lost = lost_all n steady.0 mid events held.trace.p2 held.trace.c2 j kinds.1 steady.3 (subst (λ (z : Size). j < z.nodes) (sym size) below) in
+    let lost = lost_all K n steady.0 mid events held.trace.p2 held.trace.c2 j kinds.1 steady.3 (subst (λ (z : Size). j < z.nodes) (sym size) below) in
     Is_taken lost.0 (sym left ∙ lost.1) steady.0 mid e decides st
 
-pub front_at : (n j : ℕ) (old new : Working) (held : Held n old new) (f : j < old.core.size.nodes) (front : Letter) (rest : List Letter)
+pub front_at : {K : Change} (n j : ℕ) (old new : Working) (held : HeldBy K n old new) (f : j < old.core.size.nodes) (front : Letter) (rest : List Letter)
     → WorksByTurns old.core → n < old.core.size.nodes → lane_of old.core Requests j n ≡ front ∷ rest → FrontAt n j old new held f front rest
 front_at n j old new held f front rest good some lane =
     let look = held.trace.looks j f in
@@ -212,7 +212,7 @@ gained_none lane = ([], sym (append-nil lane))
 gained_then : (a b c : List Letter) → HasGained a b → HasGained b c → HasGained a c
 gained_then a b c one two = (one.0 ++ two.0, two.1 ∙ (ap (λ (l : List Letter). l ++ two.0) one.1 ∙ append_assoc a one.0 two.0))
 
-ask_gains : (n : ℕ) (p : PolicyOf) (x : Core) (q : PolicyOf) (y : Core) (b : ℕ) (e : Event) → IsSteady n p x e q y → is_ask e ≡ true → b < x.size.nodes
+ask_gains : {K : Change} (n : ℕ) (p : PolicyOf) (x : Core) (q : PolicyOf) (y : Core) (b : ℕ) (e : Event) → IsGoing K n p x e q y → is_ask e ≡ true → b < x.size.nodes
     → HasGained (lane_of x Requests n b) (lane_of y Requests n b)
 ask_gains n p x q y b (event.Ask i line k) st kind f =
     let one = ask_one n p x q y i line k st in
@@ -228,15 +228,15 @@ ask_gains n p x q y b (event.Reply i) st kind f = cc
 ask_gains n p x q y b (event.Issue i op) st kind f = cc
 ask_gains n p x q y b (event.Perform i line) st kind f = cc
 
-pub gains_all : (n : ℕ) (p : PolicyOf) (x : Core) (events : List Event) (q : PolicyOf) (y : Core) (b : ℕ) → AreAll is_ask events → Steadily n p x events q y
+pub gains_all : (K : Change) (n : ℕ) (p : PolicyOf) (x : Core) (events : List Event) (q : PolicyOf) (y : Core) (b : ℕ) → AreAll is_ask events → GoesBy K n p x events q y
     → b < x.size.nodes → HasGained (lane_of x Requests n b) (lane_of y Requests n b)
-gains_all n p x [] q y b kinds steady f =
+gains_all K n p x [] q y b kinds steady f =
     subst (λ (c : Core). HasGained (lane_of x Requests n b) (lane_of c Requests n b)) steady.1 (gained_none (lane_of x Requests n b))
-gains_all n p x (e ∷ events) q y b kinds steady f =
+gains_all K n p x (e ∷ events) q y b kinds steady f =
     let mid = steady.1 in
     let size = size_kept n p x steady.0 mid e steady.2 in
     gained_then (lane_of x Requests n b) (lane_of mid Requests n b) (lane_of y Requests n b) (ask_gains n p x steady.0 mid b e steady.2 kinds.0 f)
-    (gains_all n steady.0 mid events q y b kinds.1 steady.3 (subst (λ (z : Size). b < z.nodes) (sym size) f))
+    (gains_all K n steady.0 mid events q y b kinds.1 steady.3 (subst (λ (z : Size). b < z.nodes) (sym size) f))
 
 -- ---- lanes that stay
 
@@ -245,7 +245,7 @@ among_ahead x [] more among = elim among [ ]
 among_ahead x (y ∷ xs) more (inl same) = inl same
 among_ahead x (y ∷ xs) more (inr among) = inr (among_ahead x xs more among)
 
-ask_keeps : (n : ℕ) (p : PolicyOf) (x : Core) (q : PolicyOf) (y : Core) (a b : ℕ) (e : Event) → IsSteady n p x e q y → is_ask e ≡ true
+ask_keeps : {K : Change} (n : ℕ) (p : PolicyOf) (x : Core) (q : PolicyOf) (y : Core) (a b : ℕ) (e : Event) → IsGoing K n p x e q y → is_ask e ≡ true
     → a < x.size.nodes → b < x.size.nodes → (a ≢ n → lane_of y Requests a b ≡ lane_of x Requests a b) × (lane_of y Answers a b ≡ lane_of x Answers a b)
 ask_keeps n p x q y a b (event.Ask i line k) st kind f t =
     let one = ask_one n p x q y i line k st in
@@ -257,20 +257,20 @@ ask_keeps n p x q y a b (event.Reply i) st kind f t = cc
 ask_keeps n p x q y a b (event.Issue i op) st kind f t = cc
 ask_keeps n p x q y a b (event.Perform i line) st kind f t = cc
 
-pub asks_keep : (n : ℕ) (p : PolicyOf) (x : Core) (events : List Event) (q : PolicyOf) (y : Core) (a b : ℕ) → AreAll is_ask events → Steadily n p x events q y
+pub asks_keep : (K : Change) (n : ℕ) (p : PolicyOf) (x : Core) (events : List Event) (q : PolicyOf) (y : Core) (a b : ℕ) → AreAll is_ask events → GoesBy K n p x events q y
     → a < x.size.nodes → b < x.size.nodes → (a ≢ n → lane_of y Requests a b ≡ lane_of x Requests a b) × (lane_of y Answers a b ≡ lane_of x Answers a b)
-asks_keep n p x [] q y a b kinds steady f t =
+asks_keep K n p x [] q y a b kinds steady f t =
     (λ other. ap (λ (c : Core). lane_of c Requests a b) (sym steady.1), ap (λ (c : Core). lane_of c Answers a b) (sym steady.1))
-asks_keep n p x (e ∷ events) q y a b kinds steady f t =
+asks_keep K n p x (e ∷ events) q y a b kinds steady f t =
     let mid = steady.1 in
     let size = size_kept n p x steady.0 mid e steady.2 in
     let first = ask_keeps n p x steady.0 mid a b e steady.2 kinds.0 f t in
-    let rest = asks_keep n steady.0 mid events q y a b kinds.1 steady.3 (subst (λ (z : Size). a < z.nodes) (sym size) f)
+    let rest = asks_keep K n steady.0 mid events q y a b kinds.1 steady.3 (subst (λ (z : Size). a < z.nodes) (sym size) f)
     (subst (λ (z : Size). b < z.nodes) (sym size) t) in
     (λ other. rest.0 other ∙ first.0 other, rest.1 ∙ first.1)
 
 -- answers to a node are only sent, by another that takes requests
-pub take_answers : (n : ℕ) (p : PolicyOf) (x : Core) (q : PolicyOf) (y : Core) (b : ℕ) (e : Event) → IsSteady n p x e q y → is_taking e ≡ true
+pub take_answers : {K : Change} (n : ℕ) (p : PolicyOf) (x : Core) (q : PolicyOf) (y : Core) (b : ℕ) (e : Event) → IsGoing K n p x e q y → is_taking e ≡ true
     → b < x.size.nodes
     → HasGained (lane_of x Answers n b) (lane_of y Answers n b)
 take_answers n p x q y b (event.Reply i) st kind f =
@@ -291,15 +291,15 @@ take_answers n p x q y b (event.Ask i line k) st kind f = cc
 take_answers n p x q y b (event.Issue i op) st kind f = cc
 take_answers n p x q y b (event.Perform i line) st kind f = cc
 
-pub takes_answers : (n : ℕ) (p : PolicyOf) (x : Core) (events : List Event) (q : PolicyOf) (y : Core) (b : ℕ) → AreAll is_taking events
-    → Steadily n p x events q y → b < x.size.nodes → HasGained (lane_of x Answers n b) (lane_of y Answers n b)
-takes_answers n p x [] q y b kinds steady f =
+pub takes_answers : (K : Change) (n : ℕ) (p : PolicyOf) (x : Core) (events : List Event) (q : PolicyOf) (y : Core) (b : ℕ) → AreAll is_taking events
+    → GoesBy K n p x events q y → b < x.size.nodes → HasGained (lane_of x Answers n b) (lane_of y Answers n b)
+takes_answers K n p x [] q y b kinds steady f =
     subst (λ (c : Core). HasGained (lane_of x Answers n b) (lane_of c Answers n b)) steady.1 (gained_none (lane_of x Answers n b))
-takes_answers n p x (e ∷ events) q y b kinds steady f =
+takes_answers K n p x (e ∷ events) q y b kinds steady f =
     let mid = steady.1 in
     let size = size_kept n p x steady.0 mid e steady.2 in
     gained_then (lane_of x Answers n b) (lane_of mid Answers n b) (lane_of y Answers n b) (take_answers n p x steady.0 mid b e steady.2 kinds.0 f)
-    (takes_answers n steady.0 mid events q y b kinds.1 steady.3 (subst (λ (z : Size). b < z.nodes) (sym size) f))
+    (takes_answers K n steady.0 mid events q y b kinds.1 steady.3 (subst (λ (z : Size). b < z.nodes) (sym size) f))
 
 pub among_gained : (x : Letter) (old new : List Letter) → HasGained old new → IsAmong x old → IsAmong x new
 among_gained x old new gained among = subst (IsAmong x) (sym gained.1) (among_ahead x old gained.0 among)

@@ -119,13 +119,13 @@ never_purge n to letter order first last good some t inside asks about purge amo
     let t0 : to < x.size.nodes = subst (λ (z : Size). to < z.nodes) (sym size) t in
     let l0 : letter.line < x.size.lines = subst (λ (z : Size). letter.line < z.lines) (sym size) inside in
     let there = among_stands letter (lane_of x Requests n to) [] took.rest took.lane in
-    let packet = lane_packets x Requests n to n letter.line letter took.steady.reached n0 t0 about there in
+    let packet = lane_packets x Requests n to n letter.line letter took.goes.reached n0 t0 about there in
     let alone = sole (letter.line % x.size.nodes) (line_of (node_at x n).cache letter.line) (packets_of x n letter.line) letter
-    (reached_tidy x took.steady.reached n letter.line n0 l0) packet in
+    (reached_tidy x took.goes.reached n letter.line n0 l0) packet in
     let state = sent_purge (letter.line % x.size.nodes) (state_on (node_at x n) letter.line) letter (alone.awaited.sent asks) purge in
-    let is = in_lane x (lane_place x.size.nodes Requests n to) letter took.steady.reached there in
+    let is = in_lane x (lane_place x.size.nodes Requests n to) letter took.goes.reached there in
     let target : letter.target ≡ to = is.to ∙ place_to x.size.nodes Requests n to t0 in
     let none : answer_to x n letter.line ≡ None = ap answer_in alone.one ∙ request_alone letter asks in
-    let follow = purge_finds x letter.line n letter.target state.0 took.steady.reached l0 state.1 none in
-    takes_purge n to took.p x took.e took.q took.y letter took.rest took.steady took.lane took.takes l0 purge
+    let follow = purge_finds x letter.line n letter.target state.0 took.goes.reached l0 state.1 none in
+    takes_purge n to took.p x took.e took.q took.y letter took.rest took.goes took.lane took.takes l0 purge
     (subst (λ (m : ℕ). follows (state_at x letter.line m) ≡ true) target follow)

@@ -16,34 +16,34 @@ use Rattle.sci_policy.specs.{Lines.{state_on}, Policy.{PolicyOf}, Turn.{is_accep
 use Rattle.sci_policy.proofs.Targets.{asked_target, waiting_target}
 use Rattle.sci_turn.proofs.Working.{stepped}
 use Rattle.sci_fair.proofs.{OneStep.{SendsOne, TakesOne, sends_one, takes_one}, ReadCarries.{AsksAs, ask_as}, ReadSteps.{replied_sent}}
-use Rattle.sci_fair.proofs.{Steadied.{IsSteady}, Trace.{is_taking}, WholeTurns.{HasLost}}
+use Rattle.sci_fair.proofs.{Steadied.{Change, IsGoing}, Trace.{is_taking}, WholeTurns.{HasLost}}
 use Rattle.sci_words.specs.declared.event.Event.TheVariants as event
 
 -- ---- the event's packet
 
-module _ (n : ℕ) (p : PolicyOf) (x : Core) (q : PolicyOf) (y : Core) where
-  pub serve_one : (from i : ℕ) → IsSteady n p x (event.Serve from i) q y → TakesOne x y n from Requests (node_serving (node_at x n))
+module _ {K : Change} (n : ℕ) (p : PolicyOf) (x : Core) (q : PolicyOf) (y : Core) where
+  pub serve_one : (from i : ℕ) → IsGoing K n p x (event.Serve from i) q y → TakesOne x y n from Requests (node_serving (node_at x n))
   serve_one from i st =
       takes_one x y n from Requests (node_serving (node_at x n)) st.reached st.some
       (stepped x y n (event.Serve from i) (side (node_at x n) (event.Serve from i)) st.some st.own.kind.own refl st.steps)
 
-  pub refuse_one : (from i : ℕ) → IsSteady n p x (event.Refuse from i) q y → TakesOne x y n from Requests (node_refusing (node_at x n))
+  pub refuse_one : (from i : ℕ) → IsGoing K n p x (event.Refuse from i) q y → TakesOne x y n from Requests (node_refusing (node_at x n))
   refuse_one from i st =
       takes_one x y n from Requests (node_refusing (node_at x n)) st.reached st.some
       (stepped x y n (event.Refuse from i) (side (node_at x n) (event.Refuse from i)) st.some st.own.kind.own refl st.steps)
 
-  pub accept_one : (from i : ℕ) → IsSteady n p x (event.Accept from i) q y → TakesOne x y n from Answers (node_accepting (node_at x n))
+  pub accept_one : (from i : ℕ) → IsGoing K n p x (event.Accept from i) q y → TakesOne x y n from Answers (node_accepting (node_at x n))
   accept_one from i st =
       takes_one x y n from Answers (node_accepting (node_at x n)) st.reached st.some
       (stepped x y n (event.Accept from i) (side (node_at x n) (event.Accept from i)) st.some st.own.kind.own refl st.steps)
 
-  pub reply_one : (i : ℕ) → IsSteady n p x (event.Reply i) q y → SendsOne x y n Answers (node_replying (node_at x n))
+  pub reply_one : (i : ℕ) → IsGoing K n p x (event.Reply i) q y → SendsOne x y n Answers (node_replying (node_at x n))
   reply_one i st =
       sends_one x y n Answers (node_replying (node_at x n)) st.reached st.some
       (λ sent there. waiting_target x n sent.1 st.reached st.some (replied_sent (node_at x n) (node_at x n).waiting sent refl there))
       (stepped x y n (event.Reply i) (side (node_at x n) (event.Reply i)) st.some st.own.kind.own refl st.steps)
 
-  pub ask_one : (i line : ℕ) (k : AskKind) → IsSteady n p x (event.Ask i line k) q y → SendsOne x y n Requests (node_asking (node_at x n) line k)
+  pub ask_one : (i line : ℕ) (k : AskKind) → IsGoing K n p x (event.Ask i line k) q y → SendsOne x y n Requests (node_asking (node_at x n) line k)
   ask_one i line k st =
       sends_one x y n Requests (node_asking (node_at x n) line k) st.reached st.some
       (λ sent there. asked_target x n line k sent st.reached st.some there)
@@ -72,8 +72,8 @@ serve_states e node next request kind (In_cache served is made) line =
     line_step e node next request.line (line_in (line_of node.cache request.line) served.0) (ap (λ (part : NodeOf). part.cache) made)
     (By_serve kind request.source request.body served.1 is) line
 
-module _ (n : ℕ) (p : PolicyOf) (x : Core) (q : PolicyOf) (y : Core) (line : ℕ) where
-  pub state_step : (e : Event) → IsSteady n p x e q y → StateStep e line (state_on (node_at x n) line) (state_on (node_at y n) line)
+module _ {K : Change} (n : ℕ) (p : PolicyOf) (x : Core) (q : PolicyOf) (y : Core) (line : ℕ) where
+  pub state_step : (e : Event) → IsGoing K n p x e q y → StateStep e line (state_on (node_at x n) line) (state_on (node_at y n) line)
   state_step (event.Serve from i) st =
       let node = node_at x n in
       let one = serve_one n p x q y from i st in
@@ -124,9 +124,10 @@ module _ (n : ℕ) (p : PolicyOf) (x : Core) (q : PolicyOf) (y : Core) (j : ℕ)
     | inr other ↦ ([], sym (one.sets.rest Requests j n f t (λ k c d. other c)))
   ]
 
-  pub take_lost : (e : Event) → IsSteady n p x e q y → is_taking e ≡ true → j < x.size.nodes → IsTaken x y j n
-  take_lost (event.Serve from i) st kind f = took_lost from (node_serving (node_at x n)) f st.some (serve_one n p x q y from i st)
-  take_lost (event.Refuse from i) st kind f = took_lost from (node_refusing (node_at x n)) f st.some (refuse_one n p x q y from i st)
+module _ {K : Change} (n : ℕ) (p : PolicyOf) (x : Core) (q : PolicyOf) (y : Core) (j : ℕ) where
+  pub take_lost : (e : Event) → IsGoing K n p x e q y → is_taking e ≡ true → j < x.size.nodes → IsTaken x y j n
+  take_lost (event.Serve from i) st kind f = took_lost n p x q y j from (node_serving (node_at x n)) f st.some (serve_one n p x q y from i st)
+  take_lost (event.Refuse from i) st kind f = took_lost n p x q y j from (node_refusing (node_at x n)) f st.some (refuse_one n p x q y from i st)
   take_lost (event.Reply i) st kind f = ([], sym ((reply_one n p x q y i st).sets.rest Requests j n f st.some (λ k. cc)))
   take_lost (event.Accept from i) st kind f = cc
   take_lost (event.Ask i at k) st kind f = cc
@@ -135,5 +136,5 @@ module _ (n : ℕ) (p : PolicyOf) (x : Core) (q : PolicyOf) (y : Core) (j : ℕ)
 
 -- ---- sizes
 
-pub size_kept : (n : ℕ) (p : PolicyOf) (x : Core) (q : PolicyOf) (y : Core) (e : Event) → IsSteady n p x e q y → y.size ≡ x.size
+pub size_kept : {K : Change} (n : ℕ) (p : PolicyOf) (x : Core) (q : PolicyOf) (y : Core) (e : Event) → IsGoing K n p x e q y → y.size ≡ x.size
 size_kept n p x q y e st = size_either {T = ℕ} {E = ℕ} (Ok 0) x y e st.reached st.steps (λ refused. (let clash : false ≡ true = refused in cc))

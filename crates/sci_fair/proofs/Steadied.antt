@@ -50,19 +50,31 @@ module _ (n : ℕ) (start : PolicyOf) (old : Core) (reached : IsReached old) (so
 abbrev pub IsSame : Core → Core → Type 0
 IsSame old new = (m line : ℕ) → (pending_on (node_at new m) line ≡ pending_on (node_at old m) line) × (rank_at new m line ≡ rank_at old m line)
 
--- an event of node n's turn that changes no rank
-pub record IsSteady (n : ℕ) (p : PolicyOf) (x : Core) (e : Event) (q : PolicyOf) (y : Core) : Type 0 where
+-- what holds of a machine before an event and after it
+abbrev pub Change : Type 1
+Change = Core → Core → Type 0
+
+-- an event of node n's turn, of which this holds
+pub record IsGoing (K : Change) (n : ℕ) (p : PolicyOf) (x : Core) (e : Event) (q : PolicyOf) (y : Core) : Type 0 where
   pub reached : IsReached x
   pub fit : ReadsFit x
   pub opened : AreOpen x
   pub some : n < x.size.nodes
   pub own : IsOwn n p x e q
   pub steps : stepping x e ≡ Some y
-  pub same : IsSame x y
+  pub same : K x y
+
+-- such events, one after another
+abbrev pub GoesBy : Change → ℕ → PolicyOf → Core → List Event → PolicyOf → Core → Type 0
+GoesBy K n p x [] q y = (p ≡ q) × (x ≡ y)
+GoesBy K n p x (e ∷ events) q y = (policy : PolicyOf) × (next : Core) × IsGoing K n p x e policy next × GoesBy K n policy next events q y
+
+-- an event of node n's turn that changes no rank
+abbrev pub IsSteady : ℕ → PolicyOf → Core → Event → PolicyOf → Core → Type 0
+IsSteady = IsGoing IsSame
 
 abbrev pub Steadily : ℕ → PolicyOf → Core → List Event → PolicyOf → Core → Type 0
-Steadily n p x [] q y = (p ≡ q) × (x ≡ y)
-Steadily n p x (e ∷ events) q y = (policy : PolicyOf) × (next : Core) × IsSteady n p x e policy next × Steadily n policy next events q y
+Steadily = GoesBy IsSame
 
 -- what is on one level has one rank
 same_rank : (n line : ℕ) (start p q : PolicyOf) (old core mid : Core) → HasTurned n start old p core → HasTurned n start old q mid

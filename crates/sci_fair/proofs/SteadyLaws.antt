@@ -11,45 +11,11 @@ use Rattle.sci_core.proofs.{Step.Places.{place_from, place_requests}, Tidy.{Tidy
 use Rattle.sci_policy.specs.Lines.{state_on}
 use Rattle.sci_fair.specs.Steady.{AreSteadyTurns, HasTurn, HasWindows, IsSteadyTurn, Working, WorksByTurns}
 use Rattle.sci_fair.proofs.{Descents.{Comes}, HomeAnswers.{AnsweredAt}, LaneTurns.{among_stands}}
+use Rattle.sci_fair.proofs.Steadied.{IsSame}
 use Rattle.sci_fair.proofs.{AnswersCome.{AnswerTurn, answer_within, taken_answered}, Requests.{LetterTaken, request_taken, size_along, stands_in}}
 use Rattle.sci_fair.specs.Retries.{is_tried_once}
 use Rattle.sci_fair.proofs.Retries.{never_once, never_purge}
-use Rattle.sci_fair.proofs.{Whereabouts.{in_lane, lane_packets, same_packet}, WholeTurns.{sole}}
-
--- the turn that comes
-turn_of : (n : ℕ) (P : Working → Working → Type 0) (Done : ℕ → Working → Working → Type 0) (nodes count : ℕ) (order : List ℕ) (first last : Working)
-    → (c : Comes Done nodes count order first last) → c.node ≡ n → P c.old c.new → HasTurn n P order first last
-turn_of n P Done nodes count order first last c same so = record {
-  before = c.before;
-  after = c.after;
-  whole = c.whole ∙ ap (λ (i : ℕ). c.before ++ i ∷ c.after) same;
-  old = c.old;
-  new = c.new;
-  leads = c.leads;
-  turn = subst (λ (i : ℕ). IsSteadyTurn i c.old c.new) same c.turn;
-  later = c.turns;
-  so = so;
-}
-
--- a request in a lane from a node is about its line
-request_about : (core : Core) (n to : ℕ) (letter : Letter) → WorksByTurns core → n < core.size.nodes → to < core.size.nodes
-    → IsAmong letter (lane_of core Requests n to) → (is_request letter.body ≡ true) × (letter.line < core.size.lines) × (is_about n letter.line letter ≡ true)
-request_about core n to letter good some t among =
-    let is = in_lane core (lane_place core.size.nodes Requests n to) letter good.reached among in
-    let asks = is.request (place_requests core.size.nodes n to some t) in (
-      asks.asks,
-      asks.letter_ok.about,
-      about_from n letter.line letter refl (request_asker letter asks.asks ∙ (is.from ∙ place_from core.size.nodes Requests n to some t)),
-    )
-
--- it isn't there when its answer is under way
-not_there : (core : Core) (n to line : ℕ) (letter : Letter) → WorksByTurns core → n < core.size.nodes → to < core.size.nodes → line < core.size.lines
-    → is_request letter.body ≡ true → is_about n line letter ≡ true → AnsweredAt n line core → IsAmong letter (lane_of core Requests n to) → ⊥
-not_there core n to line letter good some t inside asks about answered among =
-    let same = same_packet core n line letter answered.letter good.reached some inside
-    (lane_packets core Requests n to n line letter good.reached some t about among)
-    (lane_packets core Answers answered.from n n line answered.letter good.reached answered.sender some answered.about answered.among) in
-    let clash : true ≡ false = sym asks ∙ (ap (λ (l : Letter). is_request l.body) same ∙ answered.answers) in cc
+use Rattle.sci_fair.proofs.{TurnLaws.{answered_to, not_there, turn_of}, Whereabouts.{request_about}, WholeTurns.{sole}}
 
 pub letter_taken_law : (j n : ℕ) (letter : Letter) (order : List ℕ) (first last : Working) → WorksByTurns first.core → j < first.core.size.nodes
     → n < first.core.size.nodes → IsAmong letter (lane_of first.core Requests j n) → AreSteadyTurns order first last
@@ -57,7 +23,7 @@ pub letter_taken_law : (j n : ℕ) (letter : Letter) (order : List ℕ) (first l
     → HasTurn n (λ old new. IsAmong letter (lane_of old.core Requests j n) × (IsAmong letter (lane_of new.core Requests j n) → ⊥)) order first last
 letter_taken_law j n letter order first last good f t among turns windows =
     let nodes = first.core.size.nodes in
-    let is = request_about first.core j n letter good f t among in
+    let is = request_about first.core j n letter good.reached f t among in
     let stood = stands_in first.core j n letter good.between among in
     let c = request_taken 3 3 nodes j n 0 letter order first last (omega arith) good refl f t stood turns windows in
     let size = size_along c.before first c.old good c.leads in
@@ -65,16 +31,13 @@ letter_taken_law j n letter order first last good f t among turns windows =
     let t0 : n < c.old.core.size.nodes = subst (λ (z : Size). n < z.nodes) (sym size) t in
     let l0 : letter.line < c.old.core.size.lines = subst (λ (z : Size). letter.line < z.lines) (sym size) is.1 in
     let held = c.done.held in
-    let answered = taken_answered c.node j n letter.line c.old c.new letter c.done f0 t0 l0 is.2 in
+    let answered = taken_answered IsSame c.node j n letter.line c.old c.new letter c.done f0 t0 l0 is.2 in
     let there = among_stands letter (lane_of c.old.core Requests j n) c.done.stood.at.before c.done.stood.after c.done.stood.at.lane in
     let then_ = not_there c.new.core j n letter.line letter held.good (subst (λ (z : Size). j < z.nodes) (sym held.size) f0)
     (subst (λ (z : Size). n < z.nodes) (sym held.size) t0) (subst (λ (z : Size). letter.line < z.lines) (sym held.size) l0) is.0 is.2 answered in
-    turn_of n (λ old new. IsAmong letter (lane_of old.core Requests j n) × (IsAmong letter (lane_of new.core Requests j n) → ⊥))
+    turn_of IsSteadyTurn n (λ old new. IsAmong letter (lane_of old.core Requests j n) × (IsAmong letter (lane_of new.core Requests j n) → ⊥))
     (LetterTaken j n letter) nodes 0
     order first last c c.done.server (there, then_)
-
-some_answer : (letter : Letter) → is_request letter.body ≡ false → answer_in (letter ∷ []) ≡ Some letter.body
-some_answer letter answers = ap (λ (b : Bool). if b then None else Some letter.body) answers
 
 pub answer_law : (n line : ℕ) (order : List ℕ) (first last : Working) → WorksByTurns first.core → n < first.core.size.nodes → line < first.core.size.lines
     → waits (state_on (node_at first.core n) line) ≡ true → AreSteadyTurns order first last → HasWindows first.core.size.nodes 281 order
@@ -86,11 +49,8 @@ answer_law n line order first last good some inside waiting turns windows =
     let n0 : n < c.old.core.size.nodes = subst (λ (z : Size). n < z.nodes) (sym size) some in
     let l0 : line < c.old.core.size.lines = subst (λ (z : Size). line < z.lines) (sym size) inside in
     let answered = c.done.answered in
-    let packet = lane_packets c.old.core Answers answered.from n n line answered.letter c.done.good.reached answered.sender n0 answered.about answered.among in
-    let alone = sole (line % c.old.core.size.nodes) (line_of (node_at c.old.core n).cache line) (packets_of c.old.core n line) answered.letter
-    (reached_tidy c.old.core c.done.good.reached n line n0 l0) packet in
-    let is : answer_to c.old.core n line ≡ Some answered.letter.body = ap answer_in alone.one ∙ some_answer answered.letter answered.answers in
-    turn_of n (λ old new. IsSome (answer_to old.core n line)) (AnswerTurn n line) nodes 0 order first last c c.done.server (subst IsSome (sym is) refl)
+    let is = answered_to c.old.core n line c.done.good.reached n0 l0 answered in
+    turn_of IsSteadyTurn n (λ old new. IsSome (answer_to old.core n line)) (AnswerTurn n line) nodes 0 order first last c c.done.server (subst IsSome (sym is) refl)
 
 none_of : (b : Bool) → (b ≡ true → ⊥) → b ≡ false
 none_of true never = absurd (never refl)
@@ -105,5 +65,5 @@ pub no_purge_law : (j n : ℕ) (letter : Letter) (order : List ℕ) (first last 
     → n < first.core.size.nodes → IsAmong letter (lane_of first.core Requests j n) → AreSteadyTurns order first last
     → HasWindows first.core.size.nodes 280 order → letter.body ≢ Purge
 no_purge_law j n letter order first last good f t among turns windows = λ purge.
-    let is = request_about first.core j n letter good f t among in
+    let is = request_about first.core j n letter good.reached f t among in
     never_purge j n letter order first last good f t is.1 is.0 is.2 purge among turns windows

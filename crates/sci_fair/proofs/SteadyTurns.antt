@@ -9,22 +9,26 @@ use Rattle.sci_cache.specs.State.{CacheState}
 use Rattle.sci_policy.specs.{Lines.{is_head, state_on}, Policy.{PolicyOf, has, next_policy, turned}, Turn.{is_accept, is_ask}}
 use Rattle.sci_fair.specs.{Lanes.{AreOpen}, Rank.{CannotPerform, counts_use, level, level_on, rank, work_on}}
 use Rattle.sci_fair.specs.Steady.{IsSteadyTurn, IsTurnAlone, Working, WorksByTurns}
-use Rattle.sci_fair.proofs.{Opens.{turn_open}, Steadied.{Steadily, steady_from}, Trace.{Does, Trace, does_then, is_taking, trace}}
+use Rattle.sci_fair.proofs.{Opens.{turn_open}, Steadied.{Change, GoesBy, IsSame, steady_from}, Trace.{Does, Trace, does_then, is_taking, trace}}
 use Rattle.sci_fair.proofs.{RankTables.{rank_within}, Used.{IsReadyHead, IsUsedStill, asks_still, next_marks, used_stays}}
 use Rattle.sci_fair.specs.Reads.{ReadsFit}
 use Rattle.sci_fair.proofs.{AnswersGo.{between_last}, ReadSteps.{turn_reads}}
 use Rattle.sci_fair.proofs.WholeTurns.{HasTurned, level_in, turn_begins, turned_level, turns_on}
 
--- what a steady turn is
-pub record Held (n : ℕ) (old new : Working) : Type 0 where
+-- what a turn is, of each of whose events this holds
+pub record HeldBy (K : Change) (n : ℕ) (old new : Working) : Type 0 where
   pub trace : Trace n (old.policies n) old.core (new.policies n) new.core
-  pub accepts : Steadily n (turned (old.policies n)) old.core trace.e1 trace.p1 trace.c1
-  pub takes : Steadily n trace.p1 trace.c1 trace.e2 trace.p2 trace.c2
-  pub before : (j : ℕ) (f : j < old.core.size.nodes) → Steadily n trace.p1 trace.c1 (trace.looks j f).first (trace.looks j f).p (trace.looks j f).c
-  pub after : (j : ℕ) (f : j < old.core.size.nodes) → Steadily n (trace.looks j f).p (trace.looks j f).c (trace.looks j f).second trace.p2 trace.c2
-  pub asks : Steadily n trace.p2 trace.c2 trace.e3 trace.p3 new.core
+  pub accepts : GoesBy K n (turned (old.policies n)) old.core trace.e1 trace.p1 trace.c1
+  pub takes : GoesBy K n trace.p1 trace.c1 trace.e2 trace.p2 trace.c2
+  pub before : (j : ℕ) (f : j < old.core.size.nodes) → GoesBy K n trace.p1 trace.c1 (trace.looks j f).first (trace.looks j f).p (trace.looks j f).c
+  pub after : (j : ℕ) (f : j < old.core.size.nodes) → GoesBy K n (trace.looks j f).p (trace.looks j f).c (trace.looks j f).second trace.p2 trace.c2
+  pub asks : GoesBy K n trace.p2 trace.c2 trace.e3 trace.p3 new.core
   pub good : WorksByTurns new.core
   pub size : new.core.size ≡ old.core.size
+
+-- what a steady turn is
+abbrev pub Held : ℕ → Working → Working → Type 0
+Held = HeldBy IsSame
 
 module _ (n : ℕ) (start : PolicyOf) (old : Core) (reached : IsReached old) (some : n < old.size.nodes) (cannot : CannotPerform (node_at old n)) where
   does_turned : (p : PolicyOf) (x : Core) (events : List Event) (q : PolicyOf) (y : Core) → HasTurned n start old p x → Does n p x events q y
@@ -53,7 +57,7 @@ pub record Turned (n : ℕ) (old new : Working) : Type 0 where
   pub good : WorksByTurns new.core
 
 -- whatever the node could perform, a machine works by turns still
-does_works : (n : ℕ) (size : Size) (p : PolicyOf) (x : Core) (events : List Event) (q : PolicyOf) (y : Core) → n < size.nodes → x.size ≡ size → IsReached x
+pub does_works : (n : ℕ) (size : Size) (p : PolicyOf) (x : Core) (events : List Event) (q : PolicyOf) (y : Core) → n < size.nodes → x.size ≡ size → IsReached x
     → ReadsFit x → AreOpen x → Does n p x events q y → IsReached y × ReadsFit y × AreOpen y
 does_works n size p x [] q y some is reached fit opened does =
     (subst IsReached does.1 reached, subst ReadsFit does.1 fit, subst AreOpen does.1 opened)

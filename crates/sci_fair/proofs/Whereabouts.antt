@@ -13,7 +13,7 @@ use Rattle.sci_core.specs.Core.{Core, lane_at, lane_of, lane_place, node_at}
 use Rattle.sci_core.specs.{Node.{NodeOf, no_node}, Reached.{IsReached}, Sharing.{asker_of, is_about, packets_of, under_way}, Tidy.{HasItsPackets}}
 use Rattle.sci_core.specs.WellFormed.{IsInLane}
 use Rattle.sci_core.proofs.{Settling.Drains.{place_of}, Step.{Places.{place_answers, place_from, place_requests, place_to}, Steps.{lane_below}}}
-use Rattle.sci_core.proofs.{Tidy.{TidyRuns.{reached_tidy}, TidySteps.{answer_asker, request_asker}}, WellFormed.WellFormedSteps.{reached_well}}
+use Rattle.sci_core.proofs.{Tidy.{TidyRuns.{reached_tidy}, TidySteps.{about_from, answer_asker, request_asker}}, WellFormed.WellFormedSteps.{reached_well}}
 use Rattle.sci_policy.specs.Lines.{state_on}
 use Rattle.sci_fair.proofs.WholeTurns.{among_flat, among_kept, among_right, sole}
 
@@ -176,3 +176,14 @@ same_packet core n line one two reached some inside first second =
     let alone = sole (line % core.size.nodes) (line_of (node_at core n).cache line) (packets_of core n line) one (reached_tidy core reached n line some inside)
     first in
     sym (only_one one two (packets_of core n line) alone.one second)
+
+-- a request in a lane from a node is about its line
+pub request_about : (core : Core) (n to : ℕ) (letter : Letter) → IsReached core → n < core.size.nodes → to < core.size.nodes
+    → IsAmong letter (lane_of core Requests n to) → (is_request letter.body ≡ true) × (letter.line < core.size.lines) × (is_about n letter.line letter ≡ true)
+request_about core n to letter reached some t among =
+    let is = in_lane core (lane_place core.size.nodes Requests n to) letter reached among in
+    let asks = is.request (place_requests core.size.nodes n to some t) in (
+      asks.asks,
+      asks.letter_ok.about,
+      about_from n letter.line letter refl (request_asker letter asks.asks ∙ (is.from ∙ place_from core.size.nodes Requests n to some t)),
+    )

@@ -26,6 +26,10 @@ pub record IsLaterTurn (performed n : ℕ) (old new : Working) : Type 0 where
   pub cannot : CannotPerform (node_at mid n)
   pub turn : IsTurnAlone n (record { core = mid; policies = old.policies }) new
 
+-- the same, however many of them are performed
+abbrev pub IsTurnAmong : ℕ → Working → Working → Type 0
+IsTurnAmong n old new = (performed : ℕ) × IsLaterTurn performed n old new
+
 -- a machine between turns, and how many operations are performed in the turns that are left
 pub record Remaining : Type 0 where
   pub working : Working

@@ -51,13 +51,16 @@ HasWindows nodes (suc count) order =
     (window rest : List ℕ) × (order ≡ window ++ rest) × ((n : ℕ) → n < nodes → IsAmong n window) × HasWindows nodes count rest
 
 -- among these turns comes one of node n, of which this is true
-pub record HasTurn (n : ℕ) (P : Working → Working → Type 0) (order : List ℕ) (first last : Working) : Type 0 where
+pub record HasTurnBy (IsTurn : ℕ → Working → Working → Type 0) (n : ℕ) (P : Working → Working → Type 0) (order : List ℕ) (first last : Working) : Type 0 where
   pub before : List ℕ
   pub after : List ℕ
   pub whole : order ≡ before ++ n ∷ after
   pub old : Working
   pub new : Working
-  pub leads : AreSteadyTurns before first old
-  pub turn : IsSteadyTurn n old new
-  pub later : AreSteadyTurns after new last
+  pub leads : AreTurns IsTurn before first old
+  pub turn : IsTurn n old new
+  pub later : AreTurns IsTurn after new last
   pub so : P old new
+
+abbrev pub HasTurn : ℕ → (Working → Working → Type 0) → List ℕ → Working → Working → Type 0
+HasTurn = HasTurnBy IsSteadyTurn
