@@ -60,7 +60,6 @@ impl Policy {
                         self.used.set(line, true);
                     }
                 }
-                self.patience = 0;
             }
             Some(Want::Ask(line, AskKind::Purge)) => self.draining.set(line, true),
             Some(Want::Ask(line, AskKind::Mread | AskKind::Fread)) => self.used.set(line, false),

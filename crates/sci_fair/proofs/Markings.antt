@@ -1,22 +1,19 @@
 -- The two kinds of marks of a policy, and which lines have them: draining lines and due lines.
-use Rattle.std.proofs.Common.{◌≡◌, ◌<◌, ◌+◌, ◌==◌, ◌||◌, ℕ, nat_lt, Bool, true, false, List, set, length}
-use Rattle.std.proofs.Common.{Option, Some, None, refl, sym, ap, subst, ◌∙◌, inl, inr, rules, get_or-set_same, get_or-set_other}
-use Rattle.std.proofs.lemmas.{Bool.{cases_eq}}
-use Rattle.std.proofs.lemmas.List.FromFn.{length-map-range_with_len}
+use Rattle.std.proofs.Common.{◌≡◌, ◌<◌, ◌+◌, ◌==◌, ℕ, nat_lt, Bool, true, false, List}
+use Rattle.std.proofs.Common.{Option, refl, rules}
 use Rattle.std.specs.Prelude.{IfSome}
 use Rattle.sci_words.specs.declared.{event.{AskKind.{AskKind}}, limits.TheConstants.{MAX_LINES}}
 use Rattle.sci_packets.specs.declared.body.Body.{Body}
 use Rattle.sci_cache.specs.{Accepting.{accepting}, Asking.{Asked, asking}, Kinds.{has_fresh_sharers, has_sharers}, Serving.{serving}}
 use Rattle.sci_cache.specs.State.{CacheState, waits}
 use Rattle.sci_core.specs.{Node.{NodeOf}}
-use Rattle.sci_policy.specs.declared.{policy.TheConstants.{PATIENCE}, want.Want.{Want, TheVariants.{Perform, Ask}}}
+use Rattle.sci_policy.specs.declared.{policy.TheConstants.{PATIENCE}}
 use Rattle.sci_policy.specs.Lines.{can_be_due, can_drain, state_on}
-use Rattle.sci_policy.specs.Policy.{PolicyOf, draining_at_last, due_at_last, has, next_policy, next_wanted, noted, still_draining, still_due}
-use Rattle.sci_policy.specs.Policy.{ticked, turned}
-use Rattle.sci_policy.proofs.{Marks.{in_set}, PolicyLaws.{due_stays, noted_due, ticked_if}}
+use Rattle.sci_policy.specs.Policy.{PolicyOf, has, next_policy}
+use Rattle.sci_policy.specs.Policy.{turned}
+use Rattle.sci_policy.proofs.{Patience.{draining_sets, draining_stays, due_sets}, PolicyLaws.{due_stays}}
 use Rattle.sci_fair.specs.{Rank.{rank}}
 use Rattle.sci_fair.proofs.Kept.{Class, drain_accepts, drain_asks, drain_serves, fresh_accepts, fresh_asks, fresh_serves, has_fresh_next}
-use Rattle.sci_words.specs.declared.event.AskKind.TheVariants as kind
 
 -- ---- marks
 
@@ -45,48 +42,6 @@ gone m = record { test = λ work s. m.class s; value = false; accepts = m.accept
 
 -- ---- draining lines
 
-noted_draining : (policy : PolicyOf) (node : NodeOf) (want : Option Want) (line : ℕ) → line < length policy.draining → has policy.draining line ≡ true
-    → has (noted policy node want).draining line ≡ true
-noted_draining policy node None line below marked = marked
-noted_draining policy node (Some (Perform other)) line below marked = marked
-noted_draining policy node (Some (Ask other kind.Purge)) line below marked = elim (cases_eq line other) [
-  | inl same ↦ subst (λ (l : ℕ). has (set policy.draining l true) line ≡ true) same (get_or-set_same policy.draining line true false below)
-  | inr apart ↦ get_or-set_other policy.draining other line true false apart ∙ marked
-]
-noted_draining policy node (Some (Ask other kind.Mread)) line below marked = marked
-noted_draining policy node (Some (Ask other kind.Fread)) line below marked = marked
-noted_draining policy node (Some (Ask other _)) line below marked = marked
-
-pub still_marked : (policy : PolicyOf) (node : NodeOf) (line : ℕ) (b : Bool) → line < MAX_LINES → still_draining policy node line ≡ true
-    → has (ticked_if policy node b).draining line ≡ true
-still_marked policy node line true small still = in_set (still_draining policy node) line small ∙ still
-still_marked policy node line false small still =
-    in_set (draining_at_last policy node) line small ∙ ap (λ (b : Bool). b || has_sharers (state_on node line)) still
-
-ticked_long : (policy : PolicyOf) (node : NodeOf) (b : Bool) → length (ticked_if policy node b).draining ≡ MAX_LINES
-ticked_long policy node true = length-map-range_with_len (still_draining policy node) 0 MAX_LINES
-ticked_long policy node false = length-map-range_with_len (draining_at_last policy node) 0 MAX_LINES
-
-pub draining_stays : (policy : PolicyOf) (node : NodeOf) (line : ℕ) → line < MAX_LINES → has policy.draining line ≡ true → can_drain (state_on node line) ≡ true
-    → has (next_policy policy node).draining line ≡ true
-draining_stays policy node line small marked drains =
-    let still : still_draining policy node line ≡ true = rw (marked, drains) refl in
-    let b = nat_lt (policy.patience + 1) PATIENCE in
-    noted_draining (ticked policy node) node (next_wanted policy node) line (subst (λ (long : ℕ). line < long) (sym (ticked_long policy node b)) small)
-    (still_marked policy node line b small still)
-
-or_last : (a b : Bool) → b ≡ true → (a || b) ≡ true
-or_last a b is = search rules
-
-pub draining_sets : (policy : PolicyOf) (node : NodeOf) (line : ℕ) → line < MAX_LINES → nat_lt (policy.patience + 1) PATIENCE ≡ false
-    → has_sharers (state_on node line) ≡ true → has (next_policy policy node).draining line ≡ true
-draining_sets policy node line small ends shared =
-    let marked : has (ticked_if policy node false).draining line ≡ true =
-    in_set (draining_at_last policy node) line small ∙ or_last (still_draining policy node line) (has_sharers (state_on node line)) shared in
-    let ticks : has (ticked policy node).draining line ≡ true = subst (λ (b : Bool). has (ticked_if policy node b).draining line ≡ true) (sym ends) marked in
-    noted_draining (ticked policy node) node (next_wanted policy node) line
-    (subst (λ (long : ℕ). line < long) (sym (ticked_long policy node (nat_lt (policy.patience + 1) PATIENCE))) small) ticks
-
 pub purging_waits : (s : CacheState) → can_drain s ≡ true → has_sharers s ≡ false → waits s ≡ true
 purging_waits s is none = search rules
 
@@ -109,20 +64,6 @@ draining = record {
 
 pub fresh_due : (s : CacheState) → has_fresh_next s ≡ true → can_be_due s ≡ true
 fresh_due s is = search rules
-
-pub still_due_marked : (policy : PolicyOf) (node : NodeOf) (line : ℕ) (b : Bool) → line < MAX_LINES → still_due policy node line ≡ true
-    → has (ticked_if policy node b).due line ≡ true
-still_due_marked policy node line true small still = in_set (still_due policy node) line small ∙ still
-still_due_marked policy node line false small still =
-    in_set (due_at_last policy node) line small ∙ ap (λ (b : Bool). b || has_fresh_sharers (state_on node line)) still
-
-pub due_sets : (policy : PolicyOf) (node : NodeOf) (line : ℕ) → line < MAX_LINES → nat_lt (policy.patience + 1) PATIENCE ≡ false
-    → has_fresh_sharers (state_on node line) ≡ true → has (next_policy policy node).due line ≡ true
-due_sets policy node line small ends shared =
-    let marked : has (ticked_if policy node false).due line ≡ true =
-    in_set (due_at_last policy node) line small ∙ or_last (still_due policy node line) (has_fresh_sharers (state_on node line)) shared in
-    let ticks : has (ticked policy node).due line ≡ true = subst (λ (b : Bool). has (ticked_if policy node b).due line ≡ true) (sym ends) marked in
-    subst (λ (marks : List Bool). has marks line ≡ true) (sym (noted_due (ticked policy node) node (next_wanted policy node))) ticks
 
 pub claiming_waits : (s : CacheState) → has_fresh_next s ≡ true → has_fresh_sharers s ≡ false → waits s ≡ true
 claiming_waits s is none = search rules

@@ -10,10 +10,10 @@ use Rattle.sci_core.specs.{Core.{Core, node_at}, Node.{NodeOf, node_performing},
 use Rattle.sci_core.proofs.Basics.Options.{of_some}
 use Rattle.sci_policy.specs.declared.{policy.TheConstants.{PATIENCE}, want.Want.{Want, TheVariants.{Perform, Ask}}}
 use Rattle.sci_policy.specs.Lines.{state_on}
-use Rattle.sci_policy.specs.Policy.{IsEnabledWant, PolicyOf, has, next_policy, next_wanted, noted}
+use Rattle.sci_policy.specs.Policy.{IsEnabledWant, PolicyOf, has, next_policy, next_wanted}
 use Rattle.sci_policy.specs.Policy.{ticked, turned}
 use Rattle.sci_policy.specs.Turn.{is_accept, is_ask}
-use Rattle.sci_policy.proofs.{PolicyLaws.{ticked_if}, Wants.{wanted_enabled}}
+use Rattle.sci_policy.proofs.{Patience.{next_patience}, Wants.{wanted_enabled}}
 use Rattle.sci_turn.specs.Moves.{IsOwn}
 use Rattle.sci_fair.specs.Steady.{AreSteadyTurns, HasWindows, IsSteadyTurn, Working, WorksByTurns}
 use Rattle.sci_fair.proofs.Kept.{IsIn, kept_along}
@@ -23,25 +23,10 @@ use Rattle.sci_fair.proofs.{Steadied.{IsSteady, Steadily}, SteadyTurns.{Held, st
 use Rattle.sci_fair.proofs.Awaiting.{accept_no_ask, taking_no_ask, waiting_step}
 use Rattle.sci_fair.proofs.{Descents.{turns_join, turns_part, windows_fewer, windows_part}, HeldUp.{IsFree, free_turn}, Requests.{good_along, size_along}}
 use Rattle.std.proofs.lemmas.List.{append_assoc}
-use Rattle.sci_words.specs.declared.event.AskKind.TheVariants as kind
 use Rattle.sci_words.specs.declared.event.Event.TheVariants as event
 use Rattle.sci_fair.proofs.Markings.{Marking, gone}
 
 -- ---- calls of the policy
-
-noted_patience : (policy : PolicyOf) (node : NodeOf) (want : Option Want) → ((line : ℕ) → want ≡ Some (Perform line) → ⊥)
-    → (noted policy node want).patience ≡ policy.patience
-noted_patience policy node None other = refl
-noted_patience policy node (Some (Perform line)) other = absurd (other line refl)
-noted_patience policy node (Some (Ask line kind.Purge)) other = refl
-noted_patience policy node (Some (Ask line kind.Mread)) other = refl
-noted_patience policy node (Some (Ask line kind.Fread)) other = refl
-noted_patience policy node (Some (Ask line _)) other = refl
-
-next_patience : (policy : PolicyOf) (node : NodeOf) → nat_lt (policy.patience + 1) PATIENCE ≡ true
-    → ((line : ℕ) → next_wanted policy node ≡ Some (Perform line) → ⊥) → (next_policy policy node).patience ≡ policy.patience + 1
-next_patience policy node lasts other =
-    noted_patience (ticked policy node) node (next_wanted policy node) other ∙ ap (λ (b : Bool). (ticked_if policy node b).patience) lasts
 
 abbrev pub pred : ℕ → ℕ
 pred zero = zero
@@ -135,7 +120,7 @@ module _ (m : Marking) (n line : ℕ) (small : line < MAX_LINES) where
             | Gone out ↦ (let clash : true ≡ false = sym is ∙ out in cc)
             | Counts j same few ↦ elim (cases_Bool (nat_lt (p.patience + 1) PATIENCE)) [
               | inr ends ↦ Marked (m.sets p node line small ends there)
-              | inl lasts ↦ counted j k p x lasts same few (next_patience p node lasts other)
+              | inl lasts ↦ counted j k p x lasts same few (next_patience p node lasts)
             ]
           ])
         ]

@@ -10,10 +10,11 @@ use Rattle.sci_core.proofs.{Basics.Options.{of_some}, WellFormed.WellFormedSteps
 use Rattle.sci_policy.specs.declared.{want.Want.{TheVariants.{Perform, Ask}}}
 use Rattle.sci_policy.specs.{Lines.{can_drain, has_pending, state_on}, Policy.{IsEnabledWant, has, is_purged, next_wanted, ticked}}
 use Rattle.sci_policy.proofs.Wants.{wanted_enabled}
+use Rattle.sci_policy.proofs.Patience.{still_marked}
 use Rattle.sci_fair.specs.Steady.{IsSteadyTurn, Working, WorksByTurns}
 use Rattle.sci_fair.proofs.Ahead.{Ahead, Amid, asked_at_last, asked_now, earlier, fewer, firm, firm_asked, firm_before, performs_none, purges_none}
 use Rattle.sci_fair.proofs.{FirstWants.{PerformsNot, wants_purge}, HeldUp.{Asks_it, IsFree, Performs_it, Wants_none}}
-use Rattle.sci_fair.proofs.{Markings.{draining, still_marked}, Patience.{MarkedTurn, Stopped, marked_turn}}
+use Rattle.sci_fair.proofs.{Markings.{draining}, Patience.{MarkedTurn, Stopped, marked_turn}}
 use Rattle.sci_fair.proofs.{ReadCarries.{asks_free}, Requests.{size_along}, SteadyTurns.{Held}}
 use Rattle.sci_words.specs.declared.event.AskKind.TheVariants as kind
 

@@ -19,6 +19,7 @@ use Rattle.sci_core.proofs.WellFormed.WellFormedSteps.{reachable, reached_well}
 use Rattle.sci_policy.specs.Lines.{can_be_due, can_drain, state_on}
 use Rattle.sci_policy.specs.{Policy.{awaits_home, has, is_claimed, ticked}, Rest.{Awaits, MayRest, NothingPending}}
 use Rattle.sci_policy.proofs.AlwaysWants.{may_rest}
+use Rattle.sci_policy.proofs.Patience.{still_due_marked}
 use Rattle.sci_fair.specs.{Rank.{rank, work_in, work_on}, Retries.{is_tried_once}, Steady.{AreSteadyTurns, HasWindows, IsSteadyTurn, Working, WorksByTurns}}
 use Rattle.sci_fair.proofs.Ahead.{Ahead, Amid, after_it, asked_waits, earlier, fewer, firm, firm_asked, firm_before, lines_inside, on_from, performs_none}
 use Rattle.sci_fair.proofs.Ahead.{windows_on}
@@ -26,7 +27,7 @@ use Rattle.sci_fair.proofs.{Descents.{turns_join, turns_part, windows_fewer, win
 use Rattle.sci_fair.proofs.HeldUp.{Asks_it, FreeTurn, IsFree, Performs_it, Wants_none, free_turn}
 use Rattle.sci_fair.proofs.{Homes.{none_changes}, Joins.{none_needy}}
 use Rattle.sci_fair.proofs.Kept.{Class, has_fresh_next, is_needy, kept_along, kept_in, needy, not_draining, once}
-use Rattle.sci_fair.proofs.Markings.{due, fresh_due, still_due_marked}
+use Rattle.sci_fair.proofs.Markings.{due, fresh_due}
 use Rattle.sci_fair.proofs.{Patience.{MarkedTurn, Stopped, marked_turn}, Promised.{As_it_is, By_answer, SettlesTo, settles}}
 use Rattle.sci_fair.proofs.{Requests.{good_along, size_along}, Retries.{never_once}}
 use Rattle.sci_fair.proofs.{Sharers.{asks_it, lines_small, no_sharers, none_purged, performs_not}, SteadyTurns.{Held}}

@@ -13,4 +13,5 @@ pub mod Telling
 pub mod Alone
 pub mod Circles
 pub mod PolicyLaws
+pub mod Patience
 pub mod Deeds

@@ -24,7 +24,7 @@ pub record PolicyOf : Type 0 where
   pub due : List Bool
   -- for each line whether it was used: since the node asked for it, it was Head when an operation there could be performed
   pub used : List Bool
-  -- how often it was asked what comes next, since something could be performed or patience ended
+  -- how often it was asked what comes next, since patience ended
   pub patience : ℕ
   -- the turns, counted modulo PATIENCE
   pub turns : ℕ
@@ -168,7 +168,7 @@ abbrev pub used_now : PolicyOf → NodeOf → ℕ → Bool
 used_now policy node line = has policy.used line || (is_head (state_on node line) && is_some (node_performing node line))
 
 abbrev pub noted : PolicyOf → NodeOf → Option Want → PolicyOf
-noted policy node (Some (Perform line)) = record policy { used = set_of (used_now policy node); patience = 0 }
+noted policy node (Some (Perform line)) = record policy { used = set_of (used_now policy node) }
 noted policy node (Some (Ask line kind.Purge)) = record policy { draining = slice_set policy.draining line true }
 noted policy node (Some (Ask line kind.Mread)) = record policy { used = slice_set policy.used line false }
 noted policy node (Some (Ask line kind.Fread)) = record policy { used = slice_set policy.used line false }

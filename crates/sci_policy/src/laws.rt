@@ -1,11 +1,11 @@
 //! Laws of the policy, each the contract of a function that does nothing. They hold on every node, reached or not.
 
-ghost use Rattle.std.specs.Prelude.{◌≡◌, ◌≢◌, ◌<◌, ◌≤◌, ℕ, Bool, Some, IfSome, false, true};
+ghost use Rattle.std.specs.Prelude.{◌≡◌, ◌≢◌, ◌<◌, ◌≤◌, ◌+◌, ◌%◌, ℕ, Bool, Some, IfSome, false, true};
 ghost use Rattle.sci_words.specs.declared.{limits.TheConstants.{MAX_LINES}, event.AskKind.{AskKind, TheVariants.{Claim, Clear, Wback}}};
 ghost use Rattle.sci_packets.specs.declared.body.Body.TheVariants.{Cread};
-ghost use Rattle.sci_cache.specs.{Cache.{Letter}, Kinds.{joins}};
+ghost use Rattle.sci_cache.specs.{Cache.{Letter}, Kinds.{has_fresh_sharers, has_sharers, joins}};
 ghost use Rattle.sci_core.specs.Node.{NodeOf, lines_of};
-ghost use Rattle.sci_policy.specs.declared.{decision.Decision.TheVariants.{Serve}, want.Want.TheVariants.{Ask}};
+ghost use Rattle.sci_policy.specs.declared.{decision.Decision.TheVariants.{Serve}, policy.TheConstants.{PATIENCE}, want.Want.TheVariants.{Ask}};
 ghost use Rattle.sci_policy.specs.Lines.{can_be_due, can_drain, has_pending, is_head, least, oldest, serial_on, state_on};
 ghost use Rattle.sci_policy.specs.Policy.{PolicyOf, awaits_home, decided, has, kept_by, next_policy, next_wanted, still_draining};
 
@@ -59,6 +59,22 @@ pub fn due_lines_stay_due()
     ensures { (policy : PolicyOf) (node : NodeOf) (line : ℕ)
         → line < MAX_LINES → has policy.due line ≡ true
         → can_be_due (state_on node line) ≡ true
+        → has (next_policy policy node).due line ≡ true }
+{}
+
+/// Patience ends at each 64th call of `next`, whatever can be performed. Then each line is marked that has a list which others may
+/// wait for: it is draining if it is Head with a next entry, and due if it is the head of a fresh list with one. So no other line
+/// that a node works on keeps it from giving up such a list.
+pub fn patience_always_ends()
+    ensures counts { (policy : PolicyOf) (node : NodeOf) → policy.patience < PATIENCE
+        → (next_policy policy node).patience ≡ (policy.patience + 1) % PATIENCE }
+    ensures drains { (policy : PolicyOf) (node : NodeOf) (line : ℕ)
+        → policy.patience + 1 ≡ PATIENCE → line < MAX_LINES
+        → has_sharers (state_on node line) ≡ true
+        → has (next_policy policy node).draining line ≡ true }
+    ensures claims { (policy : PolicyOf) (node : NodeOf) (line : ℕ)
+        → policy.patience + 1 ≡ PATIENCE → line < MAX_LINES
+        → has_fresh_sharers (state_on node line) ≡ true
         → has (next_policy policy node).due line ≡ true }
 {}
 

@@ -17,8 +17,8 @@ use sci_packets::{Body, Packet};
 use sci_words::AskKind;
 use std::marker::Model;
 
-/// A policy's patience: how often it is asked what comes next, with nothing that could be performed, until it has its
-/// node give up lists that others may wait for. In one turn of this many, requests that wait are let go.
+/// A policy's patience: how often it is asked what comes next until it has its node give up lists that others may wait for,
+/// whatever is performed meanwhile. In one turn of this many, requests that wait are let go.
 pub const PATIENCE: u8 = 64;
 
 /// What a node's controller decides by itself: which event comes next, and which requests of others it keeps or refuses.
@@ -165,10 +165,7 @@ impl Policy {
         ensures { self.new ≡ noted self.old node.now want }
     {
         match want {
-            Some(Want::Perform(_)) => {
-                self.used = self.used_now(node);
-                self.patience = 0;
-            }
+            Some(Want::Perform(_)) => self.used = self.used_now(node),
             Some(Want::Ask(line, AskKind::Purge)) => self.draining.put(line, true),
             Some(Want::Ask(line, AskKind::Mread | AskKind::Fread)) => self.used.put(line, false),
             Some(_) | None => {}

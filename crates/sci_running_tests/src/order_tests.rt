@@ -189,6 +189,38 @@ fn due_lines_are_claimed_at_last(rt: HostRuntime) -> Result<(), Fail> {
     busy.end(rt.alloc(), &order)
 }
 
+/// Nodes go in a circle this many times.
+fn go_round<N: Nodes + Drop>(busy: &mut Busy<N>, times: u8) -> Result<(), Fail> {
+    for _time in 0..times {
+        busy.go_all(&[0, 1, 2, 3])?;
+    }
+    Ok(())
+}
+
+/// Nodes 1 and 2 leave the list of line 0, and what node 1 says comes to node 3 before what node 2 said. So node 3 takes node 1,
+/// which is gone, for the one before it, and can't leave by itself. It wants to write there. Node 0, which leads the list, writes
+/// on another line in turn with node 1, so something can always be performed there soon. Its patience ended only after that, once.
+#[test]
+fn patience_ends_though_others_work_on(rt: HostRuntime) -> Result<(), Fail> {
+    let nodes = Locked::of(&rt, rt.alloc(), (4, 8, 2), 300)?;
+    let mut busy = Busy::new(rt.alloc(), nodes, 4, 8)?;
+    for joins in ["3+0", "2+0", "1+0", "0+0", "1+4 2+5"] {
+        go_through(&mut busy, joins, 0)?;
+        go_round(&mut busy, 6)?;
+    }
+    go_through(&mut busy, "2+6 1 2 1+7 0 1 3", 0)?;
+    go_round(&mut busy, 3)?;
+    busy.add(3, on(0, WRITE))?;
+    for _store in 0..200 {
+        busy.add(0, on(1, WRITE))?;
+        busy.add(1, on(1, WRITE))?;
+    }
+    go_round(&mut busy, 100)?;
+    assert_eq!(rt; busy.has_done(3), true);
+    assert_eq!(rt; busy.has_done(0), false);
+    busy.end(rt.alloc(), &[0, 1, 2, 3])
+}
+
 /// An operation on word 0 of a line.
 fn on(line: u8, act: Act) -> Op {
     Op { line, word: 0, act }
