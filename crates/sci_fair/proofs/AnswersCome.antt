@@ -1,5 +1,5 @@
 -- When a request was taken, its answer comes within the next windows, and the node accepts it.
-use Rattle.std.proofs.Common.{◌≡◌, ◌<◌, ◌+◌, ◌*◌, ◌%◌, ◌⊎◌, ℕ, suc, true, arith, List, [], ◌∷◌, ◌++◌}
+use Rattle.std.proofs.Common.{◌≡◌, ◌<◌, ◌+◌, ◌*◌, ◌%◌, ◌⊎◌, ℕ, suc, true, arith, List, [], ◌∷◌}
 use Rattle.std.proofs.Common.{refl, sym, ap, subst, ◌∙◌, inl, inr, rules}
 use Rattle.std.proofs.lemmas.{Bool.{cases_eq}}
 use Rattle.std.specs.Prelude.{IfSome}
@@ -14,7 +14,7 @@ use Rattle.sci_policy.specs.{Lines.{state_on}, Policy.{PolicyOf}}
 use Rattle.sci_fair.specs.Steady.{AreSteadyTurns, AreTurns, HasWindows, IsSteadyTurn, Working}
 use Rattle.sci_fair.specs.{Steady.{WorksByTurns}}
 use Rattle.sci_fair.proofs.{Awaiting.{taking_no_accept, taking_no_ask}, Descents.{Comes, ComesBy, Falls, Stays, comes_later, descend}}
-use Rattle.sci_fair.proofs.Descents.{turns_join, windows_fewer}
+use Rattle.sci_fair.proofs.Descents.{windows_fewer}
 use Rattle.sci_fair.proofs.{HomeAnswers.{AnsweredAt, answers_kept, free_taken}}
 use Rattle.sci_fair.proofs.LaneTurns.{among_gained, among_stands, among_tail, asks_keep, lost_all, no_two}
 use Rattle.sci_fair.proofs.{StateSteps.{By_accept, By_ask, By_serve, StateStep, Stays as Remains, state_step}, Steadied.{Change, GoesBy, IsSame}}
@@ -37,7 +37,8 @@ step_waits e line s t (By_serve is m r b serves) kind waiting =
 step_waits e line s t (By_accept is a accepts) kind waiting = absurd (taking_no_accept e kind is)
 step_waits e line s t (By_ask is k asked asks next) kind waiting = absurd (taking_no_ask e kind is)
 
-waits_all : (K : Change) (n line : ℕ) (p : PolicyOf) (x : Core) (events : List Event) (q : PolicyOf) (y : Core) → AreAll is_taking events → GoesBy K n p x events q y
+waits_all : (K : Change) (n line : ℕ) (p : PolicyOf) (x : Core) (events : List Event) (q : PolicyOf) (y : Core) → AreAll is_taking events
+    → GoesBy K n p x events q y
     → Waits n line x → Waits n line y
 waits_all K n line p x [] q y kinds steady waiting = subst (Waits n line) steady.1 waiting
 waits_all K n line p x (e ∷ events) q y kinds steady waiting =

@@ -19,7 +19,8 @@ use Rattle.sci_fair.specs.{Rank.{rank, work_in, work_on}, Steady.{Working}}
 use Rattle.sci_fair.specs.Steady.{WorksByTurns}
 use Rattle.sci_fair.proofs.ReadCarries.{asks_free}
 use Rattle.sci_fair.proofs.{StateSteps.{By_accept, By_ask, By_serve, StateStep, Stays, serve_one, state_step}, Steadied.{Change, GoesBy, IsSteady, Steadily}}
-use Rattle.sci_fair.proofs.{SteadyTurns.{Held, HeldBy}, Trace.{AreAll, is_taking}, Whereabouts.{Answered_from, Asked_at, Where, lane_packets, same_packet, where_is}}
+use Rattle.sci_fair.proofs.{SteadyTurns.{Held, HeldBy}, Trace.{AreAll, is_taking}}
+use Rattle.sci_fair.proofs.Whereabouts.{Answered_from, Asked_at, Where, lane_packets, same_packet, where_is}
 use Rattle.sci_words.specs.declared.event.Event.TheVariants as event
 
 -- ---- the tables
@@ -211,13 +212,15 @@ module _ (n line : ℕ) where
 
 -- ---- a turn of the node that awaits
 
-pub answered_core : {K : Change} (n : ℕ) (old new : Working) → WorksByTurns old.core → (held : HeldBy K n old new) → (m : ℕ) → (node_at held.trace.c1 m).waiting ≡ None
+pub answered_core : {K : Change} (n : ℕ) (old new : Working) → WorksByTurns old.core → (held : HeldBy K n old new) → (m : ℕ)
+    → (node_at held.trace.c1 m).waiting ≡ None
 answered_core n old new good held m = elim (cases_eq m n) [
   | inl same ↦ subst (λ (k : ℕ). (node_at held.trace.c1 k).waiting ≡ None) (sym same) held.trace.accepted.free
   | inr other ↦ ap (λ (part : NodeOf). part.waiting) (held.trace.accepted.since.others m other) ∙ good.between.free m
 ]
 
-never_where : {K : Change} (n from line : ℕ) (old new : Working) (answer : Letter) → WorksByTurns old.core → (held : HeldBy K n old new) → n < old.core.size.nodes
+never_where : {K : Change} (n from line : ℕ) (old new : Working) (answer : Letter) → WorksByTurns old.core → (held : HeldBy K n old new)
+    → n < old.core.size.nodes
     → line < old.core.size.lines → from < old.core.size.nodes → is_request answer.body ≡ false → is_about n line answer ≡ true
     → IsAmong answer (lane_of old.core Answers from n) → Where held.trace.c1 n line → ⊥
 never_where n from line old new answer good held some inside f answers about among (Asked_at to letter g asks asked there) =
@@ -235,7 +238,8 @@ never_where n from line old new answer good held some inside f answers about amo
     elim none [ ]
 
 -- an answer that has come is accepted: where one is under way to a line, the line doesn't wait when the turn has accepted
-pub accepted_idle : {K : Change} (n from line : ℕ) (old new : Working) (answer : Letter) → WorksByTurns old.core → (held : HeldBy K n old new) → n < old.core.size.nodes
+pub accepted_idle : {K : Change} (n from line : ℕ) (old new : Working) (answer : Letter) → WorksByTurns old.core → (held : HeldBy K n old new)
+    → n < old.core.size.nodes
     → line < old.core.size.lines → from < old.core.size.nodes → is_request answer.body ≡ false → is_about n line answer ≡ true
     → IsAmong answer (lane_of old.core Answers from n) → waits (state_on (node_at held.trace.c1 n) line) ≡ false
 accepted_idle n from line old new answer good held some inside f answers about among = elim (cases_Bool (waits (state_on (node_at held.trace.c1 n) line))) [

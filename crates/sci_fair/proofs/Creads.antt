@@ -4,7 +4,8 @@ use Rattle.sci_history.specs.Seen.{IsAmong}
 use Rattle.sci_packets.specs.declared.body.Body.TheVariants.{Cread}
 use Rattle.sci_cache.specs.{State.{CacheState, Joining, FreshJoining}, Accepting.{settled}, Cache.{Letter, line_of}, Member.{link_of}}
 use Rattle.sci_core.specs.declared.lane.LaneKind.TheVariants.{Requests}
-use Rattle.sci_core.specs.{Core.{Core, lane_of, lane_place, node_at}, Reached.{IsReached}, Sharing.{answer_in, answer_to, packets_of}, SharingList.{IsOnce, LinkedFrom}, Tidy.{IsSentIn}}
+use Rattle.sci_core.specs.{Core.{Core, lane_of, lane_place, node_at}, Reached.{IsReached}, Sharing.{answer_in, answer_to, packets_of}}
+use Rattle.sci_core.specs.{SharingList.{IsOnce, LinkedFrom}, Tidy.{IsSentIn}}
 use Rattle.sci_core.proofs.{ReachedLaws.{any_shaped}, Shape.{ShapeSteps.{view_of}, Views.{link_in}}, Step.Places.{place_to}, Tidy.{TidyRuns.{reached_tidy}}}
 use Rattle.sci_core.proofs.WellFormed.WellFormedSteps.{reachable}
 use Rattle.sci_policy.specs.Lines.{state_on}

@@ -1,15 +1,15 @@
 -- Each request is answered, whatever is issued and performed between turns.
-use Rattle.std.proofs.Common.{◌≡◌, ◌≤◌, ◌<◌, ◌+◌, ◌-◌, ◌%◌, ◌*◌, ◌⊎◌, ℕ, suc, true, arith, List, ◌∷◌, ◌++◌, refl, sym, ap, subst, ◌∙◌, inl, inr}
+use Rattle.std.proofs.Common.{◌≡◌, ◌≤◌, ◌<◌, ◌+◌, ◌-◌, ◌%◌, ◌*◌, ℕ, true, arith, List, refl, sym, subst, ◌∙◌, inl, inr}
 use Rattle.std.specs.Prelude.{IsSome}
 use Rattle.sci_history.specs.Seen.{IsAmong}
 use Rattle.sci_cache.specs.{State.{waits}, Cache.{Letter}}
 use Rattle.sci_core.specs.declared.lane.LaneKind.TheVariants.{Requests, Answers}
-use Rattle.sci_core.specs.{Core.{Core, lane_of, node_at}, Sharing.{answer_to}, Size.{Size}}
+use Rattle.sci_core.specs.{Core.{lane_of, node_at}, Sharing.{answer_to}, Size.{Size}}
 use Rattle.sci_policy.specs.Lines.{state_on}
 use Rattle.sci_fair.specs.{Later.{IsTurnAmong}, Steady.{AreTurns, HasTurnBy, HasWindows, Working, WorksByTurns}}
-use Rattle.sci_fair.proofs.{AnswersCome.{TakenIn, answer_by, size_goes, taken_answered, turn_size}, Descents.{ComesBy}}
+use Rattle.sci_fair.proofs.{AnswersCome.{TakenIn, answer_by, size_goes, taken_answered}, Descents.{ComesBy}}
 use Rattle.sci_fair.proofs.{Going.{Whatever, works_on}, HomeAnswers.{AnsweredAt}, LaneTurns.{among_stands}, Leaders.{owns, owns_works}}
-use Rattle.sci_fair.proofs.Passing.{Among, Counts, Passing, among, passes_on, passing_below, passing_good}
+use Rattle.sci_fair.proofs.Passing.{Counts, Passing, among, passes_on, passing_below, passing_good}
 use Rattle.sci_fair.proofs.{Requests.{Parts, Stands_on, letter_comes, stands_in}, Standing.{FrontTaken, StandsAt}, TurnLaws.{answered_to, not_there, turn_of}}
 use Rattle.sci_fair.proofs.{Vain.{first_need}, Whereabouts.{request_about}}
 
@@ -46,13 +46,15 @@ each_taken n to extra letter order first last good some t stood turns windows =
       )
       | inr falls ↦ inr falls
     ]) n to letter (TakenIn Whatever IsTurnAmong among_parts n to letter)
-    (λ i old new good_ turn taken. record { good = good_; turn = turn; taken = taken }) first.core.size some t 3 3 extra order first last (omega arith) good refl
+    (λ i old new good_ turn taken. record { good = good_; turn = turn; taken = taken }) first.core.size some t 3 3 extra order first last
+    (omega arith) good refl
     stood turns windows
 
 pub taken_law : (j n : ℕ) (letter : Letter) (order : List ℕ) (first last : Working) → WorksByTurns first.core → j < first.core.size.nodes
     → n < first.core.size.nodes → IsAmong letter (lane_of first.core Requests j n) → AreTurns IsTurnAmong order first last
     → HasWindows first.core.size.nodes 564 order
-    → HasTurnBy IsTurnAmong n (λ old new. IsAmong letter (lane_of old.core Requests j n) × (IsAmong letter (lane_of new.core Requests j n) → ⊥)) order first last
+    → HasTurnBy IsTurnAmong n (λ old new. IsAmong letter (lane_of old.core Requests j n) × (IsAmong letter (lane_of new.core Requests j n)
+    → ⊥)) order first last
 taken_law j n letter order first last good f t among_ turns windows =
     let nodes = first.core.size.nodes in
     let is = request_about first.core j n letter good.reached f t among_ in
@@ -102,4 +104,5 @@ answer_law n line order first last good some inside waiting turns windows =
       among = subst (IsAmong at.letter) (part.lanes Answers at.from n) at.among;
     } in
     let is = answered_to c.old.core n line c.done.good.reached n0 l0 answered in
-    turn_of IsTurnAmong n (λ old new. IsSome (answer_to old.core n line)) (Answered n line) nodes 0 order first last c c.done.server (subst IsSome (sym is) refl)
+    turn_of IsTurnAmong n (λ old new. IsSome (answer_to old.core n line)) (Answered n line) nodes 0 order first last c c.done.server (subst IsSome
+    (sym is) refl)

@@ -1,36 +1,28 @@
 -- In steady turns the front of each lane of requests is taken before many windows have passed.
 use Rattle.std.proofs.Common.{◌≡◌, ◌≢◌, ◌≤◌, ◌<◌, ◌+◌, ◌-◌, ◌%◌, ◌⊎◌, ◌&&◌, ◌||◌, ℕ, zero, suc, Bool, true, false, arith}
-use Rattle.std.proofs.Common.{List, [], ◌∷◌, ◌++◌, length, Option, Some, None, refl, sym, ap, subst, ◌∙◌, inl, inr, rules}
-use Rattle.std.proofs.lemmas.{Bool.{cases_eq}, List.{length-append}}
-use Rattle.std.proofs.Math.Nat.{mod-lt}
+use Rattle.std.proofs.Common.{List, ◌∷◌, Option, Some, None, refl, sym, ap, subst, ◌∙◌, inl, inr, rules}
+use Rattle.std.proofs.lemmas.{Bool.{cases_eq}}
 use Rattle.sci_words.specs.declared.event.Event.{Event}
 use Rattle.sci_words.specs.Operation.{is_maker}
 use Rattle.sci_packets.specs.declared.body.Body.{TheVariants.{Cread}}
 use Rattle.sci_cache.specs.{State.{CacheState}, Cache.{Letter}}
 use Rattle.sci_core.specs.declared.{lane.LaneKind.TheVariants.{Requests}, pending.Pending.{Pending}}
-use Rattle.sci_core.specs.{Core.{Core, lane_of, lane_place, node_at}, Node.{NodeOf, pending_on}, Size.{Size}}
+use Rattle.sci_core.specs.{Core.{lane_of, node_at}, Node.{NodeOf, pending_on}, Size.{Size}}
 use Rattle.sci_policy.proofs.PolicyLaws.{kept_no, serve_if}
 use Rattle.sci_policy.specs.Lines.{can_drain, has_maker, is_head, is_maker_of, state_on}
 use Rattle.sci_policy.specs.Policy.{PolicyOf, awaits_home, decided, is_busy_now, is_cread, is_held, kept_by, refused_by, turned}
-use Rattle.sci_policy.specs.Turn.{decided_event, is_ask}
-use Rattle.sci_policy.proofs.{Deciding.{kept_if}, PolicyLaws.{kept_awaits_home, kept_is_cread}}
+use Rattle.sci_policy.specs.Turn.{decided_event}
 use Rattle.sci_fair.specs.{Rank.{work_in, work_on}, Steady.{AreTurns, HasWindows, IsSteadyTurn, Working}}
 use Rattle.sci_fair.specs.Steady.{WorksByTurns}
-use Rattle.sci_fair.proofs.Awaiting.{Awaits, ask_no_accept, await_all, awaited_opens, is_open_head, open_all, serves_no_cread, taking_no_accept}
+use Rattle.sci_fair.proofs.Awaiting.{Awaits, awaited_opens, is_open_head, open_all, serves_no_cread}
 use Rattle.sci_fair.proofs.{Descents.{ComesBy, Falls, Less, Stays, descend, falls_as, windows_fewer}}
-use Rattle.sci_fair.proofs.{HomeAnswers.{AnsweredAt, AskedAt, answered_turn, asked_turn, where_home}}
+use Rattle.sci_fair.proofs.{HomeAnswers.{AnsweredAt}}
 use Rattle.sci_fair.proofs.LaneTurns.{Is_kept, Is_taken, front_at}
-use Rattle.sci_turn.specs.Moves.{IsOwn}
-use Rattle.sci_fair.proofs.StateSteps.{size_kept}
-use Rattle.sci_fair.proofs.LaneTurns.{lost_all, take_one}
-use Rattle.sci_history.specs.Seen.{IsAmong}
-use Rattle.sci_core.proofs.Step.Places.{place_requests}
 use Rattle.sci_policy.specs.declared.decision.Decision.{Decision}
-use Rattle.sci_fair.proofs.HomeAnswers.{gained_by, lane_kept}
-use Rattle.sci_fair.proofs.Whereabouts.{in_lane}
-use Rattle.sci_fair.proofs.{Standing.{AwaitsWord, FrontTaken, StandsAt, asks_home, counts_turn, front_inside, lets_go, own_front, stands_kept, stands_own, within}}
-use Rattle.sci_fair.proofs.Standing.{never_longer, word_below, word_of, word_other, word_own}
-use Rattle.sci_fair.proofs.{Steadied.{IsSame, IsSteady, Steadily}, SteadyTurns.{Held, steady_turn}, Trace.{AreAll, is_taking}, Vain.{first_need, next_turns, one_more}}
+use Rattle.sci_fair.proofs.Standing.{AwaitsWord, FrontTaken, StandsAt, asks_home, counts_turn, front_inside, lets_go, own_front, stands_kept, stands_own}
+use Rattle.sci_fair.proofs.Standing.{within}
+use Rattle.sci_fair.proofs.Standing.{word_below, word_of, word_other, word_own}
+use Rattle.sci_fair.proofs.{Steadied.{IsSame, IsSteady}, SteadyTurns.{Held, steady_turn}, Vain.{first_need, one_more}}
 use Rattle.sci_policy.specs.declared.decision.Decision.TheVariants as decision
 use Rattle.sci_words.specs.declared.event.Event.TheVariants as event
 

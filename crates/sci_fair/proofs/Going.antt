@@ -4,14 +4,16 @@ use Rattle.std.proofs.lemmas.Bool.{cases_eq}
 use Rattle.sci_words.specs.declared.{event.Event.{Event}, operation.Op.{Op}}
 use Rattle.sci_cache.specs.{State.{CacheState}, Performing.{Performed, performing}, Cache.{CacheOf, line_of}, Line.{LineState, line_in, untouched}}
 use Rattle.sci_core.specs.declared.lane.LaneKind.{LaneKind}
-use Rattle.sci_core.specs.{Core.{Core, lane_of, node_at, side, stepping}, Node.{NodeOf, may_issue, node_issuing, node_performing}, Reached.{IsReached}, Size.{Size}}
+use Rattle.sci_core.specs.{Core.{Core, lane_of, node_at, side, stepping}, Node.{NodeOf, may_issue, node_issuing, node_performing}, Reached.{IsReached}}
+use Rattle.sci_core.specs.Size.{Size}
 use Rattle.sci_core.proofs.{Basics.{Lists.{at_place_set}, Options.{of_some}}, Settling.Drains.{some_node}, Step.NodeSides.{PerformedAs, perform_as}}
 use Rattle.sci_core.proofs.WellFormed.WellFormedSteps.{reached_stepping, size_either}
 use Rattle.sci_policy.specs.{Lines.{state_on}, Policy.{PolicyOf, turned}}
 use Rattle.sci_turn.proofs.Working.{stepped}
 use Rattle.sci_fair.specs.{Lanes.{AreOpen}, Later.{AreWorked}, Reads.{ReadsFit}, Steady.{IsTurnAlone, Working, WorksByTurns}}
-use Rattle.sci_fair.proofs.{AnswersGo.{between_last}, Opens.{turn_open}, ReadCarries.{changed_by, issued_cache}, ReadSteps.{changed_out, performed_out, turn_reads}}
-use Rattle.sci_fair.proofs.{Few.{size_of_step}, Steadied.{Change, GoesBy}, SteadyTurns.{HeldBy, alone_works, does_works}, Trace.{Does, trace}, Works.{work_good}}
+use Rattle.sci_fair.proofs.{Opens.{turn_open}, ReadCarries.{changed_by, issued_cache}, ReadSteps.{changed_out, performed_out, turn_reads}}
+use Rattle.sci_fair.proofs.{Few.{size_of_step}, Steadied.{Change, GoesBy}, SteadyTurns.{HeldBy, alone_works, does_works}, Trace.{Does, trace}}
+use Rattle.sci_fair.proofs.Works.{work_good}
 use Rattle.sci_words.specs.declared.event.Event.TheVariants as event
 
 -- ---- a turn

@@ -110,7 +110,8 @@ plain_front front letter rest (b ∷ before) after is opened changes cread =
 -- ---- the node's own turn
 
 -- while its request is in a lane, no answer is accepted
-pub still_awaits : {K : Change} (n line to : ℕ) (old new : Working) (letter : Letter) → WorksByTurns old.core → (held : HeldBy K n old new) → n < old.core.size.nodes
+pub still_awaits : {K : Change} (n line to : ℕ) (old new : Working) (letter : Letter) → WorksByTurns old.core → (held : HeldBy K n old new)
+    → n < old.core.size.nodes
     → line < old.core.size.lines → to < old.core.size.nodes → Awaits n line old.core → is_about n line letter ≡ true
     → IsAmong letter (lane_of old.core Requests n to) → Awaits n line held.trace.c1
 still_awaits {K = K} n line to old new letter good held some inside t awaits about among =
@@ -149,7 +150,8 @@ record AwaitsOn {K : Change} (i n line : ℕ) (old new : Working) (held : HeldBy
   taken : Awaits n line held.trace.c2
   ended : Awaits n line new.core
 
-own_awaits : {K : Change} (n i line to : ℕ) (old new : Working) (letter : Letter) → WorksByTurns old.core → (held : HeldBy K i old new) → n < old.core.size.nodes
+own_awaits : {K : Change} (n i line to : ℕ) (old new : Working) (letter : Letter) → WorksByTurns old.core → (held : HeldBy K i old new)
+    → n < old.core.size.nodes
     → line < old.core.size.lines → to < old.core.size.nodes → Awaits n line old.core → is_about n line letter ≡ true
     → IsAmong letter (lane_of old.core Requests n to) → n ≡ i → AwaitsOn i n line old new held
 own_awaits {K = K} n i line to old new letter good held some inside t awaits about among same =
@@ -176,7 +178,8 @@ awaits_on i n line to old new letter good held some inside t awaits about among 
   }
 ]
 
-pub free_taken : {K : Change} (i : ℕ) (old new : Working) → WorksByTurns old.core → (held : HeldBy K i old new) → (m : ℕ) → (node_at held.trace.c2 m).waiting ≡ None
+pub free_taken : {K : Change} (i : ℕ) (old new : Working) → WorksByTurns old.core → (held : HeldBy K i old new) → (m : ℕ)
+    → (node_at held.trace.c2 m).waiting ≡ None
 free_taken i old new good held m = elim (cases_eq m i) [
   | inl same ↦ subst (λ (k : ℕ). (node_at held.trace.c2 k).waiting ≡ None) (sym same) held.trace.taken.free
   | inr other ↦ ap (λ (part : NodeOf). part.waiting) (held.trace.taken.so.since.others m other) ∙ good.between.free m
@@ -214,7 +217,8 @@ gained_by {K = K} h n b old new held some t =
           ([], keeps.0 other ∙ sym (append-nil (lane_of held.trace.c2 Requests n b)))
     ]
 
-gone_answered : {K : Change} (h n line k : ℕ) (old new : Working) → WorksByTurns old.core → (held : HeldBy K h old new) → h < old.core.size.nodes → n < old.core.size.nodes
+gone_answered : {K : Change} (h n line k : ℕ) (old new : Working) → WorksByTurns old.core → (held : HeldBy K h old new) → h < old.core.size.nodes
+    → n < old.core.size.nodes
     → line < old.core.size.lines → h ≡ line % old.core.size.nodes → (asked : AskedAt n h line k old.core) → Awaits n line held.trace.c2 → (gone : List Letter)
     → asked.after ≡ gone ++ lane_of held.trace.c2 Requests n h → AnsweredAt n line new.core
 gone_answered {K = K} h n line k old new good held server some inside home asked awaits gone is =
@@ -241,7 +245,8 @@ gone_answered {K = K} h n line k old new good held server some inside home asked
           }
     ]
 
-pub server_turn : {K : Change} (h n line k : ℕ) (old new : Working) → WorksByTurns old.core → (held : HeldBy K h old new) → h < old.core.size.nodes → n < old.core.size.nodes
+pub server_turn : {K : Change} (h n line k : ℕ) (old new : Working) → WorksByTurns old.core → (held : HeldBy K h old new) → h < old.core.size.nodes
+    → n < old.core.size.nodes
     → line < old.core.size.lines → h ≡ line % old.core.size.nodes → AskedAt n h line k old.core → Awaits n line held.trace.c2
     → AnsweredAt n line new.core ⊎ ((less : ℕ) × (less < k) × AskedAt n h line less new.core)
 server_turn h n line k old new good held server some inside home asked awaits =
@@ -280,7 +285,8 @@ server_turn h n line k old new good held server some inside home asked awaits =
 
 -- ---- other nodes' turns
 
-pub lane_kept : {K : Change} (i n h : ℕ) (old new : Working) (held : HeldBy K i old new) → i < old.core.size.nodes → n < old.core.size.nodes → h < old.core.size.nodes → i ≢ h
+pub lane_kept : {K : Change} (i n h : ℕ) (old new : Working) (held : HeldBy K i old new) → i < old.core.size.nodes → n < old.core.size.nodes
+    → h < old.core.size.nodes → i ≢ h
     → HasGained (lane_of old.core Requests n h) (lane_of new.core Requests n h)
 lane_kept i n h old new held here some t other = elim (cases_eq n i) [
   | inl same ↦
@@ -292,7 +298,8 @@ lane_kept i n h old new held here some t other = elim (cases_eq n i) [
 ]
 
 -- what a turn leaves of a line that has asked its home
-pub asked_turn : {K : Change} (i n line k : ℕ) (old new : Working) → WorksByTurns old.core → (held : HeldBy K i old new) → i < old.core.size.nodes → n < old.core.size.nodes
+pub asked_turn : {K : Change} (i n line k : ℕ) (old new : Working) → WorksByTurns old.core → (held : HeldBy K i old new) → i < old.core.size.nodes
+    → n < old.core.size.nodes
     → line < old.core.size.lines → line % old.core.size.nodes < old.core.size.nodes → Awaits n line old.core
     → AskedAt n (line % old.core.size.nodes) line k old.core
     → Awaits n line new.core × (AnsweredAt n line new.core

@@ -33,7 +33,8 @@ use Rattle.sci_fair.proofs.{Comers.{coming_is, coming_links, leading_links}, Joi
 use Rattle.sci_fair.proofs.LaneTurns.{among_gained, among_tail, asks_keep, take_answers}
 use Rattle.sci_fair.proofs.{Promised.{never_on}, ReadSteps.{refuses_cread, refuses_it, replied_sent}}
 use Rattle.sci_fair.proofs.Requests.{LetterTaken, request_taken, size_along, stands_in}
-use Rattle.sci_fair.proofs.{Retries.{never_once}, StateSteps.{reply_one, serve_one, size_kept}, Steadied.{IsSame, IsSteady, Steadily}, Trace.{AreAll, is_taking}}
+use Rattle.sci_fair.proofs.{Retries.{never_once}, StateSteps.{reply_one, serve_one, size_kept}, Steadied.{IsSame, IsSteady, Steadily}}
+use Rattle.sci_fair.proofs.Trace.{AreAll, is_taking}
 use Rattle.sci_fair.proofs.{Whereabouts.{in_lane, lane_packets}, WholeTurns.{request_alone, sole}}
 use Rattle.sci_home.specs.declared.state.HomeState.TheVariants as at
 use Rattle.sci_packets.specs.declared.body.Body.TheVariants as body

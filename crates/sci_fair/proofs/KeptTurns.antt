@@ -1,26 +1,23 @@
 -- What becomes of a line in a turn of its node in which a Cread for it is kept, whatever the turn changes: if it leads a list of its own it
 -- still does, and if it leads nobody its Cread isn't kept.
-use Rattle.std.proofs.Common.{◌≡◌, ◌≢◌, ◌≤◌, ◌<◌, ◌+◌, ◌-◌, ◌%◌, ◌⊎◌, if◌then◌else◌, ℕ, zero, suc, Bool, true, false, arith, List, [], ◌∷◌, ◌++◌, Option, refl, sym, ap, subst, ◌∙◌, inl, inr, rules}
-use Rattle.std.proofs.lemmas.Bool.{cases_Bool, cases_eq}
-use Rattle.sci_words.specs.declared.event.Event.{Event}
+use Rattle.std.proofs.Common.{◌≡◌, ◌<◌, if◌then◌else◌, ℕ, Bool, true, false, ◌∷◌, Option, sym, ap, subst, ◌∙◌, inl, inr, rules}
+use Rattle.std.proofs.lemmas.Bool.{cases_Bool}
 use Rattle.sci_packets.specs.declared.body.Body.TheVariants.{Cread}
 use Rattle.sci_cache.specs.{State.{CacheState, waits}, Cache.{Letter}}
-use Rattle.sci_core.specs.declared.lane.LaneKind.TheVariants.{Answers, Requests}
-use Rattle.sci_core.specs.{Core.{Core, lane_of, node_at}, Node.{NodeOf}, Size.{Size}}
-use Rattle.sci_history.specs.Seen.{IsAmong}
-use Rattle.sci_policy.specs.{Lines.{state_on}, Policy.{PolicyOf, awaits_home, decided, kept_by, refused_by, turned}}
-use Rattle.sci_policy.specs.declared.decision.Decision.{Decision}
-use Rattle.sci_fair.specs.{Later.{AreWorked, IsTurnAmong}, Rank.{CannotPerform, can_perform, work_on}, Steady.{AreTurns, HasWindows, IsTurnAlone, Working, WorksByTurns}}
-use Rattle.sci_fair.proofs.Awaiting.{Awaits, IsSettledAt, accepted_idle, awaiting_waits, is_open_head, is_settled, settle_all}
-use Rattle.sci_fair.proofs.{Descents.{ComesBy, Falls, Less, Stays, descend, falls_as, windows_fewer}, Fronts.{opens_serve}}
-use Rattle.sci_fair.proofs.{Going.{Whatever, WorkedOn, turn_going, works_on}, HomeAnswers.{AnsweredAt, AskedAt}}
-use Rattle.sci_fair.proofs.Leaders.{IsServedWell, Passes, accepts_pass, asks_none, asks_pass, awaits_works, goes_home, home_accepts, home_left, is_left, is_lone, kept_lone}
-use Rattle.sci_fair.proofs.Leaders.{kept_may, kept_owned, kept_settled, left_served, lone_accepts, lone_makes, lone_owns, lone_performs, lone_served, lone_works}
-use Rattle.sci_fair.proofs.Leaders.{may_keep, owned, owned_accepts, owned_served, owns, owns_asks, owns_owned, owns_served, owns_works, returning_goes}
+use Rattle.sci_core.specs.declared.lane.LaneKind.TheVariants.{Requests}
+use Rattle.sci_core.specs.{Core.{Core, lane_of, node_at}, Size.{Size}}
+use Rattle.sci_policy.specs.{Lines.{state_on}, Policy.{decided, kept_by, refused_by, turned}}
+use Rattle.sci_fair.specs.{Rank.{CannotPerform, can_perform, work_on}, Steady.{Working}}
+use Rattle.sci_fair.proofs.Awaiting.{Awaits, accepted_idle, awaiting_waits, is_open_head, is_settled, settle_all}
+use Rattle.sci_fair.proofs.{Fronts.{opens_serve}}
+use Rattle.sci_fair.proofs.{Going.{Whatever}, HomeAnswers.{AnsweredAt}}
+use Rattle.sci_fair.proofs.Leaders.{IsServedWell, Passes, accepts_pass, asks_none, asks_pass, goes_home, home_accepts, home_left, is_left, is_lone, kept_lone}
+use Rattle.sci_fair.proofs.Leaders.{kept_may, kept_owned, kept_settled, left_served, lone_accepts, lone_makes, lone_performs, lone_served}
+use Rattle.sci_fair.proofs.Leaders.{may_keep, owned, owned_accepts, owned_served, owns, owns_asks, owns_owned, owns_served, returning_goes}
 use Rattle.sci_fair.proofs.Leaders.{settled_served, takes_pass, works_stay}
-use Rattle.sci_fair.proofs.Standing.{Asked_home, AwaitsWord, FrontTaken, Has_answer, StandsAt, asks_home, counts_turn, front_inside, kept_there, lets_go, own_front}
-use Rattle.sci_fair.proofs.Standing.{stands_kept, stands_own, within, word_below, word_of, word_other, word_own}
-use Rattle.sci_fair.proofs.{SteadyTurns.{HeldBy}, Trace.{Look, Trace}, Vain.{first_need, one_more}}
+use Rattle.sci_fair.proofs.Standing.{StandsAt, front_inside, kept_there}
+use Rattle.sci_fair.proofs.Standing.{within}
+use Rattle.sci_fair.proofs.{SteadyTurns.{HeldBy}, Trace.{Look, Trace}}
 use Rattle.sci_policy.specs.declared.decision.Decision.TheVariants as decision
 
 -- ---- what becomes of the line in a turn of its node in which the front is kept
@@ -29,7 +26,8 @@ kept_keep : (k r : Bool) → k ≡ true → (if k then decision.Keep else if r t
 kept_keep k r is = search rules
 
 -- what leads nobody can be performed, or would serve a Cread, by what is pending alone
-same_lone : (test : Option Bool → CacheState → Bool) → ((work : Option Bool) (s t : CacheState) → is_lone s ≡ true → is_lone t ≡ true → test work s ≡ test work t)
+same_lone : (test : Option Bool → CacheState → Bool) → ((work : Option Bool) (s t : CacheState) → is_lone s ≡ true → is_lone t ≡ true
+    → test work s ≡ test work t)
     → (one two : Option Bool) (s t : CacheState) → is_lone s ≡ true → is_lone t ≡ true → two ≡ one → test one s ≡ true → test two t ≡ true
 same_lone test same one two s t here there work is =
     ap (λ (w : Option Bool). test w t) work ∙ (sym (same one s t here there) ∙ is)
@@ -135,7 +133,8 @@ module _ (size : Size) (n j : ℕ) (some : n < size.nodes) (f : j < size.nodes) 
     pub lone_turn : On owns old.core → Awaits n front.line old.core → AnsweredAt n front.line old.core → On is_lone new.core
     lone_turn own awaits answered =
         let begun = returning_goes (state_on (node_at old.core n) front.line) awaits own in
-        let first = accepts_pass Whatever goes_home n home_accepts front.line (turned (old.policies n)) old.core t.e1 t.p1 t.c1 t.are_accepts held.accepts begun in
+        let first = accepts_pass Whatever goes_home n home_accepts front.line (turned
+        (old.policies n)) old.core t.e1 t.p1 t.c1 t.are_accepts held.accepts begun in
         let left = home_left (state_on (node_at t.c1 n) front.line) first (idle answered) in
         let here = kept_lone (state_on (node_at look.c n) front.line) (to_look is_left left_served left) may in
         let can = lone_makes (work_on (node_at look.c n) front.line) (state_on (node_at look.c n) front.line) here closed in

@@ -98,7 +98,8 @@ no_two core n to line one two before after reached some t inside lane first seco
 
 -- ---- requests are taken
 
-pub lost_all : (K : Change) (n : ℕ) (p : PolicyOf) (x : Core) (events : List Event) (q : PolicyOf) (y : Core) (j : ℕ) → AreAll is_taking events → GoesBy K n p x events q y
+pub lost_all : (K : Change) (n : ℕ) (p : PolicyOf) (x : Core) (events : List Event) (q : PolicyOf) (y : Core) (j : ℕ) → AreAll is_taking events
+    → GoesBy K n p x events q y
     → j < x.size.nodes → IsTaken x y j n
 lost_all K n p x [] q y j kinds steady f = ([], ap (λ (c : Core). lane_of c Requests j n) steady.1)
 lost_all K n p x (e ∷ events) q y j kinds steady f =
@@ -109,7 +110,8 @@ lost_all K n p x (e ∷ events) q y j kinds steady f =
     (first.0 ++ second.0, first.1 ∙ (ap (λ (l : List Letter). first.0 ++ l) second.1 ∙ sym (append_assoc first.0 second.0 (lane_of y Requests j n))))
 
 -- an event that takes requests leaves a lane, or takes its front
-pub take_one : {K : Change} (n j : ℕ) (p : PolicyOf) (x : Core) (q : PolicyOf) (y : Core) (e : Event) (front : Letter) (rest : List Letter) → IsGoing K n p x e q y
+pub take_one : {K : Change} (n j : ℕ) (p : PolicyOf) (x : Core) (q : PolicyOf) (y : Core) (e : Event) (front : Letter) (rest : List Letter)
+    → IsGoing K n p x e q y
     → is_taking e ≡ true → j < x.size.nodes → lane_of x Requests j n ≡ front ∷ rest
     → (lane_of y Requests j n ≡ front ∷ rest) ⊎ (((e ≡ event.Serve j n) ⊎ (e ≡ event.Refuse j n)) × (lane_of y Requests j n ≡ rest))
 take_one n j p x q y (event.Serve from i) front rest st kind f lane =
@@ -143,7 +145,8 @@ take_one n j p x q y (event.Issue i op) front rest st kind f lane = cc
 take_one n j p x q y (event.Perform i line) front rest st kind f lane = cc
 
 -- the front is kept; or it is taken, and perhaps more behind it
-pub data FrontAt {K : Change} (n j : ℕ) (old new : Working) (held : HeldBy K n old new) (f : j < old.core.size.nodes) (front : Letter) (rest : List Letter) : Type 0 where
+pub data FrontAt {K : Change} (n j : ℕ) (old new : Working) (held : HeldBy K n old new) (f : j < old.core.size.nodes) (front : Letter)
+    (rest : List Letter) : Type 0 where
   Is_kept : decided (held.trace.looks j f).p (node_at (held.trace.looks j f).c n) front ≡ decision.Keep → FrontAt n j old new held f front rest
   Is_taken : (more : List Letter) → rest ≡ more ++ lane_of held.trace.c2 Requests j n → (q : PolicyOf) (next : Core) (e : Event)
       → decided_event (decided (held.trace.looks j f).p (node_at (held.trace.looks j f).c n) front) j n ≡ Some e
@@ -212,7 +215,8 @@ gained_none lane = ([], sym (append-nil lane))
 gained_then : (a b c : List Letter) → HasGained a b → HasGained b c → HasGained a c
 gained_then a b c one two = (one.0 ++ two.0, two.1 ∙ (ap (λ (l : List Letter). l ++ two.0) one.1 ∙ append_assoc a one.0 two.0))
 
-ask_gains : {K : Change} (n : ℕ) (p : PolicyOf) (x : Core) (q : PolicyOf) (y : Core) (b : ℕ) (e : Event) → IsGoing K n p x e q y → is_ask e ≡ true → b < x.size.nodes
+ask_gains : {K : Change} (n : ℕ) (p : PolicyOf) (x : Core) (q : PolicyOf) (y : Core) (b : ℕ) (e : Event) → IsGoing K n p x e q y → is_ask e ≡ true
+    → b < x.size.nodes
     → HasGained (lane_of x Requests n b) (lane_of y Requests n b)
 ask_gains n p x q y b (event.Ask i line k) st kind f =
     let one = ask_one n p x q y i line k st in
@@ -228,7 +232,8 @@ ask_gains n p x q y b (event.Reply i) st kind f = cc
 ask_gains n p x q y b (event.Issue i op) st kind f = cc
 ask_gains n p x q y b (event.Perform i line) st kind f = cc
 
-pub gains_all : (K : Change) (n : ℕ) (p : PolicyOf) (x : Core) (events : List Event) (q : PolicyOf) (y : Core) (b : ℕ) → AreAll is_ask events → GoesBy K n p x events q y
+pub gains_all : (K : Change) (n : ℕ) (p : PolicyOf) (x : Core) (events : List Event) (q : PolicyOf) (y : Core) (b : ℕ) → AreAll is_ask events
+    → GoesBy K n p x events q y
     → b < x.size.nodes → HasGained (lane_of x Requests n b) (lane_of y Requests n b)
 gains_all K n p x [] q y b kinds steady f =
     subst (λ (c : Core). HasGained (lane_of x Requests n b) (lane_of c Requests n b)) steady.1 (gained_none (lane_of x Requests n b))
@@ -257,7 +262,8 @@ ask_keeps n p x q y a b (event.Reply i) st kind f t = cc
 ask_keeps n p x q y a b (event.Issue i op) st kind f t = cc
 ask_keeps n p x q y a b (event.Perform i line) st kind f t = cc
 
-pub asks_keep : (K : Change) (n : ℕ) (p : PolicyOf) (x : Core) (events : List Event) (q : PolicyOf) (y : Core) (a b : ℕ) → AreAll is_ask events → GoesBy K n p x events q y
+pub asks_keep : (K : Change) (n : ℕ) (p : PolicyOf) (x : Core) (events : List Event) (q : PolicyOf) (y : Core) (a b : ℕ) → AreAll is_ask events
+    → GoesBy K n p x events q y
     → a < x.size.nodes → b < x.size.nodes → (a ≢ n → lane_of y Requests a b ≡ lane_of x Requests a b) × (lane_of y Answers a b ≡ lane_of x Answers a b)
 asks_keep K n p x [] q y a b kinds steady f t =
     (λ other. ap (λ (c : Core). lane_of c Requests a b) (sym steady.1), ap (λ (c : Core). lane_of c Answers a b) (sym steady.1))

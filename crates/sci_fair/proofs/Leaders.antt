@@ -1,23 +1,25 @@
 -- What becomes of a line in a turn of its node that keeps a Cread for it: a line that leads a list of its own goes on to lead it, or is
 -- left for good. So it awaits its home once more at most.
-use Rattle.std.proofs.Common.{◌≡◌, ◌≢◌, ◌<◌, ◌==◌, ◌&&◌, ◌||◌, ℕ, Bool, true, false, not, List, [], ◌∷◌, ◌++◌, Option, Some, None, refl, sym, ap, subst, ◌∙◌, ◌⊎◌, inl, inr, rules}
-use Rattle.std.proofs.lemmas.Bool.{cases_Bool, cases_eq}
+use Rattle.std.proofs.Common.{◌≡◌, ◌≢◌, ◌<◌, ◌==◌, ◌&&◌, ◌||◌, ℕ, Bool, true, false, not, List, [], ◌∷◌, Option, Some, None, refl, sym, ap, subst, ◌∙◌, inl}
+use Rattle.std.proofs.Common.{inr, rules}
+use Rattle.std.proofs.lemmas.Bool.{cases_Bool}
 use Rattle.std.specs.Prelude.{IfSome}
 use Rattle.sci_history.specs.Seen.{IsAmong}
-use Rattle.sci_words.specs.declared.{event.{AskKind.{AskKind}, Event.{Event}}, operation.Op.{Op}}
+use Rattle.sci_words.specs.declared.{event.{AskKind.{AskKind}, Event.{Event}}}
 use Rattle.sci_packets.specs.declared.body.Body.{Body, TheVariants.{Cread}}
 use Rattle.sci_cache.specs.State.{CacheState, Head, Out, Purging, Returning, waits}
-use Rattle.sci_cache.specs.{Accepting.{accepting}, Asking.{Asked, asking}, Serving.{serving}, Performing.{Performed, performing}}
+use Rattle.sci_cache.specs.{Accepting.{accepting}, Asking.{Asked, asking}, Serving.{serving}}
 use Rattle.sci_cache.specs.{Cache.{CacheOf, Letter, line_of, with_line}, Line.{LineState, line_asked, line_in, untouched}}
 use Rattle.sci_core.specs.declared.lane.LaneKind.TheVariants.{Requests}
 use Rattle.sci_core.specs.{Core.{Core, lane_of, node_at}, Node.{NodeOf, node_asking, node_refusing, node_serving}, Size.{Size}}
 use Rattle.sci_core.proofs.{Basics.{Lists.{at_place_set}, Options.{of_some}}}
 use Rattle.sci_core.proofs.Step.NodeSides.{At_home, In_cache, RefusedAs, ServedAs, refuse_as, serve_as}
 use Rattle.sci_policy.specs.{Lines.{can_drain, has_maker, is_head, state_on}, Policy.{PolicyOf, awaits_home, has, is_busy_now, is_cread, kept_by}}
-use Rattle.sci_policy.specs.{declared.want.Want.{TheVariants.{Ask}}, Turn.{is_accept, is_ask, is_service}}
+use Rattle.sci_policy.specs.{Turn.{is_accept, is_ask, is_service}}
 use Rattle.sci_fair.specs.Rank.{can_perform, work_in, work_on}
 use Rattle.sci_fair.proofs.Awaiting.{is_open_head, is_settled}
-use Rattle.sci_fair.proofs.{Creads.{one_asks}, Going.{IsLeftBy}, LaneTurns.{lost_all, take_one}, RankSteps.{event_kept}, ReadCarries.{AsksAs, ask_as}, Standing.{never_longer}}
+use Rattle.sci_fair.proofs.{Creads.{one_asks}, Going.{IsLeftBy}, LaneTurns.{lost_all, take_one}, RankSteps.{event_kept}, ReadCarries.{AsksAs, ask_as}}
+use Rattle.sci_fair.proofs.Standing.{never_longer}
 use Rattle.sci_fair.proofs.{StateSteps.{By_accept, By_ask, By_serve, StateStep, Stays, ask_one, refuse_one, serve_one, size_kept, state_step}}
 use Rattle.sci_fair.proofs.{Steadied.{Change, GoesBy, IsGoing}, Suits.{wanted_suits}, Trace.{AreAll, is_taking}}
 use Rattle.sci_words.specs.declared.event.Event.TheVariants as event
@@ -210,7 +212,8 @@ module _ (test : CacheState → Bool) (well : IsServedWell test) (n j : ℕ) (fr
 
   -- an event by which requests are taken, and which leaves the Cread in its lane
   take_kept : {K : Change} (p : PolicyOf) (x : Core) (q : PolicyOf) (y : Core) (e : Event) (rest : List Letter) → IsGoing K n p x e q y → is_taking e ≡ true
-      → j < x.size.nodes → lane_of x Requests j n ≡ front ∷ rest → lane_of y Requests j n ≡ front ∷ rest → Passes test n front.line x → Passes test n front.line y
+      → j < x.size.nodes → lane_of x Requests j n ≡ front ∷ rest → lane_of y Requests j n ≡ front ∷ rest → Passes test n front.line x
+      → Passes test n front.line y
   take_kept p x q y (event.Serve from i) rest st kind f lane still is =
       let node = node_at x n in
       let one = serve_one n p x q y from i st in
@@ -314,10 +317,10 @@ asks_none K n line p x (event.Ask i at k ∷ events) q y kinds goes is can =
     let mid = goes.1 in
     let st = goes.2 in
     let apart : line ≢ at = λ same. (
-        let suit = wanted_suits p n node at k (record { core = x; reached = st.reached; some = st.some; here = refl }) st.own.decides.0 in
-        let clash : true ≡ false = sym can ∙ (ap (λ (l : ℕ). can_perform (work_on node l) (state_on node l)) same ∙ suit.idle) in
-        cc
-        ) in
+    let suit = wanted_suits p n node at k (record { core = x; reached = st.reached; some = st.some; here = refl }) st.own.decides.0 in
+    let clash : true ≡ false = sym can ∙ (ap (λ (l : ℕ). can_perform (work_on node l) (state_on node l)) same ∙ suit.idle) in
+    cc
+    ) in
     let state : state_on (node_at mid n) line ≡ state_on node line = ask_apart K n p x i at k goes.0 mid line st apart in
     let work : work_on (node_at mid n) line ≡ work_on node line = ap work_in ((event_kept x mid n p goes.0 (event.Ask i at k) st.reached st.fit st.some st.own
     st.steps).work line) in

@@ -1,20 +1,20 @@
 -- Whatever is issued and performed between turns, the front of each lane of requests is taken before many windows have passed.
-use Rattle.std.proofs.Common.{◌≡◌, ◌≢◌, ◌≤◌, ◌<◌, ◌+◌, ◌-◌, ◌%◌, ◌⊎◌, ℕ, zero, suc, Bool, true, arith, List, refl, sym, ap, subst, ◌∙◌, inl, inr}
+use Rattle.std.proofs.Common.{◌≡◌, ◌≢◌, ◌<◌, ◌+◌, ◌-◌, ◌%◌, ◌⊎◌, ℕ, zero, suc, Bool, true, arith, List, refl, sym, ap, subst, ◌∙◌, inl, inr}
 use Rattle.std.proofs.lemmas.Bool.{cases_eq}
 use Rattle.sci_words.specs.declared.event.Event.{Event}
 use Rattle.sci_packets.specs.declared.body.Body.TheVariants.{Cread}
 use Rattle.sci_cache.specs.{State.{CacheState}, Cache.{Letter}}
 use Rattle.sci_core.specs.declared.lane.LaneKind.TheVariants.{Answers, Requests}
-use Rattle.sci_core.specs.{Core.{Core, lane_of, node_at}, Node.{NodeOf}, Size.{Size}}
+use Rattle.sci_core.specs.{Core.{node_at}, Node.{NodeOf}, Size.{Size}}
 use Rattle.sci_history.specs.Seen.{IsAmong}
 use Rattle.sci_policy.specs.{Lines.{state_on}, Policy.{PolicyOf, awaits_home, turned}}
-use Rattle.sci_fair.specs.{Later.{AreWorked, IsTurnAmong}, Rank.{CannotPerform}, Steady.{AreTurns, HasWindows, IsTurnAlone, Working, WorksByTurns}}
-use Rattle.sci_fair.proofs.{Awaiting.{Awaits}, Descents.{ComesBy, Falls, Less, Stays, descend, falls_as, windows_fewer}}
-use Rattle.sci_fair.proofs.{Going.{Whatever, WorkedOn, turn_going, works_on}, HomeAnswers.{AnsweredAt, AskedAt}}
+use Rattle.sci_fair.specs.{Later.{AreWorked, IsTurnAmong}, Rank.{CannotPerform}, Steady.{IsTurnAlone, Working, WorksByTurns}}
+use Rattle.sci_fair.proofs.{Descents.{Falls, Less, Stays, falls_as}}
+use Rattle.sci_fair.proofs.{Going.{Whatever, WorkedOn, turn_going, works_on}}
 use Rattle.sci_fair.proofs.KeptTurns.{IsKeptIn, lone_never, lone_turn, owned_turn, settled_turn}
 use Rattle.sci_fair.proofs.Leaders.{Passes, awaits_works, is_lone, lone_works, owns, owns_works}
 use Rattle.sci_fair.proofs.Standing.{Asked_home, AwaitsWord, FrontTaken, Has_answer, StandsAt, asks_home, counts_turn, lets_go, own_front}
-use Rattle.sci_fair.proofs.Standing.{stands_kept, stands_own, within, word_below, word_of, word_other, word_own}
+use Rattle.sci_fair.proofs.Standing.{stands_kept, stands_own, word_below, word_of, word_other, word_own}
 use Rattle.sci_fair.proofs.{SteadyTurns.{HeldBy}, Vain.{first_need, one_more}}
 
 -- ---- a turn, and what is issued and performed before it

@@ -1,5 +1,5 @@
 -- In turns each request is taken before many windows have passed: the front of its lane is, and then it stands nearer.
-use Rattle.std.proofs.Common.{◌≡◌, ◌≤◌, ◌<◌, ◌+◌, ◌-◌, ◌*◌, ◌%◌, ◌⊎◌, ℕ, zero, suc, true, arith, List, [], ◌∷◌, ◌++◌, length}
+use Rattle.std.proofs.Common.{◌≡◌, ◌≤◌, ◌<◌, ◌+◌, ◌*◌, ◌⊎◌, ℕ, suc, true, arith, List, [], ◌∷◌, ◌++◌, length}
 use Rattle.std.proofs.Common.{refl, sym, ap, subst, ◌∙◌, inl, inr}
 use Rattle.std.proofs.lemmas.{Bool.{cases_eq}, List.{append_assoc, length-append}}
 use Rattle.std.proofs.Math.Nat.{mul-le-mul_right, suc-mul}
@@ -135,7 +135,8 @@ module _ (K : Change) (to n : ℕ) (letter : Letter) (after : List Letter) where
       ]
 
 -- where its server has taken requests in its turn: it stands there still, with the same behind it, or was taken
-server_letter : {K : Change} (i n to k : ℕ) (old new : Working) (letter : Letter) (after : List Letter) → (held : HeldBy K i old new) → i ≡ to → i < old.core.size.nodes
+server_letter : {K : Change} (i n to k : ℕ) (old new : Working) (letter : Letter) (after : List Letter) → (held : HeldBy K i old new) → i ≡ to
+    → i < old.core.size.nodes
     → n < old.core.size.nodes → StandsIn old.core n to letter k after → StandsIn held.trace.c2 n to letter k after
     ⊎ TookLetter K to n letter held.trace.p1 held.trace.c1 held.trace.p2 held.trace.c2
 server_letter {K = K} i n to k old new letter after held same here some at =
@@ -171,7 +172,8 @@ abbrev pub LetterTaken : ℕ → ℕ → Letter → ℕ → Working → Working 
 LetterTaken = LetterTakenBy IsSame
 
 -- through a turn of node i: it stands there still, or was taken
-pub letter_turn : {K : Change} (i n to k : ℕ) (old new : Working) (letter : Letter) → WorksByTurns old.core → (held : HeldBy K i old new) → i < old.core.size.nodes
+pub letter_turn : {K : Change} (i n to k : ℕ) (old new : Working) (letter : Letter) → WorksByTurns old.core → (held : HeldBy K i old new)
+    → i < old.core.size.nodes
     → n < old.core.size.nodes → to < old.core.size.nodes → Stands_on old.core n to letter k
     → Stands_on new.core n to letter k ⊎ LetterTakenBy K n to letter i old new
 letter_turn i n to k old new letter good held here some t at = elim (cases_eq i to) [
@@ -319,7 +321,8 @@ module _ (K : Change) (IsTurn : ℕ → Working → Working → Type 0) (parts :
             took = took;
           }))
           | inl still ↦
-              let nearer = fewer_before near.front letter front.rest stood.at.before stood.after front.took.more (lane_of held.trace.c2 Requests n to) still.before
+              let nearer = fewer_before near.front letter front.rest stood.at.before stood.after front.took.more
+              (lane_of held.trace.c2 Requests n to) still.before
               (sym front.lane ∙ stood.at.lane) front.took.left still.lane in
               let few = stood.at.few in
               let gained = gained_by i n to begun new held n0 t0 in
@@ -372,7 +375,8 @@ module _ (K : Change) (IsTurn : ℕ → Working → Working → Type 0) (parts :
         elim (steps size to n t some near.front near.k h i old new good turn near.measure) [
           | inl took ↦ front_gone total h i old new good turn near is stood took.1
           | inr falls ↦
-              elim (letter_turn i n to near.position begun new letter part.good part.held part.some (subst (λ (z : Size). n < z.nodes) (sym (part.size ∙ is)) some)
+              elim (letter_turn i n to near.position begun new letter part.good part.held part.some (subst (λ (z : Size). n < z.nodes) (sym
+              (part.size ∙ is)) some)
               (subst (λ (z : Size). to < z.nodes) (sym (part.size ∙ is)) t) stood) [
                 | inl still ↦ inr (goes_on total h i old new near still falls)
                 | inr took ↦ inl (done i old new good turn took)

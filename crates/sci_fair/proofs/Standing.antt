@@ -1,24 +1,21 @@
 -- The front of a lane of requests, from turn to turn: the turn of the node that takes it looks at it, and takes or keeps it. In the one turn
 -- in which requests are let go it is kept only if its line awaits its home's word, and that word comes.
-use Rattle.std.proofs.Common.{◌≡◌, ◌≢◌, ◌<◌, ◌+◌, ◌-◌, ◌%◌, ◌⊎◌, ◌&&◌, ◌||◌, ℕ, zero, suc, Bool, true, false, arith}
-use Rattle.std.proofs.Common.{List, [], ◌∷◌, ◌++◌, length, Option, Some, None, refl, sym, ap, subst, ◌∙◌, inl, inr, rules}
-use Rattle.std.proofs.lemmas.{Bool.{cases_eq}, List.{length-append}}
+use Rattle.std.proofs.Common.{◌≡◌, ◌≢◌, ◌<◌, ◌+◌, ◌%◌, ◌⊎◌, ℕ, suc, true, arith}
+use Rattle.std.proofs.Common.{List, [], ◌∷◌, ◌++◌, length, refl, sym, ap, subst, ◌∙◌, inl, inr}
+use Rattle.std.proofs.lemmas.{List.{length-append}}
 use Rattle.std.proofs.Math.Nat.{mod-lt}
 use Rattle.sci_words.specs.declared.event.Event.{Event}
-use Rattle.sci_words.specs.Operation.{is_maker}
 use Rattle.sci_packets.specs.declared.body.Body.{TheVariants.{Cread}}
-use Rattle.sci_cache.specs.{State.{CacheState}, Cache.{Letter}}
-use Rattle.sci_core.specs.declared.{lane.LaneKind.TheVariants.{Requests}, pending.Pending.{Pending}}
-use Rattle.sci_core.specs.{Core.{Core, lane_of, lane_place, node_at}, Node.{NodeOf, pending_on}, Size.{Size}}
-use Rattle.sci_policy.proofs.PolicyLaws.{kept_no, serve_if}
-use Rattle.sci_policy.specs.Lines.{can_drain, has_maker, is_head, is_maker_of, state_on}
-use Rattle.sci_policy.specs.Policy.{PolicyOf, awaits_home, decided, is_busy_now, is_cread, is_held, kept_by, refused_by, turned}
-use Rattle.sci_policy.specs.Turn.{decided_event, is_ask}
+use Rattle.sci_cache.specs.{Cache.{Letter}}
+use Rattle.sci_core.specs.declared.{lane.LaneKind.TheVariants.{Requests}}
+use Rattle.sci_core.specs.{Core.{Core, lane_of, lane_place, node_at}, Size.{Size}}
+use Rattle.sci_policy.specs.Policy.{PolicyOf, kept_by, refused_by, turned}
+use Rattle.sci_policy.specs.Turn.{is_ask}
 use Rattle.sci_policy.proofs.{Deciding.{kept_if}, PolicyLaws.{kept_awaits_home, kept_is_cread}}
-use Rattle.sci_fair.specs.{Rank.{work_in, work_on}, Steady.{AreTurns, HasWindows, IsSteadyTurn, Working}}
+use Rattle.sci_fair.specs.{Steady.{Working}}
 use Rattle.sci_fair.specs.Steady.{WorksByTurns}
-use Rattle.sci_fair.proofs.Awaiting.{Awaits, ask_no_accept, await_all, awaited_opens, is_open_head, open_all, serves_no_cread, taking_no_accept}
-use Rattle.sci_fair.proofs.{Descents.{ComesBy, Falls, Less, Stays, descend, windows_fewer}}
+use Rattle.sci_fair.proofs.Awaiting.{Awaits, ask_no_accept, await_all, taking_no_accept}
+use Rattle.sci_fair.proofs.{Descents.{Falls, Less, Stays}}
 use Rattle.sci_fair.proofs.{HomeAnswers.{AnsweredAt, AskedAt, answered_turn, asked_turn, where_home}}
 use Rattle.sci_fair.proofs.LaneTurns.{Is_kept, Is_taken, front_at}
 use Rattle.sci_turn.specs.Moves.{IsOwn}
@@ -26,11 +23,9 @@ use Rattle.sci_fair.proofs.StateSteps.{size_kept}
 use Rattle.sci_fair.proofs.LaneTurns.{lost_all, take_one}
 use Rattle.sci_history.specs.Seen.{IsAmong}
 use Rattle.sci_core.proofs.Step.Places.{place_requests}
-use Rattle.sci_policy.specs.declared.decision.Decision.{Decision}
 use Rattle.sci_fair.proofs.HomeAnswers.{gained_by, lane_kept}
 use Rattle.sci_fair.proofs.Whereabouts.{in_lane}
-use Rattle.sci_fair.proofs.{Steadied.{Change, GoesBy, IsGoing}, SteadyTurns.{HeldBy}, Trace.{AreAll, is_taking}, Vain.{first_need, next_turns, one_more}}
-use Rattle.sci_policy.specs.declared.decision.Decision.TheVariants as decision
+use Rattle.sci_fair.proofs.{Steadied.{Change, GoesBy, IsGoing}, SteadyTurns.{HeldBy}, Trace.{AreAll, is_taking}, Vain.{next_turns}}
 use Rattle.sci_words.specs.declared.event.Event.TheVariants as event
 
 -- ---- the turns that a policy has counted
@@ -137,7 +132,8 @@ module _ (size : Size) (n j : ℕ) (some : n < size.nodes) (f : j < size.nodes) 
         lane = gained.1 ∙ ap (λ (l : List Letter). l ++ gained.0) at.lane;
       }
 
-  pub stands_own : {K : Change} (old new : Working) → (held : HeldBy K n old new) → (at : StandsAt size n j front old) → lane_of held.trace.c2 Requests j n ≡ front ∷ at.rest
+  pub stands_own : {K : Change} (old new : Working) → (held : HeldBy K n old new) → (at : StandsAt size n j front old)
+      → lane_of held.trace.c2 Requests j n ≡ front ∷ at.rest
       → StandsAt size n j front new
   stands_own old new held at lane =
       let gained = gained_by n j n old new held (within j old.core at.size_is f) (within n old.core at.size_is some) in
@@ -162,7 +158,8 @@ module _ (size : Size) (n j : ℕ) (some : n < size.nodes) (f : j < size.nodes) 
         | inr took ↦ inr (record { server = refl; good = at.good; held = held; rest = at.rest; lane = at.lane; took = took })
       ]
 
-  pub kept_there : {K : Change} (old new : Working) → (held : HeldBy K n old new) → (at : StandsAt size n j front old) → lane_of held.trace.c2 Requests j n ≡ front ∷ at.rest
+  pub kept_there : {K : Change} (old new : Working) → (held : HeldBy K n old new) → (at : StandsAt size n j front old)
+      → lane_of held.trace.c2 Requests j n ≡ front ∷ at.rest
       → (g : j < old.core.size.nodes) → kept_by (held.trace.looks j g).p (node_at (held.trace.looks j g).c n) front ≡ true
   kept_there old new held at same g = elim (front_at n j old new held g front at.rest at.good (within n old.core at.size_is some) at.lane) [
     | Is_kept keep ↦ kept_if (kept_by (held.trace.looks j g).p (node_at (held.trace.looks j g).c n) front)
@@ -184,14 +181,16 @@ module _ (size : Size) (n j : ℕ) (some : n < size.nodes) (f : j < size.nodes) 
         | inr next ↦ ap (λ (r : PolicyOf). r.turns) next ∙ (next_turns t.p3 (node_at new.core n) ∙ all)
       ]
 
-  pub look_turns : {K : Change} (old new : Working) → (held : HeldBy K n old new) → (g : j < old.core.size.nodes) → (held.trace.looks j g).p.turns ≡ (turned (old.policies n)).turns
+  pub look_turns : {K : Change} (old new : Working) → (held : HeldBy K n old new) → (g : j < old.core.size.nodes)
+      → (held.trace.looks j g).p.turns ≡ (turned (old.policies n)).turns
   look_turns {K = K} old new held g =
       let t = held.trace in
       let look = t.looks j g in
       turns_all K n t.p1 t.c1 look.first look.p look.c (held.before j g) ∙ turns_all K n (turned (old.policies n)) old.core t.e1 t.p1 t.c1 held.accepts
 
   -- the turn in which requests are let go: what is kept then is about a line that awaits its home's word
-  pub lets_go : {K : Change} (old new : Working) → (held : HeldBy K n old new) → (at : StandsAt size n j front old) → lane_of held.trace.c2 Requests j n ≡ front ∷ at.rest
+  pub lets_go : {K : Change} (old new : Working) → (held : HeldBy K n old new) → (at : StandsAt size n j front old)
+      → lane_of held.trace.c2 Requests j n ≡ front ∷ at.rest
       → (turned (old.policies n)).turns ≡ 0 → (front.body ≡ Cread) × Awaits n front.line new.core
   lets_go {K = K} old new held at same due =
       let g = within j old.core at.size_is f in
@@ -218,8 +217,10 @@ module _ (size : Size) (n j : ℕ) (some : n < size.nodes) (f : j < size.nodes) 
       ]
 
   -- any turn, while the home is asked
-  home_step : {K : Change} (base i : ℕ) (old new : Working) (k h : ℕ) → (held : HeldBy K i old new) → i < old.core.size.nodes → (at : StandsAt size n j front old)
-      → front.body ≡ Cread → Awaits n front.line old.core → h ≡ front.line % size.nodes → (ahead : ℕ) → AskedAt n h front.line ahead old.core → k ≡ base + suc ahead
+  home_step : {K : Change} (base i : ℕ) (old new : Working) (k h : ℕ) → (held : HeldBy K i old new) → i < old.core.size.nodes
+      → (at : StandsAt size n j front old)
+      → front.body ≡ Cread → Awaits n front.line old.core → h ≡ front.line % size.nodes → (ahead : ℕ) → AskedAt n h front.line ahead old.core
+      → k ≡ base + suc ahead
       → StandsAt size n j front new → Falls (AwaitsWord base size n j front) k h i new
   home_step base i old new k h held here at cread awaits home ahead asked is now =
       let n0 = within n old.core at.size_is some in

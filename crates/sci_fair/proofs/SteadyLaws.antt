@@ -1,21 +1,20 @@
 -- The laws of steady turns, as they are told.
-use Rattle.std.proofs.Common.{◌≡◌, ◌≢◌, ◌<◌, ◌%◌, ℕ, Bool, true, false, if◌then◌else◌, arith, List, [], ◌∷◌, ◌++◌}
-use Rattle.std.proofs.Common.{Some, None, refl, sym, ap, subst, ◌∙◌}
+use Rattle.std.proofs.Common.{◌≡◌, ◌≢◌, ◌<◌, ℕ, Bool, true, false, arith, List}
+use Rattle.std.proofs.Common.{refl, sym, subst}
 use Rattle.std.specs.Prelude.{IsSome}
 use Rattle.sci_history.specs.Seen.{IsAmong}
-use Rattle.sci_packets.specs.{declared.body.Body.{TheVariants.{Purge}}, Table.{is_request}}
-use Rattle.sci_cache.specs.{State.{waits}, Cache.{Letter, line_of}}
-use Rattle.sci_core.specs.declared.lane.LaneKind.TheVariants.{Requests, Answers}
-use Rattle.sci_core.specs.{Core.{Core, lane_of, lane_place, node_at}, Sharing.{answer_in, answer_to, is_about, packets_of}, Size.{Size}}
-use Rattle.sci_core.proofs.{Step.Places.{place_from, place_requests}, Tidy.{TidyRuns.{reached_tidy}, TidySteps.{about_from, request_asker}}}
+use Rattle.sci_packets.specs.{declared.body.Body.{TheVariants.{Purge}}}
+use Rattle.sci_cache.specs.{State.{waits}, Cache.{Letter}}
+use Rattle.sci_core.specs.declared.lane.LaneKind.TheVariants.{Requests}
+use Rattle.sci_core.specs.{Core.{lane_of, node_at}, Sharing.{answer_to}, Size.{Size}}
 use Rattle.sci_policy.specs.Lines.{state_on}
 use Rattle.sci_fair.specs.Steady.{AreSteadyTurns, HasTurn, HasWindows, IsSteadyTurn, Working, WorksByTurns}
-use Rattle.sci_fair.proofs.{Descents.{Comes}, HomeAnswers.{AnsweredAt}, LaneTurns.{among_stands}}
+use Rattle.sci_fair.proofs.{LaneTurns.{among_stands}}
 use Rattle.sci_fair.proofs.Steadied.{IsSame}
 use Rattle.sci_fair.proofs.{AnswersCome.{AnswerTurn, answer_within, taken_answered}, Requests.{LetterTaken, request_taken, size_along, stands_in}}
 use Rattle.sci_fair.specs.Retries.{is_tried_once}
 use Rattle.sci_fair.proofs.Retries.{never_once, never_purge}
-use Rattle.sci_fair.proofs.{TurnLaws.{answered_to, not_there, turn_of}, Whereabouts.{request_about}, WholeTurns.{sole}}
+use Rattle.sci_fair.proofs.{TurnLaws.{answered_to, not_there, turn_of}, Whereabouts.{request_about}}
 
 pub letter_taken_law : (j n : ℕ) (letter : Letter) (order : List ℕ) (first last : Working) → WorksByTurns first.core → j < first.core.size.nodes
     → n < first.core.size.nodes → IsAmong letter (lane_of first.core Requests j n) → AreSteadyTurns order first last
@@ -50,7 +49,8 @@ answer_law n line order first last good some inside waiting turns windows =
     let l0 : line < c.old.core.size.lines = subst (λ (z : Size). line < z.lines) (sym size) inside in
     let answered = c.done.answered in
     let is = answered_to c.old.core n line c.done.good.reached n0 l0 answered in
-    turn_of IsSteadyTurn n (λ old new. IsSome (answer_to old.core n line)) (AnswerTurn n line) nodes 0 order first last c c.done.server (subst IsSome (sym is) refl)
+    turn_of IsSteadyTurn n (λ old new. IsSome (answer_to old.core n line)) (AnswerTurn n line) nodes 0 order first last c c.done.server (subst IsSome
+    (sym is) refl)
 
 none_of : (b : Bool) → (b ≡ true → ⊥) → b ≡ false
 none_of true never = absurd (never refl)

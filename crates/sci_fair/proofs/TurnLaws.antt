@@ -11,7 +11,8 @@ use Rattle.sci_fair.proofs.{Descents.{ComesBy}, HomeAnswers.{AnsweredAt}}
 use Rattle.sci_fair.proofs.{Whereabouts.{lane_packets, same_packet}, WholeTurns.{sole}}
 
 -- the turn that comes
-pub turn_of : (IsTurn : ℕ → Working → Working → Type 0) (n : ℕ) (P : Working → Working → Type 0) (Done : ℕ → Working → Working → Type 0) (nodes count : ℕ) (order : List ℕ) (first last : Working)
+pub turn_of : (IsTurn : ℕ → Working → Working → Type 0) (n : ℕ) (P : Working → Working → Type 0) (Done : ℕ → Working → Working
+    → Type 0) (nodes count : ℕ) (order : List ℕ) (first last : Working)
     → (c : ComesBy IsTurn Done nodes count order first last) → c.node ≡ n → P c.old c.new → HasTurnBy IsTurn n P order first last
 turn_of IsTurn n P Done nodes count order first last c same so = record {
   before = c.before;
@@ -33,7 +34,6 @@ not_there core n to line letter good some t inside asks about answered among =
     (lane_packets core Requests n to n line letter good.reached some t about among)
     (lane_packets core Answers answered.from n n line answered.letter good.reached answered.sender some answered.about answered.among) in
     let clash : true ≡ false = sym asks ∙ (ap (λ (l : Letter). is_request l.body) same ∙ answered.answers) in cc
-
 
 some_answer : (letter : Letter) → is_request letter.body ≡ false → answer_in (letter ∷ []) ≡ Some letter.body
 some_answer letter answers = ap (λ (b : Bool). if b then None else Some letter.body) answers
