@@ -190,35 +190,90 @@ fn due_lines_are_claimed_at_last(rt: HostRuntime) -> Result<(), Fail> {
 }
 
 /// Nodes go in a circle this many times.
-fn go_round<N: Nodes + Drop>(busy: &mut Busy<N>, times: u8) -> Result<(), Fail> {
+fn go_round<N: Nodes + Drop>(busy: &mut Busy<N>, nodes: u8, times: u8) -> Result<(), Fail> {
     for _time in 0..times {
-        busy.go_all(&[0, 1, 2, 3])?;
+        for node in 0..nodes {
+            busy.go(node)?;
+        }
     }
     Ok(())
 }
 
-/// Nodes 1 and 2 leave the list of line 0, and what node 1 says comes to node 3 before what node 2 said. So node 3 takes node 1,
-/// which is gone, for the one before it, and can't leave by itself. It wants to write there. Node 0, which leads the list, writes
-/// on another line in turn with node 1, so something can always be performed there soon. Its patience ended only after that, once.
+/// Nodes go in a circle until one of them has done what it has to do, ten times at most.
+fn go_until<N: Nodes + Drop>(busy: &mut Busy<N>, nodes: u8, node: u8) -> Result<(), Fail> {
+    for _time in 0..10 {
+        if !busy.has_done(node) {
+            go_round(busy, nodes, 1)?;
+        }
+    }
+    Ok(())
+}
+
+/// Nodes 3 to 0 read line 0 one after another, and nodes 1 and 2 then leave its list, each for two of these lines. What node 1
+/// says of that comes to node 3 before what node 2 said. So node 3 takes node 1, which is gone, for the one before it, and
+/// can't leave by itself.
+fn leave_one_behind<N: Nodes + Drop>(
+    busy: &mut Busy<N>,
+    nodes: u8,
+    lines: [u8; 4],
+) -> Result<(), Fail> {
+    for node in [3, 2, 1, 0] {
+        busy.add(node, on(0, Act::Load))?;
+        busy.go(node)?;
+        go_round(busy, nodes, 6)?;
+    }
+    let [one, two, third, fourth] = lines;
+    busy.add(1, on(one, Act::Load))?;
+    busy.add(2, on(two, Act::Load))?;
+    go_round(busy, nodes, 6)?;
+    busy.add(2, on(third, Act::Load))?;
+    busy.go_all(&[2, 1, 2])?;
+    busy.add(1, on(fourth, Act::Load))?;
+    busy.go_all(&[1, 0, 1, 3])?;
+    go_round(busy, nodes, 3)
+}
+
+/// Node 3 wants to write on a line of which it is the last member, and can't leave by itself. Node 0, which leads the list,
+/// writes on another line in turn with node 1, so something can be performed there again and again. Once its patience began
+/// anew each time, and node 3 waited for ever.
 #[test]
 fn patience_ends_though_others_work_on(rt: HostRuntime) -> Result<(), Fail> {
     let nodes = Locked::of(&rt, rt.alloc(), (4, 8, 2), 300)?;
     let mut busy = Busy::new(rt.alloc(), nodes, 4, 8)?;
-    for joins in ["3+0", "2+0", "1+0", "0+0", "1+4 2+5"] {
-        go_through(&mut busy, joins, 0)?;
-        go_round(&mut busy, 6)?;
-    }
-    go_through(&mut busy, "2+6 1 2 1+7 0 1 3", 0)?;
-    go_round(&mut busy, 3)?;
+    leave_one_behind(&mut busy, 4, [4, 5, 6, 7])?;
     busy.add(3, on(0, WRITE))?;
     for _store in 0..200 {
         busy.add(0, on(1, WRITE))?;
         busy.add(1, on(1, WRITE))?;
     }
-    go_round(&mut busy, 100)?;
+    go_round(&mut busy, 4, 100)?;
     assert_eq!(rt; busy.has_done(3), true);
     assert_eq!(rt; busy.has_done(0), false);
     busy.end(rt.alloc(), &[0, 1, 2, 3])
+}
+
+/// What isn't promised: node 3 wants to write on such a line too. Nodes 0 and 4 come to its list and leave it in turn, so neither
+/// of them leads it for long enough to purge it. When they stop, the list is given up.
+#[test]
+fn readers_may_keep_a_writer_waiting(rt: HostRuntime) -> Result<(), Fail> {
+    let nodes = Locked::of(&rt, rt.alloc(), (5, 16, 2), 300)?;
+    let mut busy = Busy::new(rt.alloc(), nodes, 5, 16)?;
+    leave_one_behind(&mut busy, 5, [14, 15, 9, 8])?;
+    busy.add(3, on(0, WRITE))?;
+    go_round(&mut busy, 5, 2)?;
+    for _time in 0..10 {
+        for (comes, leaves, lines) in [(4, 0, [4, 5]), (0, 4, [12, 13])] {
+            busy.add(comes, on(0, Act::Load))?;
+            go_until(&mut busy, 5, comes)?;
+            for line in lines {
+                busy.add(leaves, on(line, Act::Load))?;
+                go_until(&mut busy, 5, leaves)?;
+            }
+            go_round(&mut busy, 5, 2)?;
+        }
+    }
+    assert_eq!(rt; busy.has_done(3), false);
+    busy.end(rt.alloc(), &[0, 1, 2, 3, 4])
 }
 
 /// An operation on word 0 of a line.
