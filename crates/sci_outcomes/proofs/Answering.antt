@@ -8,9 +8,9 @@ use Rattle.sci_allowed.specs.{Allowed.{AreRows, IsTooBig}, Conditioned.{IsCondit
 use Rattle.sci_allowed.specs.Outcome.{IsPlaceWithin, written_places}
 use Rattle.sci_allowed.specs.declared.{condition.FinalCondition.{FinalCondition}, rows.AllowedRow.{AllowedRow}}
 use Rattle.sci_outcomes.proofs.{RowCounts.{row_count}, SightingsAllowed.{rows_allowed}}
-use Rattle.sci_outcomes.specs.OutcomesAnswer.{AreAsked, IsOutcomesAnswer, IsOutcomesRefusal, IsOutcomesText, IsSampleText, IsTable, IsWholeTable}
+use Rattle.sci_outcomes.specs.OutcomesAnswer.{AreAsked, IsOutcomesAnswer, IsOutcomesRefusal, HasTooMany, IsOutcomesText, IsSampleText, IsTable, IsWholeTable}
 use Rattle.sci_outcomes.specs.OutcomesAnswer.{IsWholeText, trials_of}
-use Rattle.sci_outcomes.specs.{Said.{IsSaidOf, said_ending, said_of, said_of_all, sample_ending}, Trials.{AreSeenOf}}
+use Rattle.sci_outcomes.specs.{Said.{IsSaidOf, said_ending, said_of, said_of_all, sample_ending}, Trials.{AreSeenOf, OneIsGivenUp, RunsAreCrowded}}
 use Rattle.sci_outcomes.specs.declared.outcome.Sighting.{Sighting}
 use Rattle.sci_outcomes.specs.declared.outcomes_report.OutcomesRequest.{OutcomesRequest}
 use Rattle.sci_outcomes.specs.declared.said.Said.{Said, TheVariants.{Yes, No, NoExample, NoCounterexample}}
@@ -44,7 +44,7 @@ module _ (request : OutcomesRequest) (script : ScriptValue) (last : Option Final
     (unfailed : failed ≡ false) (text : (input : List ℕ) × AreRead known input × IsConditioned script last input)
     (within : All (IsPlaceWithin script.lines) (written_places script.lines script.operations)) where
   sample_made : (seen : List Sighting) (out : List ℕ) (ends : ending.Outcome) → request.all ≡ false → AreSeenOf script (trials_of request) seen
-      → IsSampleText request last seen out ends → IsOutcomesText request text.0 out ends
+      → IsSampleText request script last seen out ends → IsOutcomesText request text.0 out ends
   sample_made seen out ends asked runs table = record {
     script = script;
     last = last;
@@ -57,13 +57,14 @@ module _ (request : OutcomesRequest) (script : ScriptValue) (last : Option Final
 
   whole_text_is : (allowed : List AllowedRow) (seen : List Sighting) (out : List ℕ) (ends : ending.Outcome)
       → AreRows script (most_pending request.issuing) allowed → AreSeenOf script (trials_of request) seen
-      → IsWholeTable request last seen allowed out ends → IsWholeText request script last seen out ends
+      → IsWholeTable request script last seen allowed out ends → IsWholeText request script last seen out ends
   whole_text_is allowed seen out ends rows runs table =
       let window = most_pending request.issuing in
       let among = rows_allowed script text.2.good within (trials_of request) seen table.rows runs table.rows_are in
       record {
         rows = table.rows;
         rows_are = table.rows_are;
+        few = table.few;
         allowed = allowed;
         all = rows;
         seen_allowed = among;
@@ -88,7 +89,7 @@ module _ (request : OutcomesRequest) (script : ScriptValue) (last : Option Final
 
   made : (allowed : Option (List AllowedRow)) (seen : List Sighting) (out : List ℕ) (ends : ending.Outcome)
       → AreAsked request.all script (most_pending request.issuing) allowed → AreSeenOf script (trials_of request) seen
-      → IsTable request last seen allowed out ends → IsOutcomesText request text.0 out ends × HasEnded ends
+      → IsTable request script last seen allowed out ends → IsOutcomesText request text.0 out ends × HasEnded ends
   made None seen out ends asked runs table =
       (sample_made seen out ends asked runs table, said_ended (said_of last table.rows) ends table.ends_by)
   made (Some allowed) seen out ends asked runs table =
@@ -108,19 +109,20 @@ module _ (request : OutcomesRequest) (script : ScriptValue) (last : Option Final
 
   pub answered_for : (allowed : Option (List AllowedRow)) (seen : List Sighting) (out : List ℕ) (ends : ending.Outcome)
       → AreAsked request.all script (most_pending request.issuing) allowed → AreSeenOf script (trials_of request) seen
-      → IsTable request last seen allowed out ends → (ends ≡ Refused → ⊥) × IsOutcomesAnswer request known failed out ends
+      → IsTable request script last seen allowed out ends → (ends ≡ Refused → ⊥) × IsOutcomesAnswer request known failed out ends
   answered_for allowed seen out ends asked runs table =
       let both = made allowed seen out ends asked runs table in
       ended out ends both.1 both.0
 
-  pub refused_for : (kind : TextFaultKind) (line : ℕ) → line ≡ 0 → (kind ≡ TooMany) ⊎ (kind ≡ Memory)
-      → (kind ≡ TooMany → (request.all ≡ true) × IsTooBig script (most_pending request.issuing)) → IsOutcomesRefusal request kind known failed line
-  refused_for kind line zero_is (inl is) many =
-      let big = many is in
-      inr (
-        is,
-        zero_is,
-        (unfailed, (text.0, text.1, inr (record { asked = big.0; script = script; last = last; read = text.2; big = big.1 }))),
-      )
+  pub is_big : (request.all ≡ true) × IsTooBig script (most_pending request.issuing) → HasTooMany request text.0
+  is_big big = inr (inl (record { asked = big.0; script = script; last = last; read = text.2; big = big.1 }))
+
+  pub is_long : OneIsGivenUp script (trials_of request) ⊎ RunsAreCrowded script (trials_of request) → HasTooMany request text.0
+  is_long (inl one) = inl (record { script = script; last = last; read = text.2; one = one })
+  is_long (inr crowd) = inr (inr (record { script = script; last = last; read = text.2; crowd = crowd }))
+
+  pub refused_for : (kind : TextFaultKind) (line : ℕ) → line ≡ 0 → (kind ≡ TooMany) ⊎ (kind ≡ Memory) → (kind ≡ TooMany → HasTooMany request text.0)
+      → IsOutcomesRefusal request kind known failed line
+  refused_for kind line zero_is (inl is) many = inr (is, zero_is, (unfailed, (text.0, text.1, many is)))
   refused_for kind line zero_is (inr is) many =
       inl (subst (λ (k : TextFaultKind). IsTold IsConditionedFault k known failed line) (sym is) (unfailed, zero_is))

@@ -1,16 +1,16 @@
 -- A histogram of what was seen, and its rows.
-use Rattle.std.proofs.Common.{◌≡◌, ℕ, ◌+◌, ◌==◌, ◌&&◌, ◌||◌, not, if◌then◌else◌, Bool, true, false, cond, arith, List, [], ◌∷◌, ◌++◌, Option, Some, None}
-use Rattle.std.proofs.Common.{length, length-append, refl, ap, ◌∙◌}
+use Rattle.std.proofs.Common.{◌≡◌, ℕ, ◌<◌, ◌+◌, ◌*◌, ◌==◌, ◌&&◌, ◌||◌, not, if◌then◌else◌, Bool, true, false, cond, arith}
+use Rattle.std.proofs.Common.{List, [], ◌∷◌, ◌++◌, Option, Some, None, get_or, length, length-append, refl, sym, ap, subst, ◌∙◌}
 use Rattle.std.proofs.Math.Path.{fun_ext}
 use Rattle.std.proofs.lemmas.Cmp.{eq_by_cmp_equiv, lists_total, nat_cmp_total, on_total, then_total}
-use Rattle.std.proofs.lemmas.Map.Entries.{sum_by-insert_entry}
-use Rattle.std.proofs.lemmas.{Bool.{ne_eqb}, List.{append-nil, Elements.{filter-append}, Sums.{sum_by-cons}}}
+use Rattle.std.proofs.lemmas.Map.Entries.{btree_map_get_place, sum_by-insert_entry}
+use Rattle.std.proofs.lemmas.{Bool.{ne_eqb}, List.{append-nil, length-map, Elements.{All-map, filter-append}, Sums.{sum_by-cons}}, Option.{slice_get-get_or}}
 use Rattle.std.specs.{Prelude.{count_by, filter, is_some, option_map, unwrap_or}, List.{list_any, position_or_len, sum_by}}
-use Rattle.std.specs.{BTreeMap.{BTreeMap, IsOrdered, Updates, get, insert_entry, values}, Map.{values_of}}
+use Rattle.std.specs.{BTreeMap.{BTreeMap, IsOrdered, Updates, get, insert_entry, values}, Map.{keys_of, values_of}}
 use Rattle.std.specs.{Cmp.{IsTotalOrder}, Ordering.{eq_by_cmp}}
 use Rattle.sci_allowed.specs.{Outcome.{held_cmp, outcome_cmp, replied_cmp}, declared.outcome.{Held.{Held}, Outcome.{Outcome}, Replied.{Replied}}}
 use Rattle.sci_outcomes.specs.declared.{histogram.{Histogram.{Histogram}, Tally.{Tally}}, outcome.Sighting.{Sighting}}
-use Rattle.sci_outcomes.specs.Rows.{HasCounted, has_outcome, tally_by, unseen_of, with_run}
+use Rattle.sci_outcomes.specs.Rows.{AreCrowded, HasCounted, has_outcome, outcomes_in, tally_by, unseen_of, with_run}
 use Rattle.sci_allowed.specs.declared.rows.AllowedRow.{AllowedRow}
 use Rattle.sci_outcomes.proofs.SightingCounts.{tally_more, tally_same}
 
@@ -111,6 +111,23 @@ counted_has histogram seen outcome counted =
     } in
     ap (λ (o : Option Tally). is_some o) (counted.each outcome)
     ∙ (ap (λ (b : Bool). is_some (if b then None else Some tally)) (none_counted test seen) ∙ some_if (list_any test seen) tally)
+
+-- the outcomes of a histogram differ, and each was seen
+pub crowded : (histogram : Histogram) (most operations : ℕ) → IsOrdered outcome_cmp histogram.tallies → most < outcomes_in histogram * operations
+    → (seen : List Sighting) → HasCounted histogram seen → AreCrowded most operations seen
+crowded histogram most operations ordered many seen counted =
+    let es = histogram.tallies.entries in
+    let key = λ (e : Outcome × Tally). e.0 in
+    record {
+      outcomes = keys_of es;
+      apart = ordered;
+      had = All-map (λ (o : Outcome). list_any (has_outcome o) seen ≡ true) key es (λ k d lt.
+          let e : Outcome × Tally = get_or es k d in
+          let there : get outcome_cmp histogram.tallies e.0 ≡ Some e.1 =
+          btree_map_get_place outcome_total histogram.tallies k e.0 e.1 ordered (slice_get-get_or es k d lt) in
+          sym (counted_has histogram seen e.0 counted) ∙ ap (λ (o : Option Tally). is_some o) there);
+      many = subst (λ (n : ℕ). most < n * operations) (sym (length-map es key)) many;
+    }
 
 -- a row whose outcome was seen isn't one of the others
 pub unseen_kept : (seen : List Sighting) (rows : List AllowedRow) (row : AllowedRow) → list_any (has_outcome row.outcome) seen ≡ true

@@ -1,5 +1,5 @@
 -- What `outcomes` writes for its input.
-use Rattle.std.specs.Prelude.{All, ◌≡◌, ◌⊎◌, ℕ, ◌+◌, ◌%◌, ◌^◌, Bool, true, false, List, [], ◌∷◌, ◌++◌, codes, length, Option, None, Some}
+use Rattle.std.specs.Prelude.{All, ◌≡◌, ◌≤◌, ◌⊎◌, ℕ, ◌+◌, ◌*◌, ◌%◌, ◌^◌, Bool, true, false, List, [], ◌∷◌, ◌++◌, codes, length, Option, None, Some}
 use Rattle.std.specs.Prelude.{unwrap_or, if◌then◌else◌}
 use Rattle.std.specs.List.{flat_map}
 use Rattle.sci_text.specs.{FirstFault.{IsTold}, Number.{field}, Script.{ScriptValue}}
@@ -9,11 +9,11 @@ use Rattle.sci_allowed.specs.{Conditioned.{IsConditioned, IsConditionedFault}, d
 use Rattle.sci_allowed.specs.OutcomeText.{outcome_text, sense_text}
 use Rattle.sci_outcomes.specs.declared.histogram.Row.{Row}
 use Rattle.sci_outcomes.specs.declared.outcomes_report.{OutcomesRequest.{OutcomesRequest}, TheConstants.{RUNS, SEED}}
-use Rattle.sci_outcomes.specs.declared.trials.{Trials.{Trials}, Turns.{Turns, TheVariants.{Drawn, Threads}}}
+use Rattle.sci_outcomes.specs.declared.trials.{Trials.{Trials}, TheConstants.{MAX_KEPT}, Turns.{Turns, TheVariants.{Drawn, Threads}}}
 use Rattle.sci_drive.specs.Rounds.{most_pending}
 use Rattle.sci_allowed.specs.{Allowed.{AreRows, IsAllowed, IsTooBig}, Outcome.{shown_of}}
 use Rattle.sci_allowed.specs.declared.rows.AllowedRow.{AllowedRow}
-use Rattle.sci_outcomes.specs.{OutcomesJson.{outcomes_json}, Rows.{AreRowsOf, unseen_of}, Trials.{AreSeenOf, OneIsGivenUp}}
+use Rattle.sci_outcomes.specs.{OutcomesJson.{outcomes_json}, Rows.{AreRowsOf, unseen_of}, Trials.{AreSeenOf, OneIsGivenUp, RunsAreCrowded}}
 use Rattle.sci_outcomes.specs.{declared.said.Said.{Said}, Said.{IsSaidOf, said_ending, said_of, said_of_all, said_text}}
 use Rattle.sci_outcomes.specs.declared.outcome.Sighting.{Sighting}
 use Rattle.sci_command.specs.declared.outcome.Outcome as ending
@@ -69,9 +69,11 @@ whole_shown request rows unseen said =
 -- ---- the answer
 
 -- the outcomes of the runs are written, and what they say of the condition of the script, if it has one
-pub record IsSampleText (request : OutcomesRequest) (last : Option FinalCondition) (seen : List Sighting) (text : List ℕ) (ends : ending.Outcome) : Type 0 where
+pub record IsSampleText (request : OutcomesRequest) (script : ScriptValue) (last : Option FinalCondition) (seen : List Sighting) (text : List ℕ)
+    (ends : ending.Outcome) : Type 0 where
   pub rows : List Row
   pub rows_are : AreRowsOf seen rows
+  pub few : length rows * length script.operations ≤ MAX_KEPT
   pub ends_by : ends ≡ said_ending (said_of last rows)
   pub written : text ≡ sample_shown request rows (said_of last rows)
 
@@ -81,6 +83,7 @@ pub record IsWholeText (request : OutcomesRequest) (script : ScriptValue) (last 
     (ends : ending.Outcome) : Type 0 where
   pub rows : List Row
   pub rows_are : AreRowsOf seen rows
+  pub few : length rows * length script.operations ≤ MAX_KEPT
   pub allowed : List AllowedRow
   pub all : AreRows script (most_pending request.issuing) allowed
   pub seen_allowed : All (λ row. IsAllowed script (most_pending request.issuing) (shown_of row.outcome)) rows
@@ -97,7 +100,7 @@ pub record IsOutcomesText (request : OutcomesRequest) (input text : List ℕ) (e
   pub read : IsConditioned script last input
   pub seen : List Sighting
   pub runs : AreSeenOf script (trials_of request) seen
-  pub sample : request.all ≡ false → IsSampleText request last seen text ends
+  pub sample : request.all ≡ false → IsSampleText request script last seen text ends
   pub whole : request.all ≡ true → IsWholeText request script last seen text ends
 
 -- the input is the text of a script, and one of its runs is given up
@@ -115,11 +118,22 @@ pub record IsBigScript (request : OutcomesRequest) (input : List ℕ) : Type 0 w
   pub read : IsConditioned script last input
   pub big : IsTooBig script (most_pending request.issuing)
 
--- why there are no outcomes: the input has a fault, one of the runs is given up, or there are too many positions
+-- the input is the text of a script whose runs have outcomes with more operations in all than are kept
+pub record IsCrowdedScript (request : OutcomesRequest) (input : List ℕ) : Type 0 where
+  pub script : ScriptValue
+  pub last : Option FinalCondition
+  pub read : IsConditioned script last input
+  pub crowd : RunsAreCrowded script (trials_of request)
+
+-- why a script has too much: one of its runs is given up, there are too many positions, or too many outcomes
+abbrev pub HasTooMany : OutcomesRequest → (input : List ℕ) → Type 0
+HasTooMany request input = IsGivenUpScript request input ⊎ (IsBigScript request input ⊎ IsCrowdedScript request input)
+
+-- why there are no outcomes: the input has a fault, or has too much
 abbrev pub IsOutcomesRefusal : OutcomesRequest → TextFaultKind → Option (List ℕ) → Bool → ℕ → Type 0
 IsOutcomesRefusal request kind input failed at =
     IsTold IsConditionedFault kind input failed at
-    ⊎ ((kind ≡ TooMany) × (at ≡ 0) × IsReadAs input failed (λ bytes. IsGivenUpScript request bytes ⊎ IsBigScript request bytes))
+    ⊎ ((kind ≡ TooMany) × (at ≡ 0) × IsReadAs input failed (HasTooMany request))
 
 -- what `outcomes` writes, and how it ends, for the bytes of a reader, which has failed or not
 abbrev pub IsOutcomesAnswer : OutcomesRequest → Option (List ℕ) → Bool → List ℕ → ending.Outcome → Type 0
@@ -128,16 +142,17 @@ IsOutcomesAnswer request = IsAnswerBy (IsOutcomesText request) (IsOutcomesRefusa
 -- ---- inside
 
 -- the outcomes of the runs are written, all others, and what all of them say of the condition
-pub record IsWholeTable (request : OutcomesRequest) (last : Option FinalCondition) (seen : List Sighting) (allowed : List AllowedRow) (text : List ℕ)
-    (ends : ending.Outcome) : Type 0 where
+pub record IsWholeTable (request : OutcomesRequest) (script : ScriptValue) (last : Option FinalCondition) (seen : List Sighting)
+    (allowed : List AllowedRow) (text : List ℕ) (ends : ending.Outcome) : Type 0 where
   pub rows : List Row
   pub rows_are : AreRowsOf seen rows
+  pub few : length rows * length script.operations ≤ MAX_KEPT
   pub ends_by : ends ≡ said_ending (said_of_all last allowed)
   pub written : text ≡ whole_shown request rows (unseen_of seen allowed) (said_of_all last allowed)
 
-abbrev pub IsTable : OutcomesRequest → Option FinalCondition → List Sighting → Option (List AllowedRow) → List ℕ → ending.Outcome → Type 0
-IsTable request last seen None text ends = IsSampleText request last seen text ends
-IsTable request last seen (Some allowed) text ends = IsWholeTable request last seen allowed text ends
+abbrev pub IsTable : OutcomesRequest → ScriptValue → Option FinalCondition → List Sighting → Option (List AllowedRow) → List ℕ → ending.Outcome → Type 0
+IsTable request script last seen None text ends = IsSampleText request script last seen text ends
+IsTable request script last seen (Some allowed) text ends = IsWholeTable request script last seen allowed text ends
 
 -- all rows of the script, if they are asked for
 abbrev pub AreAsked : Bool → ScriptValue → (window : ℕ) → Option (List AllowedRow) → Type 0

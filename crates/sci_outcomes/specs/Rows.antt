@@ -1,6 +1,7 @@
 -- How often each outcome was seen.
-use Rattle.std.specs.Prelude.{◌≡◌, ◌≤◌, ℕ, ◌+◌, ◌==◌, ◌&&◌, ◌||◌, not, Bool, filter, List, length, map, sum, All, count_by, Option, Some, None, if◌then◌else◌}
-use Rattle.std.specs.{List.{list_any, position_or_len, sum_by, Sorted.{IsStrictlySortedBy}}, BTreeMap.{get, values}}
+use Rattle.std.specs.Prelude.{◌≡◌, ◌≤◌, ◌<◌, ℕ, ◌+◌, ◌*◌, ◌==◌, ◌&&◌, ◌||◌, not, true, Bool, filter, List, length, map, sum, All, count_by}
+use Rattle.std.specs.Prelude.{Option, Some, None, if◌then◌else◌}
+use Rattle.std.specs.{List.{list_any, position_or_len, sum_by, Sorted.{IsStrictlySortedBy}}, BTreeMap.{btree_map_len, get, values}}
 use Rattle.std.specs.{Ordering.{is_eq, nat_cmp, ordering_then}, declared.cmp.Ordering.{Ordering}}
 use Rattle.sci_allowed.specs.{Outcome.{outcome_cmp}, declared.{outcome.Outcome.{Outcome}, rows.AllowedRow.{AllowedRow}}}
 use Rattle.sci_outcomes.specs.declared.{histogram.{Histogram.{Histogram}, Row.{Row}, Tally.{Tally}}, outcome.Sighting.{Sighting}}
@@ -36,7 +37,19 @@ pub record AreRowsOf (seen : List Sighting) (rows : List Row) : Type 0 where
 abbrev pub unseen_of : List Sighting → List AllowedRow → List AllowedRow
 unseen_of seen allowed = filter (λ row. not (list_any (has_outcome row.outcome) seen)) allowed
 
+-- Runs had outcomes with more operations in all than the most, each of them this number: these outcomes are sorted, so that each
+-- differs from all others, and each was that of a run.
+pub record AreCrowded (most operations : ℕ) (seen : List Sighting) : Type 0 where
+  pub outcomes : List Outcome
+  pub apart : IsStrictlySortedBy outcome_cmp outcomes
+  pub had : All (λ outcome. list_any (has_outcome outcome) seen ≡ true) outcomes
+  pub many : most < length outcomes * operations
+
 -- ---- inside
+
+-- how many outcomes a histogram has
+abbrev pub outcomes_in : Histogram → ℕ
+outcomes_in histogram = btree_map_len histogram.tallies
 
 -- the runs of those that were seen which pass a test, if some do
 abbrev pub tally_by : (Sighting → Bool) → List Sighting → Option Tally

@@ -1,5 +1,5 @@
 -- The outcomes of a script that is run many times.
-use Rattle.std.specs.Prelude.{◌≡◌, ℕ, ◌<◌, ◌+◌, ◌%◌, ◌^◌, ◌⊎◌, Bool, true, false, All, List, Some, length, slice_index_or, IfErr, IfOk, Result}
+use Rattle.std.specs.Prelude.{◌≡◌, ℕ, ◌≤◌, ◌<◌, ◌+◌, ◌*◌, ◌%◌, ◌^◌, ◌⊎◌, Bool, true, false, All, List, Some, length, slice_index_or, IfErr, IfOk, Result}
 use Rattle.sci_words.specs.declared.{event.Event.{Event}, limits.TheConstants.{MAX_TURNS}, stamped.Stamped.{Stamped}}
 use Rattle.sci_history.specs.{declared.entry.Entry.{Entry}, Lawful.{Lawful}}
 use Rattle.sci_history.specs.Sequential.{AreInProgramOrder, IsSequentiallyConsistent}
@@ -11,10 +11,12 @@ use Rattle.sci_runs.specs.{Played.{IsPlayed, IsTooLong}, Runs.{IsRunOf, last_beh
 use Rattle.sci_drive.specs.ScriptLogs.{HaveWholeLogsOf, size_for}
 use Rattle.sci_threads.specs.{Shares.{AreLedTo}, Slices.{AreDrivenOpenly}}
 use Rattle.sci_allowed.specs.{Outcome.{IsPlaceWithin, written_places}, declared.place.Place.{Place}}
-use Rattle.sci_runs.specs.declared.fault.RunFault.{RunFault, TheVariants.{TooMany}}
+use Rattle.sci_runs.specs.declared.fault.RunFault.{RunFault, TheVariants.{Memory, TooMany}}
+use Rattle.sci_outcomes.specs.declared.fault.TrialsFault.{TrialsFault}
 use Rattle.sci_outcomes.specs.declared.{histogram.Histogram.{Histogram}, outcome.Sighting.{Sighting}}
-use Rattle.sci_outcomes.specs.declared.trials.{Trials.{Trials}, Turns.{Turns, TheVariants.{Drawn, Threads}}}
-use Rattle.sci_outcomes.specs.{Outcomes.{IsSeen}, Rows.{HasCounted}}
+use Rattle.sci_outcomes.specs.declared.trials.{Trials.{Trials}, TheConstants.{MAX_KEPT}, Turns.{Turns, TheVariants.{Drawn, Threads}}}
+use Rattle.sci_outcomes.specs.{Outcomes.{IsSeen}, Rows.{AreCrowded, HasCounted, outcomes_in}}
+use Rattle.sci_outcomes.specs.declared.fault.TrialsFault.TheVariants as fault
 
 -- the places are those of the words that the script may write
 pub record AreWrittenBy (script : ScriptValue) (places : List Place) : Type 0 where
@@ -95,7 +97,27 @@ pub record AreSeenOf (script : ScriptValue) (trials : Trials) (seen : List Sight
   pub many : length seen ≡ trials.runs
   pub each : AreSightings script trials.turns trials.issuing 0 seen
 
+-- some first runs, at most up to the end, have outcomes with more operations in all than are kept, each of them those of the script
+pub record AreCrowdedBelow (script : ScriptValue) (turns : Turns) (issuing : Issuing) (end : ℕ) : Type 0 where
+  pub seen : List Sighting
+  pub few : length seen ≤ end
+  pub each : AreSightings script turns issuing 0 seen
+  pub crowd : AreCrowded MAX_KEPT (length script.operations) seen
+
+-- some first runs have
+abbrev pub RunsAreCrowded : ScriptValue → Trials → Type 0
+RunsAreCrowded script trials = AreCrowdedBelow script trials.turns trials.issuing trials.runs
+
 -- ---- inside
+
+-- the fault of all runs that a run's fault is
+abbrev pub fault_of : RunFault → TrialsFault
+fault_of Memory = fault.Memory
+fault_of TooMany = fault.GivenUp
+
+-- the outcomes have at most as many operations in all as are kept
+abbrev pub AreWithin : ScriptValue → Histogram → Type 0
+AreWithin script histogram = outcomes_in histogram * length script.operations ≤ MAX_KEPT
 
 -- a histogram of what was seen of the runs from the start up to the end
 pub record IsCountOf (script : ScriptValue) (turns : Turns) (issuing : Issuing) (start end : ℕ) (histogram : Histogram) : Type 0 where

@@ -64,12 +64,13 @@ pub(crate) struct Histogram {
 }
 
 impl Histogram {
-    ghost use Rattle.std.specs.{Prelude.{◌≡◌, ◌<◌, ◌+◌, ◌^◌, ◌++◌, ◌∷◌, [], List, length, IfOk, OnOk}, List.{list_any}};
-    ghost use Rattle.sci_outcomes.specs.{declared.outcome.Sighting.{Sighting}, Rows.{AreRowsOf, HasCounted, has_outcome, unseen_of}};
+    ghost use Rattle.std.specs.{Prelude.{◌≡◌, ◌≤◌, ◌<◌, ◌+◌, ◌*◌, ◌^◌, ◌++◌, ◌∷◌, [], List, true, false, length, IfOk, OnOk}, List.{list_any}};
+    ghost use Rattle.sci_outcomes.specs.{declared.outcome.Sighting.{Sighting}, Rows.{AreCrowded, AreRowsOf, HasCounted, has_outcome, outcomes_in, unseen_of}};
 
     /// No run was seen.
     pub(crate) fn new(alloc: Global) -> Histogram
-        ensures { HasCounted result [] }
+        ensures counted { HasCounted result [] }
+        ensures none { outcomes_in result ≡ 0 }
     {
         Histogram {
             tallies: BTreeMap::new(alloc),
@@ -112,6 +113,19 @@ impl Histogram {
         Ok(())
     }
 
+    /// Whether the outcomes have more than `most` operations in all, each of them this number.
+    pub(crate) fn is_crowded(&self, operations: u64, most: u64) -> bool
+        ensures within { result ≡ false → outcomes_in self.now * operations ≤ most }
+        ensures beyond { result ≡ true → (seen : List Sighting) → HasCounted self.now seen →
+            AreCrowded most operations seen }
+    {
+        let outcomes = self.tallies.len() as u64;
+        match outcomes.checked_mul(operations) {
+            Some(all) => all > most,
+            None => true,
+        }
+    }
+
     /// Whether a run that was seen had an outcome.
     fn has(&self, outcome: &Outcome) -> bool
         ensures { (seen : List Sighting) → HasCounted self.now seen →
@@ -140,8 +154,9 @@ impl Histogram {
 
     /// The rows of all outcomes, the most frequent first, and those that are as frequent by outcome. Refused if memory is.
     pub(crate) fn rows(self, alloc: Global) -> Result<Vec<Row>, AllocError>
-        ensures { IfOk result (λ rows. (seen : List Sighting) → HasCounted self seen →
+        ensures rows { IfOk result (λ rows. (seen : List Sighting) → HasCounted self seen →
             AreRowsOf seen rows.items) }
+        ensures many { IfOk result (λ rows. length rows.items ≡ outcomes_in self) }
     {
         let mut rows = Vec::with_capacity(alloc, self.tallies.len())?;
         for (outcome, tally) in self.tallies {

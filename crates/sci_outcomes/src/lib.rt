@@ -1,6 +1,7 @@
 //! Reports on the runs of a script: the schedule of one, and the outcomes of many.
 #![tactic(auto)]
 
+mod fault;
 mod histogram;
 mod outcome;
 mod outcomes_json;

@@ -1,18 +1,18 @@
 //! The command `outcomes`: the outcomes of a script that is run many times.
 
 ghost use Rattle.std.specs.{Prelude.{◌≡◌, ◌⊎◌, ◌++◌, ◌+◌, ◌<◌, List, false, true, option_map, IfErr, IfOk, OnOk}, List.{flat_map}};
-ghost use Rattle.sci_text.specs.{declared.fault.TextFaultKind.TheVariants.{Memory, TooMany}, Tap.{has_failed}};
+ghost use Rattle.sci_text.specs.{declared.fault.TextFaultKind.TheVariants.{Memory, TooMany}, Script.{ScriptValue}, Tap.{has_failed}};
 ghost use Rattle.sci_drive.specs.Rounds.{most_pending};
 ghost use Rattle.sci_command.specs.Answer.{HasAnswered};
 ghost use Rattle.sci_allowed.specs.Allowed.{IsLitmus, IsTooBig};
-ghost use Rattle.sci_outcomes.specs.{Rows.{HasCounted}, declared.outcome.Sighting.{Sighting}};
+ghost use Rattle.sci_outcomes.specs.{Rows.{HasCounted}, Trials.{AreWithin}, declared.{fault.TrialsFault.{TrialsFault}, outcome.Sighting.{Sighting}}};
 ghost use Rattle.sci_outcomes.specs.OutcomesAnswer.{AreAsked, IsOutcomesAnswer, IsOutcomesRefusal, IsTable, count_text, outcomes_text as outcomes_text_of};
 ghost use Rattle.sci_outcomes.specs.OutcomesAnswer.{row_text, seed_text, total_text, trials_of, unseen_text, whole_text as whole_text_of};
 ghost use Rattle.sci_outcomes.specs.OutcomesAnswer.{sample_shown as sample_shown_of, whole_shown as whole_shown_of, whole_total_text};
 
+use crate::fault::TrialsFault;
 use crate::histogram::{Histogram, Row};
 use crate::outcomes_json::{AllRows, outcomes_json};
-use crate::run_report::refusal_of;
 use crate::said::{Said, ending_of, push_said, said_of, said_of_all};
 use crate::trials::{Trials, Turns, counted};
 use sci_allowed::{
@@ -120,6 +120,24 @@ fn push_total(out: &mut Vec<u8>, outcomes: u64, runs: u64) -> Result<(), AllocEr
 /// What is said of a script with a run that is given up.
 const GIVEN_UP: &str =
     "a run has more than 500,000 events, or isn't done after 1,000,000,000 turns";
+
+/// What is said of a script whose outcomes are too many.
+const CROWDED: &str = "the outcomes that differ have more than 16,000,000 operations in all";
+
+/// Why the outcomes of the runs aren't known, as a fault of the whole input.
+fn trials_refusal(fault: TrialsFault) -> Refusal
+    ensures line { result.fault.line ≡ 0 }
+    ensures kind { (result.fault.kind ≡ TooMany) ⊎ (result.fault.kind ≡ Memory) }
+    ensures many { result.fault.kind ≡ TooMany →
+        (fault ≡ TrialsFault.GivenUp) ⊎ (fault ≡ TrialsFault.Crowded) }
+{
+    let (kind, note) = match fault {
+        TrialsFault::Memory => (TextFaultKind::Memory, Note::Kind),
+        TrialsFault::GivenUp => (TextFaultKind::TooMany, Note::Fixed(GIVEN_UP)),
+        TrialsFault::Crowded => (TextFaultKind::TooMany, Note::Fixed(CROWDED)),
+    };
+    Refusal::of_input(kind, note)
+}
 
 /// The text of the rows of runs.
 fn outcomes_text(alloc: Global, trials: Trials, rows: &[Row]) -> Result<Vec<u8>, AllocError>
@@ -233,8 +251,9 @@ fn table(
     last: &Option<FinalCondition>,
     sample: Sample,
 ) -> Result<Answer, AllocError>
-    ensures { IfOk result (λ answer. (seen : List Sighting) → HasCounted sample.histogram seen →
-        IsTable request last.now seen (option_map (λ rows. rows.items) sample.allowed) answer.text.items answer.outcome) }
+    ensures { IfOk result (λ answer. (script : ScriptValue) (seen : List Sighting) →
+        AreWithin script sample.histogram → HasCounted sample.histogram seen →
+        IsTable request script last.now seen (option_map (λ rows. rows.items) sample.allowed) answer.text.items answer.outcome) }
 {
     let Sample { histogram, allowed } = sample;
     match allowed {
@@ -307,7 +326,8 @@ fn asked_rows(
 /// condition is true of all of them. With `json` the same is one JSON object.
 ///
 /// A script with a fault is refused, as are a reader that fails, too long an input and running out of memory, at line 0; a run
-/// of more than 500,000 events or 1,000,000,000 turns, as `too-many` at line 0; and so is a script of which some number of steps
+/// of more than 500,000 events or 1,000,000,000 turns, as `too-many` at line 0; and so are runs whose outcomes have more than
+/// 16,000,000 operations in all, each that differs with all operations of the script; and a script of which some number of steps
 /// leads to more than 100,000 positions, if all outcomes are asked for. After a failed read nothing more is read.
 pub fn outcomes_of<T: Threads + Sync, R: Read>(
     rt: &T,
@@ -326,7 +346,7 @@ pub fn outcomes_of<T: Threads + Sync, R: Read>(
     };
     let histogram = match counted(rt, alloc, &litmus.script, request.trials()) {
         Ok(histogram) => histogram,
-        Err(fault) => return Err(refusal_of(fault, GIVEN_UP)),
+        Err(fault) => return Err(trials_refusal(fault)),
     };
     let answer = table(alloc, request, &last, Sample { histogram, allowed })?;
     Ok(answer)

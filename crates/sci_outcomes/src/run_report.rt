@@ -39,15 +39,15 @@ fn outcome_of(done: bool) -> Outcome
 /// What is said of a run that has too many events.
 const TOO_LONG: &str = "the run has more than 500,000 events";
 
-/// Why a run is refused, as a fault of the whole input; and what is said of one that is too long.
-pub(crate) fn refusal_of(fault: RunFault, too_long: &'static str) -> Refusal
+/// Why a run is refused, as a fault of the whole input.
+fn refusal_of(fault: RunFault) -> Refusal
     ensures line { result.fault.line ≡ 0 }
     ensures kind { (result.fault.kind ≡ TooMany) ⊎ (result.fault.kind ≡ Memory) }
     ensures many { result.fault.kind ≡ TooMany → fault ≡ RunFault.TooMany }
 {
     let (kind, note) = match fault {
         RunFault::Memory => (TextFaultKind::Memory, Note::Kind),
-        RunFault::TooMany => (TextFaultKind::TooMany, Note::Fixed(too_long)),
+        RunFault::TooMany => (TextFaultKind::TooMany, Note::Fixed(TOO_LONG)),
     };
     Refusal::of_input(kind, note)
 }
@@ -70,7 +70,7 @@ pub fn run<R: Read>(alloc: Global, request: RunRequest, reader: &mut Tap<R>) -> 
     };
     let run = match run_script(alloc, &script, plan) {
         Ok(run) => run,
-        Err(fault) => return Err(refusal_of(fault, TOO_LONG)),
+        Err(fault) => return Err(refusal_of(fault)),
     };
     let text = schedule_text(alloc, &run.schedule)?;
     Ok(Answer {

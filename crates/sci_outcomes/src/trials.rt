@@ -1,11 +1,14 @@
 //! A script that is run many times, and its outcomes.
 
-ghost use Rattle.std.specs.{Prelude.{◌≡◌, ◌≤◌, List, IfErr, IfOk}, Thread.{IsSync}};
+ghost use Rattle.std.specs.{Prelude.{◌≡◌, ◌≤◌, ◌<◌, List, IfErr, IfOk}, Thread.{IsSync}};
 ghost use Rattle.sci_runs.specs.declared.fault.RunFault.TheVariants.{TooMany};
+ghost use Rattle.sci_outcomes.specs.declared.fault.TrialsFault.TheVariants.{Crowded, GivenUp};
 ghost use Rattle.sci_outcomes.specs.declared.trials.Turns.TheVariants.{Drawn, Threads};
 ghost use Rattle.sci_outcomes.specs.{Rows.{HasCounted}, declared.outcome.Sighting.{Sighting}};
-ghost use Rattle.sci_outcomes.specs.Trials.{AreSeenOf, AreWrittenBy, IsCount, IsDrawnSighting, IsGivenUp, IsSightingOf, IsThreadSighting, OneIsGivenUp};
+ghost use Rattle.sci_outcomes.specs.Trials.{AreCrowdedBelow, AreSeenOf, AreWithin, AreWrittenBy, IsCount, IsCountOf, IsDrawnSighting, IsGivenUp};
+ghost use Rattle.sci_outcomes.specs.Trials.{IsSightingOf, IsThreadSighting, OneIsGivenUp, OneIsGivenUpBelow, RunsAreCrowded};
 
+use crate::fault::TrialsFault;
 use crate::histogram::Histogram;
 use crate::outcome::{Sighting, seen};
 use sci_allowed::{Place, written_places};
@@ -31,6 +34,16 @@ pub enum Turns {
 /// How many operations all runs have at least if they are shared out among threads. With fewer, starting a thread takes longer
 /// than it saves.
 const SHARED_OPERATIONS: u64 = 4_096;
+
+/// How many operations the outcomes of all runs have at most, each that differs with all operations of the script. So they take
+/// less than a gigabyte.
+pub const MAX_KEPT: u64 = 16_000_000;
+
+const _: () = prove!(MAX_KEPT == 16_000_000);
+
+/// How many operations the runs have at most that are shared out at a time, unless one run has more. Until they are done, an
+/// outcome may be kept by several threads.
+const BATCH_OPERATIONS: u64 = 4_000_000;
 
 /// How a script is run many times.
 #[derive(Clone, Copy)]
@@ -237,19 +250,65 @@ fn threads_for<R: Threads>(rt: &R, litmus: Litmus<'_>, runs: u64) -> usize {
     }
 }
 
+/// How many runs are shared out at a time, if each has this number of operations.
+fn batch_of(operations: u64) -> u64
+    ensures { 0 < result }
+{
+    match BATCH_OPERATIONS.checked_div(operations) {
+        Some(runs) => runs.max(1),
+        None => BATCH_OPERATIONS,
+    }
+}
+
+/// Counts the outcomes of all runs, batch after batch, each by as many threads as the share has at least. Refused as `counted`
+/// is.
+fn counted_in_batches<R: Threads + Sync>(
+    rt: &R,
+    alloc: Global,
+    litmus: Litmus<'_>,
+    all: Share,
+) -> Result<Histogram, TrialsFault>
+    requires written { AreWrittenBy litmus.script.now litmus.places.now }
+    requires first { all.start ≡ 0 }
+    ensures counted { IfOk result (IsCountOf litmus.entry.script.now litmus.entry.turns litmus.entry.issuing 0 all.end) }
+    ensures within { IfOk result (AreWithin litmus.entry.script.now) }
+    ensures given_up { IfErr result (λ fault. fault ≡ GivenUp →
+        OneIsGivenUpBelow litmus.entry.script.now litmus.entry.turns litmus.entry.issuing all.end) }
+    ensures crowded { IfErr result (λ fault. fault ≡ Crowded →
+        AreCrowdedBelow litmus.entry.script.now litmus.entry.turns litmus.entry.issuing all.end) }
+{
+    let operations = litmus.script.operations().len() as u64;
+    let batch = batch_of(operations);
+    let mut histogram = Histogram::new(alloc);
+    let mut start = all.start;
+    'batches: while start < all.end {
+        let end = start + batch.min(all.end - start);
+        let share = Share { start, end, ..all };
+        histogram.absorb(counted_by_threads(rt, alloc, litmus, share)?)?;
+        if histogram.is_crowded(operations, MAX_KEPT) {
+            return Err(TrialsFault::Crowded);
+        }
+        start = end;
+    }
+    Ok(histogram)
+}
+
 /// Runs a script many times, and counts how often each outcome came. Each run is whole: each operation of the script has just
-/// one entry. The logs of each run are lawful. Refused if memory is, and as too many if a run isn't done after 1,000,000,000
-/// turns, by threads of one node and else of all together, or if a run in an order that is drawn has more than 500,000 events.
-/// Runs in drawn orders are shared out among the processors, and the histogram is that of one thread.
+/// one entry. The logs of each run are lawful. Refused if memory is; as given up if a run isn't done after 1,000,000,000 turns,
+/// by threads of one node and else of all together, or if a run in an order that is drawn has more than 500,000 events; and as
+/// crowded if the outcomes have more than 16,000,000 operations in all, each that differs with all operations of the script.
+/// Runs in drawn orders are shared out among the processors, and the answer is that of one thread.
 pub(crate) fn counted<R: Threads + Sync>(
     rt: &R,
     alloc: Global,
     script: &Script,
     trials: Trials,
-) -> Result<Histogram, RunFault>
+) -> Result<Histogram, TrialsFault>
     ensures counted { IfOk result (λ histogram. (seen : List Sighting)
         × AreSeenOf script.now trials seen × HasCounted histogram seen) }
-    ensures given_up { IfErr result (λ fault. fault ≡ TooMany → OneIsGivenUp script.now trials) }
+    ensures within { IfOk result (AreWithin script.now) }
+    ensures given_up { IfErr result (λ fault. fault ≡ GivenUp → OneIsGivenUp script.now trials) }
+    ensures crowded { IfErr result (λ fault. fault ≡ Crowded → RunsAreCrowded script.now trials) }
 {
     let places = written_places(alloc, script.extent().lines, script.operations())?;
     let litmus = Litmus {
@@ -258,10 +317,10 @@ pub(crate) fn counted<R: Threads + Sync>(
         turns: trials.turns,
         issuing: trials.issuing,
     };
-    let share = Share {
+    let all = Share {
         start: 0,
         end: trials.runs,
         threads: threads_for(rt, litmus, trials.runs),
     };
-    counted_by_threads(rt, alloc, litmus, share)
+    counted_in_batches(rt, alloc, litmus, all)
 }
