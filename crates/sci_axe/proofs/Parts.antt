@@ -1,11 +1,12 @@
 -- The parts of a trace, and what is found of them.
-use Rattle.std.proofs.Common.{◌≡◌, ◌<◌, ◌+◌, ◌++◌, ◌∙◌, ℕ, All, Bool, true, false, List, [], ◌∷◌, Option, None, if◌then◌else◌, filter, length}
-use Rattle.std.proofs.Common.{ap, arith, inl, inr, length-append, refl, subst, sym}
-use Rattle.std.proofs.lemmas.{Bool.{cases_Bool, cases_eq, eq-eqb, eqb-true}, List.{get_or-append-add, map-append}}
-use Rattle.std.proofs.lemmas.List.Elements.{All-append, All-filter, filter_passes}
-use Rattle.std.proofs.lemmas.List.Elements.{Contains-append_cases, Contains-append_left, Contains-append_right, Contains-push_cases}
+use Rattle.std.proofs.Common.{◌≡◌, ◌<◌, ◌≤◌, ◌+◌, ◌↔◌, ◌++◌, ◌∙◌, ℕ, suc, All, Bool, true, false, cond, leb, List, [], ◌∷◌, Option, None}
+use Rattle.std.proofs.Common.{if◌then◌else◌, filter, length, ap, arith, inl, inr, length-append, refl, subst, sym}
+use Rattle.std.proofs.lemmas.Bool.{cases_Bool, cases_eq, cases_lt, eq-eqb, eqb-true, Decides.{nat_tests}}
+use Rattle.std.proofs.lemmas.List.{get_or-append-add, map-append, Kept.{AllPairs-cons, AllPairs-filter}, Sums.{sum_by-cons}}
+use Rattle.std.proofs.lemmas.List.Elements.{All-append, All-contains, All-contains_itself, All-filter, filter_passes}
+use Rattle.std.proofs.lemmas.List.Elements.{Contains-append_cases, Contains-append_left, Contains-append_right, Contains-get_or, Contains-push_cases}
 use Rattle.std.proofs.lemmas.Map.Views.{any-filter_same}
-use Rattle.std.specs.{List.{Contains, list_any}, Prelude.{IfOk, Result, slice_index_or}}
+use Rattle.std.specs.{List.{AllPairs, Contains, list_any}, Prelude.{IfOk, IsSome, Result, slice_index_or}}
 use Rattle.sci_words.specs.declared.limits.TheConstants.{MAX_NODES}
 use Rattle.sci_judge.specs.Access.{AreKnown}
 use Rattle.sci_history.proofs.Order.{filter-implied, filter_no, filter_yes}
@@ -15,7 +16,7 @@ use Rattle.sci_judge.specs.declared.judging.{Judgement.{Judgement}, SiteVersions
 use Rattle.sci_judge.specs.declared.judging.Judgement.TheVariants.{Coherent, NotCoherent, Undecided}
 use Rattle.sci_judge.specs.declared.witness.{Claim.{Claim}, Step.{Step, TheVariants.{Follows, Swaps, Falls, Rises, Starts, Ends}}}
 use Rattle.sci_judge.specs.declared.witness.Witness.{Witness, TheVariants.{Unwritten, UnwrittenLast, Early, Circle, Round}}
-use Rattle.sci_judge.specs.Judgement.{AreExplained, IsFinding, IsFoundAt, IsJudgement, Names, addresses_of, at_address, is_at, last_at}
+use Rattle.sci_judge.specs.Judgement.{AreExplained, IsExplainedAt, IsFinding, IsFoundAt, IsJudgement, Names, addresses_of, at_address, is_at, last_at}
 use Rattle.sci_judge.specs.Witness.{IsAt, IsPath, IsWitness, Leads}
 use Rattle.sci_axe.specs.Parts.{AreJudged, ArePartExplained, IsPart, IsPartJudged, is_in_part, part_of}
 
@@ -56,30 +57,33 @@ only y x had =
       | inr is ↦ is
     ]
 
-kept_behind : (p : ℕ → Bool) (site : SiteVersions) (sites : List SiteVersions) (address : ℕ) (b : Bool) → p site.address ≡ b
-    → Contains (addresses_of (filter (λ there. p there.address) sites)) address
-    → Contains (addresses_of (filter (λ there. p there.address) (site ∷ sites))) address
-kept_behind p site sites address true e had =
-    let test : SiteVersions → Bool = λ there. p there.address in
-    subst (λ (xs : List SiteVersions). Contains (addresses_of xs) address) (sym (filter_yes test site sites e))
-    (Contains-append_right (site.address ∷ []) (addresses_of (filter test sites)) address had)
-kept_behind p site sites address false e had =
-    let test : SiteVersions → Bool = λ there. p there.address in
-    subst (λ (xs : List SiteVersions). Contains (addresses_of xs) address) (sym (filter_no test site sites e)) had
+-- the addresses of the sites that are kept
+addresses_kept : (p : ℕ → Bool) (sites : List SiteVersions) → addresses_of (filter (λ site. p site.address) sites) ≡ filter p (addresses_of sites)
+addresses_kept p [] = refl
+addresses_kept p (site ∷ sites) = grind (arith, cases_Bool, filter_yes, filter_no, addresses_kept p sites)
 
--- the sites at an address that passes
-contains_kept : (p : ℕ → Bool) (sites : List SiteVersions) (address : ℕ) → p address ≡ true → Contains (addresses_of sites) address
-    → Contains (addresses_of (filter (λ site. p site.address) sites)) address
-contains_kept p [] address passes had = had
-contains_kept p (site ∷ sites) address passes had =
-    let test : SiteVersions → Bool = λ there. p there.address in
-    elim (Contains-append_cases (site.address ∷ []) (addresses_of sites) address had) [
+kept_behind : (p : ℕ → Bool) (x : ℕ) (xs : List ℕ) (q : ℕ) (b : Bool) → p x ≡ b → Contains (filter p xs) q → Contains (filter p (x ∷ xs)) q
+kept_behind p x xs q true e had =
+    subst (λ (ks : List ℕ). Contains ks q) (sym (filter_yes p x xs e)) (Contains-append_right (x ∷ []) (filter p xs) q had)
+kept_behind p x xs q false e had = subst (λ (ks : List ℕ). Contains ks q) (sym (filter_no p x xs e)) had
+
+-- what passes is kept
+contains_kept : (p : ℕ → Bool) (xs : List ℕ) (q : ℕ) → p q ≡ true → Contains xs q → Contains (filter p xs) q
+contains_kept p [] q passes had = had
+contains_kept p (x ∷ xs) q passes had =
+    elim (Contains-append_cases (x ∷ []) xs q had) [
       | inl this ↦
-          let is = only site.address address this in
-          subst (λ (xs : List SiteVersions). Contains (addresses_of xs) address) (sym (filter_yes test site sites (ap p is ∙ passes)))
-          (Contains-append_left (site.address ∷ []) (addresses_of (filter test sites)) address this)
-      | inr later ↦ kept_behind p site sites address (p site.address) refl (contains_kept p sites address passes later)
+          subst (λ (ks : List ℕ). Contains ks q) (sym (filter_yes p x xs (ap p (only x q this) ∙ passes)))
+          (Contains-append_left (x ∷ []) (filter p xs) q this)
+      | inr later ↦ kept_behind p x xs q (p x) refl (contains_kept p xs q passes later)
     ]
+
+-- and nothing else
+kept_passes : (p : ℕ → Bool) (xs : List ℕ) (q : ℕ) → Contains (filter p xs) q → (p q ≡ true) × Contains xs q
+kept_passes p xs q had = (
+  All-contains (λ x. p x ≡ true) (filter p xs) q (filter_passes p xs) had,
+  All-contains (Contains xs) (filter p xs) q (All-filter p (Contains xs) xs (All-contains_itself xs)) had,
+)
 
 module _ (timed : Bool) (cuts : List ℕ) (part : ℕ) (whole there : Trace) (is : IsPart cuts part whole there) where
   in_part : (address : ℕ) (access : Access) → is_at address access ≡ true → is_in_part cuts part access.address ≡ is_in_part cuts part address
@@ -101,26 +105,43 @@ module _ (timed : Bool) (cuts : List ℕ) (part : ℕ) (whole there : Trace) (is
       subst (λ (last : Option ℕ). IsFinding timed (at_address address whole.accesses.items) last finding) (same_last address inside)
       (subst (λ (xs : List Access). IsFinding timed xs (last_at address there) finding) (same_accesses address inside) found)
 
-  names_there : (address : ℕ) → is_in_part cuts part address ≡ true → Names whole address → Names there address
-  names_there address inside names =
-      elim names [
-        | inl any ↦
-            inl (ap (list_any (is_at address)) is.accesses
-            ∙ (any-filter_same (is_at address) (λ access. is_in_part cuts part access.address) true (λ access at. in_part address access at ∙ inside)
-            whole.accesses.items ∙ any))
-        | inr some ↦ inr (rw (same_last address inside) some)
-      ]
+  names_same : (address : ℕ) → is_in_part cuts part address ≡ true → Names there address ↔ Names whole address
+  names_same address inside =
+      let any =
+      ap (list_any (is_at address)) is.accesses
+      ∙ any-filter_same (is_at address) (λ access. is_in_part cuts part access.address) true (λ access at. in_part address access at ∙ inside)
+      whole.accesses.items in
+      let last = same_last address inside in (
+        (λ names. elim names [
+          | inl here ↦ inl (sym any ∙ here)
+          | inr some ↦ inr (subst (λ (word : Option ℕ). IsSome word) last some)
+        ]),
+        (λ names. elim names [
+          | inl here ↦ inl (any ∙ here)
+          | inr some ↦ inr (subst (λ (word : Option ℕ). IsSome word) (sym last) some)
+        ]),
+      )
 
   pub explained_in_whole : (sites : List SiteVersions) → AreExplained timed there sites
       → ArePartExplained timed cuts part whole (filter (λ site. is_in_part cuts part site.address) sites)
   explained_in_whole sites explained =
       let p : SiteVersions → Bool = λ site. is_in_part cuts part site.address in
       let passes = filter_passes p sites in
-      let kept = All-filter p (λ site. IsFoundAt timed there site.address (found.Coherent site.versions site.freedom)) sites explained.each in
+      let kept = All-filter p (IsExplainedAt timed there) sites explained.each in
+      let addresses = addresses_of sites in
+      let same = addresses_kept (is_in_part cuts part) sites in
       record {
-        named = λ address at names.
-            let inside : is_in_part cuts part address ≡ true = eq-eqb _ _ at in
-            contains_kept (is_in_part cuts part) sites address inside (explained.named address (names_there address inside names));
+        named = λ address. (
+          (λ names.
+              let inside : is_in_part cuts part address ≡ true = eq-eqb _ _ names.1 in
+              subst (λ (ks : List ℕ). Contains ks address) (sym same) (contains_kept (is_in_part cuts part) addresses address inside
+              ((explained.named address).0 ((names_same address inside).1 names.0)))),
+          (λ had.
+              let there_ = kept_passes (is_in_part cuts part) addresses address (subst (λ (ks : List ℕ). Contains ks address) same had) in
+              ((names_same address there_.0).0 ((explained.named address).1 there_.1), eqb-true _ _ there_.0)),
+        );
+        rising = subst (AllPairs (λ (x y : ℕ). x < y)) (sym same)
+            (AllPairs-filter (λ (x y : ℕ). x < y) (is_in_part cuts part) addresses explained.rising);
         each = λ k d lt.
             let site = slice_index_or (filter p sites) k d in
             found_in_whole site.address (found.Coherent site.versions site.freedom) (passes k d lt) (kept k d lt);
@@ -155,26 +176,64 @@ module _ (timed : Bool) (cuts : List ℕ) (part : ℕ) (whole there : Trace) (is
 
 -- ---- the parts together
 
+-- of two lists, each element of the one with each of the other
+all_pairs_append : {X : Type 0} (R : X → X → Type 0) (xs ys : List X) → AllPairs R xs → AllPairs R ys
+    → ((x y : X) → Contains xs x → Contains ys y → R x y) → AllPairs R (xs ++ ys)
+all_pairs_append R [] ys low high across = high
+all_pairs_append R (x ∷ xs) ys low high across =
+    AllPairs-cons R x (xs ++ ys)
+    (All-append (R x) xs ys (λ k d lt. low 0 (suc k) d (omega arith) (omega (arith, lt)))
+    (λ k d lt. across x (slice_index_or ys k d) (Contains-append_left (x ∷ []) xs x (0, omega arith, refl)) (Contains-get_or ys k d lt)))
+    (all_pairs_append R xs ys (λ i j d lt in_. low (suc i) (suc j) d (omega (arith, lt)) (omega (arith, in_))) high
+    (λ a b in_a in_b. across a b (Contains-append_right (x ∷ []) xs a in_a) in_b))
+
+-- an address that is no lower is in no lower part
+part_rises : (cuts : List ℕ) (x y : ℕ) → x ≤ y → part_of cuts x ≤ part_of cuts y
+part_rises [] x y le = omega arith
+part_rises (cut ∷ cuts) x y le =
+    let rest = part_rises cuts x y le in
+    let low = sum_by-cons (λ (c : ℕ). cond (leb c x) 1 0) cut cuts in
+    let high = sum_by-cons (λ (c : ℕ). cond (leb c y) 1 0) cut cuts in
+    grind (arith, cases_Bool, nat_tests)
+
 -- the addresses in one more part are explained as well
 pub named_more : (timed : Bool) (cuts : List ℕ) (trace : Trace) (part : ℕ) (old sites new : List SiteVersions) → new ≡ old ++ sites
-    → ((address : ℕ) → part_of cuts address < part → Names trace address → Contains (addresses_of old) address)
+    → ((address : ℕ) → (Names trace address × (part_of cuts address < part)) ↔ Contains (addresses_of old) address)
     → ArePartExplained timed cuts part trace sites
-    → (address : ℕ) → part_of cuts address < part + 1 → Names trace address → Contains (addresses_of new) address
-named_more timed cuts trace part old sites new is before here address below names =
+    → (address : ℕ) → (Names trace address × (part_of cuts address < part + 1)) ↔ Contains (addresses_of new) address
+named_more timed cuts trace part old sites new is before here address =
     let longer : addresses_of new ≡ addresses_of old ++ addresses_of sites =
-    ap addresses_of is ∙ map-append (λ (site : SiteVersions). site.address) old sites in
-    subst (λ (xs : List ℕ). Contains xs address) (sym longer) (elim (cases_eq (part_of cuts address) part) [
-      | inl at ↦ Contains-append_right (addresses_of old) (addresses_of sites) address (here.named address at names)
-      | inr isnt ↦ Contains-append_left (addresses_of old) (addresses_of sites) address (before address (omega (arith, below, isnt)) names)
-    ])
+    ap addresses_of is ∙ map-append (λ (site : SiteVersions). site.address) old sites in (
+      (λ names. subst (λ (xs : List ℕ). Contains xs address) (sym longer) (elim (cases_eq (part_of cuts address) part) [
+        | inl at ↦ Contains-append_right (addresses_of old) (addresses_of sites) address ((here.named address).0 (names.0, at))
+        | inr isnt ↦
+            let below = names.1 in
+            Contains-append_left (addresses_of old) (addresses_of sites) address ((before address).0 (names.0, omega (arith, below, isnt)))
+      ])),
+      (λ had. elim (Contains-append_cases (addresses_of old) (addresses_of sites) address (subst (λ (xs : List ℕ). Contains xs address) longer had)) [
+        | inl early ↦ let names = (before address).1 early in (names.0, let below = names.1 in omega (arith, below))
+        | inr late ↦ let names = (here.named address).1 late in (names.0, let at = names.1 in omega (arith, at))
+      ]),
+    )
+
+-- and they rise
+pub rising_more : (timed : Bool) (cuts : List ℕ) (trace : Trace) (part : ℕ) (old sites new : List SiteVersions) → new ≡ old ++ sites
+    → ((address : ℕ) → (Names trace address × (part_of cuts address < part)) ↔ Contains (addresses_of old) address)
+    → AllPairs (λ x y. x < y) (addresses_of old) → ArePartExplained timed cuts part trace sites → AllPairs (λ x y. x < y) (addresses_of new)
+rising_more timed cuts trace part old sites new is before rising here =
+    subst (AllPairs (λ (x y : ℕ). x < y)) (sym (ap addresses_of is ∙ map-append (λ (site : SiteVersions). site.address) old sites))
+    (all_pairs_append (λ (x y : ℕ). x < y) (addresses_of old) (addresses_of sites) rising here.rising (λ x y in_x in_y.
+    let low = ((before x).1 in_x).1 in
+    let at = ((here.named y).1 in_y).1 in
+    elim (cases_lt x y) [
+      | inl lt ↦ lt
+      | inr le ↦ let parts = part_rises cuts y x le in absurd (omega (arith, low, at, parts))
+    ]))
 
 pub each_more : (timed : Bool) (cuts : List ℕ) (trace : Trace) (part : ℕ) (old sites new : List SiteVersions) → new ≡ old ++ sites
-    → All (λ there. IsFoundAt timed trace there.address (found.Coherent there.versions there.freedom)) old
-    → ArePartExplained timed cuts part trace sites
-    → All (λ there. IsFoundAt timed trace there.address (found.Coherent there.versions there.freedom)) new
+    → All (IsExplainedAt timed trace) old → ArePartExplained timed cuts part trace sites → All (IsExplainedAt timed trace) new
 each_more timed cuts trace part old sites new is before here =
-    subst (All (λ there. IsFoundAt timed trace there.address (found.Coherent there.versions there.freedom))) (sym is)
-    (All-append (λ there. IsFoundAt timed trace there.address (found.Coherent there.versions there.freedom)) old sites before here.each)
+    subst (All (IsExplainedAt timed trace)) (sym is) (All-append (IsExplainedAt timed trace) old sites before here.each)
 
 -- the judgement behind those so far is of the next part
 pub next_judged : {E : Type 0} (timed : Bool) (cuts : List ℕ) (trace : Trace) (done rest all : List (Result Judgement E)) (one : Result Judgement E)

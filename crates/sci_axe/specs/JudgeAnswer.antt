@@ -8,7 +8,7 @@ use Rattle.sci_command.specs.{declared.outcome.Outcome.{Outcome, TheVariants.{Do
 use Rattle.sci_judge.specs.declared.{judging.{Judgement.{Judgement}, SiteVersions.{SiteVersions}}, logging.{Log.{Log}, NoLog.{NoLog}}, trace.Trace.{Trace}}
 use Rattle.sci_judge.specs.declared.judging.Judgement.TheVariants.{Coherent, NotCoherent, Undecided}
 use Rattle.sci_judge.specs.declared.consistency.Consistency.{Consistency}
-use Rattle.sci_judge.specs.{Consistency.{IsConsistency}, Judgement.{AreExplained, IsJudgement, addresses_of}, Logged.{IsLogOf, IsNoLog}}
+use Rattle.sci_judge.specs.{Consistency.{IsOrdering}, Judgement.{AreExplained, IsJudgement, addresses_of}, Logged.{IsLogOf, IsNoLog}}
 use Rattle.sci_axe.specs.{declared.judging.JudgeRequest.{JudgeRequest}, Telling.{consistency_text, judgement_text, outcome_of}, Trace.{IsTrace, IsTraceFault}}
 
 -- the text of a log of a trace, of a machine of sixteen nodes
@@ -17,17 +17,10 @@ pub record IsLogText (trace : Trace) (sites : List SiteVersions) (text : List �
   pub of : IsLogOf trace sites log
   pub written : text ≡ log_text MAX_NODES log.logs log.last
 
--- what is said of one order of all operations holds; it is said of a coherent trace, if it is asked for
-abbrev pub IsOrdering : JudgeRequest → Trace → Judgement → Option Consistency → Type 0
-IsOrdering request trace (Coherent sites) None = request.ordered ≡ false
-IsOrdering request trace (Coherent sites) (Some consistency) = (request.ordered ≡ true) × IsConsistency request.timed trace sites.items consistency
-IsOrdering request trace (NotCoherent address there witness) consistency = consistency ≡ None
-IsOrdering request trace (Undecided address) consistency = consistency ≡ None
-
 -- the words of a judgement and of an order, and no line of memory
 pub record IsVerdictText (request : JudgeRequest) (trace : Trace) (judgement : Judgement) (lines text : List ℕ) (outcome : Outcome) : Type 0 where
   pub consistency : Option Consistency
-  pub ordering : IsOrdering request trace judgement consistency
+  pub ordering : IsOrdering request.timed request.ordered trace judgement consistency
   pub written : text ≡ judgement_text judgement ++ consistency_text trace.accesses.items consistency
   pub ends : outcome ≡ outcome_of judgement consistency
   pub no_lines : lines ≡ []

@@ -1,10 +1,9 @@
 -- The parts of a trace, whose addresses are shared out.
-use Rattle.std.specs.Prelude.{◌≡◌, ◌<◌, ℕ, ◌==◌, leb, if◌then◌else◌, Bool, List, length, Option, None, Result, IfOk, count_by, filter, slice_index_or}
-use Rattle.std.specs.List.{All, Contains}
+use Rattle.std.specs.Prelude.{◌≡◌, ◌<◌, ◌↔◌, ℕ, ◌==◌, leb, if◌then◌else◌, Bool, List, length, Option, None, Result, IfOk, count_by, filter, slice_index_or}
+use Rattle.std.specs.List.{All, AllPairs, Contains}
 use Rattle.sci_judge.specs.declared.{judging.{Judgement.{Judgement}, SiteVersions.{SiteVersions}}, trace.Trace.{Trace}}
-use Rattle.sci_judge.specs.declared.finding.Finding.TheVariants as found
 use Rattle.sci_judge.specs.declared.judging.Judgement.TheVariants.{Coherent, NotCoherent, Undecided}
-use Rattle.sci_judge.specs.Judgement.{IsFoundAt, IsJudgement, Names, addresses_of, last_at}
+use Rattle.sci_judge.specs.Judgement.{IsExplainedAt, IsJudgement, Names, addresses_of, last_at}
 
 -- the number of the part that an address is in, from 0: how many of the cuts aren't above it
 abbrev pub part_of : (cuts : List ℕ) → (address : ℕ) → ℕ
@@ -22,10 +21,11 @@ pub record IsPart (cuts : List ℕ) (part : ℕ) (whole there : Trace) : Type 0 
   pub accesses : there.accesses.items ≡ filter (λ access. is_in_part cuts part access.address) whole.accesses.items
   pub last : (address : ℕ) → last_at address there ≡ last_in cuts part whole address
 
--- versions explain all operations of a trace at each address in a part that the trace names
+-- versions explain all operations of a trace at each address in a part that the trace names, and at no others; the addresses rise
 pub record ArePartExplained (timed : Bool) (cuts : List ℕ) (part : ℕ) (trace : Trace) (explained : List SiteVersions) : Type 0 where
-  pub named : (address : ℕ) → part_of cuts address ≡ part → Names trace address → Contains (addresses_of explained) address
-  pub each : All (λ there. IsFoundAt timed trace there.address (found.Coherent there.versions there.freedom)) explained
+  pub named : (address : ℕ) → (Names trace address × (part_of cuts address ≡ part)) ↔ Contains (addresses_of explained) address
+  pub rising : AllPairs (λ x y. x < y) (addresses_of explained)
+  pub each : All (IsExplainedAt timed trace) explained
 
 -- what is answered of a part holds of the whole trace
 abbrev pub IsPartJudged : (timed : Bool) → (cuts : List ℕ) → (part : ℕ) → Trace → Judgement → Type 0

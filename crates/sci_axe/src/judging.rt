@@ -4,13 +4,13 @@ ghost use Rattle.std.specs.Prelude.{◌≡◌, ◌⊎◌, ◌++◌, false, IfOk,
 ghost use Rattle.sci_text.specs.{declared.fault.TextFaultKind.TheVariants.{Memory, TooMany}, Tap.{has_failed}};
 ghost use Rattle.sci_command.specs.{Answer.{HasAnswered}, declared.outcome.Outcome.{Outcome}};
 ghost use Rattle.sci_judge.specs.{Access.{AreKnown}, Judgement.{addresses_of}};
-ghost use Rattle.sci_axe.specs.JudgeAnswer.{IsJudgeAnswer, IsJudgeRefusal, IsOrdering, IsLogText, IsNoLogFault, logged_sites};
+ghost use Rattle.sci_axe.specs.JudgeAnswer.{IsJudgeAnswer, IsJudgeRefusal, IsLogText, IsNoLogFault, logged_sites};
 
 use crate::misread::read_trace;
 use crate::sharing::judge_shared;
 use crate::telling::told;
 use sci_command::{Answer, Answered, Note, Outcome, Refusal};
-use sci_judge::{Consistency, Judgement, NoLog, SiteVersions, Trace, Way, consistency_of, log_of};
+use sci_judge::{Judgement, NoLog, SiteVersions, Trace, Way, consistency_of, log_of};
 use sci_text::{Tap, TextFaultKind, logs_text, read_input};
 use sci_words::MAX_NODES;
 use std::alloc::{AllocError, Global};
@@ -88,24 +88,6 @@ fn sites_to_log(request: JudgeRequest, judgement: &Judgement) -> Option<&[SiteVe
 /// How many choices a search makes at most, if it isn't said.
 const LIMIT: u64 = 1_000_000;
 
-/// Whether one order explains all operations of a coherent trace, if that is asked for.
-fn ordering(
-    alloc: Global,
-    request: JudgeRequest,
-    trace: &Trace,
-    judgement: &Judgement,
-) -> Result<Option<Consistency>, AllocError>
-    requires { AreKnown trace.now.accesses.items }
-    ensures { IfOk result (IsOrdering request trace.now judgement.now) }
-{
-    match judgement {
-        Judgement::Coherent(sites) if request.ordered => {
-            Ok(Some(consistency_of(alloc, trace, sites, request.timed)?))
-        }
-        _ => Ok(None),
-    }
-}
-
 /// Reads a trace to its end and judges the operations at each address. Done, with the line `coherent` and one that says whether
 /// other versions explain them as well, if those at each address are coherent; or if a log is asked for, with the log. If an order
 /// of all operations is asked for, one more line says whether there is one, and the answer is Unlawful unless one was found. It is
@@ -139,7 +121,7 @@ pub fn judge_trace<T: Threads + Sync, R: Read>(
     match sites_to_log(request, &judgement) {
         Some(sites) => logged(alloc, &trace, sites, lines),
         None => {
-            let consistency = ordering(alloc, request, &trace, &judgement)?;
+            let consistency = consistency_of(alloc, &trace, &judgement, way)?;
             Ok(told(alloc, &judgement, &trace.accesses, &consistency)?)
         }
     }

@@ -1,12 +1,15 @@
 //! What is written of a judgement.
 
-ghost use Rattle.std.specs.{Prelude.{◌≡◌, ◌++◌, IfOk, OnOk}, List.{flat_map, list_any}};
+ghost use Rattle.std.specs.{Prelude.{◌≡◌, ◌++◌, IfOk, OnOk}, List.{flat_map}};
 ghost use Rattle.sci_axe.specs.Telling.{access_at as access_at_of, access_text, cycle_text, early_text, found_text, consistency_text, inner_text, joint_text, judgement_text as judgement_text_of, kind_text, link_text, memory_text, order_text, pair_text, reason_text};
 ghost use Rattle.sci_axe.specs.Telling.{no_order_text, outcome_of, step_text, told_at, turn_text, versions_text, witness_text, wrote_text};
-ghost use Rattle.sci_judge.specs.Judgement.{at_address, is_free, is_unknown};
+ghost use Rattle.sci_judge.specs.Judgement.{at_address};
 
 use sci_command::{Answer, Outcome};
-use sci_judge::{Access, Consistency, Judgement, Kind, Link, Reason, SiteVersions, Step, Witness};
+use sci_judge::{
+    Access, Consistency, Judgement, Kind, Link, Reason, SiteVersions, Step, Witness, are_free,
+    are_unknown,
+};
 use sci_text::{push_field, push_number, push_text};
 use sci_words::Word;
 use std::alloc::{AllocError, Global};
@@ -318,30 +321,6 @@ fn push_cycle(out: &mut Vec<u8>, accesses: &[Access], links: &[Link]) -> Result<
     }
     push_link(out, accesses, link, first.place)?;
     Ok(())
-}
-
-/// Whether other versions explain the operations at some address as well.
-fn are_free(sites: &[SiteVersions]) -> bool
-    ensures { result ≡ list_any (λ there. is_free there.freedom) sites.now }
-{
-    for site in sites {
-        if site.freedom.is_free() {
-            return true;
-        }
-    }
-    false
-}
-
-/// Whether it isn't known of the operations at some address.
-fn are_unknown(sites: &[SiteVersions]) -> bool
-    ensures { result ≡ list_any (λ there. is_unknown there.freedom) sites.now }
-{
-    for site in sites {
-        if site.freedom.is_unknown() {
-            return true;
-        }
-    }
-    false
 }
 
 /// Whether the versions of the operations at all addresses are forced, in words.

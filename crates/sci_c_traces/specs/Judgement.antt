@@ -1,13 +1,13 @@
 -- What the judge says of a trace, as structs.
-use Rattle.std.specs.Prelude.{◌≡◌, ◌∷◌, [], ℕ, ◌==◌, Bool, true, false, not, if◌then◌else◌, List, Option, Some, None, length, map, slice_get}
+use Rattle.std.specs.Prelude.{◌≡◌, ◌∷◌, [], ℕ, ◌==◌, Bool, not, if◌then◌else◌, List, Option, Some, None, length, map, slice_get}
 use Rattle.std.specs.List.{flat_map, list_any}
-use Rattle.sci_judge.specs.declared.{access.Access.{Access}, cycle.Link.{Link}, trace.Trace.{Trace}, consistency.Consistency.{Consistency}}
+use Rattle.sci_judge.specs.declared.{access.Access.{Access}, trace.Trace.{Trace}, consistency.Consistency.{Consistency}}
 use Rattle.sci_judge.specs.declared.judging.{Judgement.{Judgement}, SiteVersions.{SiteVersions}}
 use Rattle.sci_judge.specs.declared.judging.Judgement.TheVariants.{Coherent, NotCoherent, Undecided}
 use Rattle.sci_judge.specs.declared.consistency.Consistency.TheVariants.{Sequential, Cycle, NotSequential, Unknown}
 use Rattle.sci_judge.specs.declared.witness.{Step.{Step, TheVariants.{Follows, Swaps, Falls, Rises, Starts, Ends}}}
 use Rattle.sci_judge.specs.declared.witness.Witness.{Witness, TheVariants.{Unwritten, UnwrittenLast, Early, Circle, Round}}
-use Rattle.sci_judge.specs.{Consistency.{IsConsistency}, Judgement.{IsJudgement, is_free, is_unknown}}
+use Rattle.sci_judge.specs.{Consistency.{IsOrdering}, Judgement.{IsJudgement, is_free, is_unknown}}
 use Rattle.sci_c_traces.specs.declared.{access.SciAccess.{SciAccess}, judgement.SciJudgement.{SciJudgement}, trace.SciLastWord.{SciLastWord}}
 use Rattle.sci_c_traces.specs.Trace.{SaysTrace}
 
@@ -86,13 +86,6 @@ judgement_struct (NotCoherent address there witness) consistency named =
     record { kind = 1; freedom = 0; consistency = 0; witness = witness_number witness; address = address; named = named }
 judgement_struct (Undecided address) consistency named =
     record { kind = 2; freedom = 0; consistency = 0; witness = 0; address = address; named = named }
-
--- what is said of one order of all operations holds; it is said of a coherent trace, if it is asked for
-abbrev pub IsOrdering : (timed ordered : Bool) → Trace → Judgement → Option Consistency → Type 0
-IsOrdering timed ordered trace (Coherent sites) None = ordered ≡ false
-IsOrdering timed ordered trace (Coherent sites) (Some consistency) = (ordered ≡ true) × IsConsistency timed trace sites.items consistency
-IsOrdering timed ordered trace (NotCoherent address there witness) consistency = consistency ≡ None
-IsOrdering timed ordered trace (Undecided address) consistency = consistency ≡ None
 
 -- The struct is of a verdict that holds of a trace, and these are the operations that the verdict names.
 pub record IsVerdictOn (timed ordered : Bool) (trace : Trace) (c : SciJudgement) (ids : List ℕ) : Type 0 where

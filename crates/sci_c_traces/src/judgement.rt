@@ -1,11 +1,12 @@
 //! What the judge says, as a struct.
 
 ghost use Rattle.std.specs.Prelude.{◌≡◌, IfOk};
-ghost use Rattle.std.specs.List.{flat_map, list_any};
-ghost use Rattle.sci_judge.specs.Judgement.{is_free, is_unknown};
+ghost use Rattle.std.specs.List.{flat_map};
 ghost use Rattle.sci_c_traces.specs.Judgement.{consistency_number, freedom_number, id_at, judgement_struct, named_ids, step_places, witness_number, witness_places};
 
-use sci_judge::{Access, Consistency, Judgement, Link, SiteVersions, Step, Trace, Witness};
+use sci_judge::{
+    Access, Consistency, Judgement, Link, SiteVersions, Step, Trace, Witness, are_free, are_unknown,
+};
 use std::alloc::{AllocError, Global};
 
 /// What the judge says of a trace. `kind` is 0 if it is coherent, 1 if it isn't at `address`, and 2 if nothing was found of the
@@ -20,30 +21,6 @@ pub struct SciJudgement {
     pub witness: u32,
     pub address: u64,
     pub named: u64,
-}
-
-/// Whether other versions explain the operations at some address as well.
-fn are_free(sites: &[SiteVersions]) -> bool
-    ensures { result ≡ list_any (λ there. is_free there.freedom) sites.now }
-{
-    for site in sites {
-        if site.freedom.is_free() {
-            return true;
-        }
-    }
-    false
-}
-
-/// Whether it isn't known of the operations at some address.
-fn are_unknown(sites: &[SiteVersions]) -> bool
-    ensures { result ≡ list_any (λ there. is_unknown there.freedom) sites.now }
-{
-    for site in sites {
-        if site.freedom.is_unknown() {
-            return true;
-        }
-    }
-    false
 }
 
 /// Whether versions are forced.

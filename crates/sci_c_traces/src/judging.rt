@@ -2,12 +2,12 @@
 
 ghost use Rattle.std.specs.Prelude.{◌≡◌, IfOk, IfSome, None};
 ghost use Rattle.sci_judge.specs.Access.{AreKnown};
-ghost use Rattle.sci_c_traces.specs.{Judgement.{IsOrdering, IsTraceVerdict, IsVerdictOn, is_yes}, Trace.{SayNoTrace}};
+ghost use Rattle.sci_c_traces.specs.{Judgement.{IsTraceVerdict, IsVerdictOn, is_yes}, Trace.{SayNoTrace}};
 
 use crate::access::SciAccess;
 use crate::judgement::{SciJudgement, ids_of, judgement_out};
 use crate::trace::{SciLastWord, trace_in};
-use sci_judge::{Consistency, Judgement, Trace, Way, consistency_of, judge};
+use sci_judge::{Trace, Way, consistency_of, judge};
 use std::alloc::{AllocError, Global};
 
 /// How a trace is judged. `timed` and `ordered` are 0 for no, and any other number for yes. A search makes `limit` choices at most.
@@ -28,24 +28,6 @@ pub struct TraceVerdict {
     pub ids: Vec<u64>,
 }
 
-/// Whether one order explains all operations of a coherent trace, if that is asked for.
-fn ordering(
-    alloc: Global,
-    trace: &Trace,
-    judgement: &Judgement,
-    way: Way,
-) -> Result<Option<Consistency>, AllocError>
-    requires { AreKnown trace.now.accesses.items }
-    ensures { IfOk result (IsOrdering way.timed way.ordered trace.now judgement.now) }
-{
-    match judgement {
-        Judgement::Coherent(sites) if way.ordered => {
-            Ok(Some(consistency_of(alloc, trace, sites, way.timed)?))
-        }
-        _ => Ok(None),
-    }
-}
-
 /// Judges a trace.
 fn verdict_on(alloc: Global, trace: &Trace, way: Way) -> Result<TraceVerdict, AllocError>
     requires { AreKnown trace.now.accesses.items }
@@ -53,7 +35,7 @@ fn verdict_on(alloc: Global, trace: &Trace, way: Way) -> Result<TraceVerdict, Al
         IsVerdictOn way.timed way.ordered trace.now verdict.judgement verdict.ids.items) }
 {
     let found = judge(alloc, trace, way)?;
-    let consistency = ordering(alloc, trace, &found, way)?;
+    let consistency = consistency_of(alloc, trace, &found, way)?;
     let ids = ids_of(alloc, trace, &found, &consistency)?;
     let judgement = judgement_out(&found, &consistency, ids.len() as u64);
     Ok(TraceVerdict { judgement, ids })

@@ -4,7 +4,7 @@ use Rattle.std.proofs.Common.{refl, sym, ap, subst, ◌∙◌, arith, inl, inr, 
 use Rattle.std.proofs.lemmas.Bool.{cases_Bool, cases_eq, cases_lt, eq-eqb, ne_eqb}
 use Rattle.std.proofs.lemmas.{List.{append-nil, length-map}, List.Sums.{sum_by-cons}}
 use Rattle.std.proofs.lemmas.Option.{get_or_from_slice_get, slice_get-get_or, slice_get-map, slice_get_cases, slice_get_within}
-use Rattle.std.specs.{Prelude.{slice_get, count_by, option_map}, List.{AllPairs, filter}}
+use Rattle.std.specs.{Prelude.{slice_get, count_by, option_map}, List.{All, AllPairs, filter}}
 use Rattle.sci_words.specs.{declared.limits.TheConstants.{MAX_NODES}, Stamped.{zero_stamped}}
 use Rattle.sci_history.specs.{declared.entry.Entry.{Entry}, Memory.{stamped_at}, Placed.{is_making as makes_entry, is_of_node, is_on_line, log_of}}
 use Rattle.sci_history.specs.Sequential.{IsSequentialOrder}
@@ -15,7 +15,7 @@ use Rattle.sci_judge.specs.declared.{judging.SiteVersions.{SiteVersions}, loggin
 use Rattle.sci_judge.specs.declared.cycle.Reason.TheVariants as reason
 use Rattle.sci_judge.specs.Access.{AreKnown, is_making, is_writing, left_by}
 use Rattle.sci_judge.specs.Cycle.{AreAtOneAddress, AreLinked, HasNoOrderAtAll, IsCycle, IsFirst, StandsFirst}
-use Rattle.sci_judge.specs.{Judgement.{AreExplained, addresses_of, at_address, is_at, last_at}, Logged.{AreEntriesOf, IsEntryOf, IsLogOf}}
+use Rattle.sci_judge.specs.{Judgement.{IsExplainedAt, addresses_of, at_address, is_at, last_at}, Logged.{AreEntriesOf, IsEntryOf, IsLogOf}}
 use Rattle.sci_judge.specs.{Stamped.{IsExplainedBy}, Witness.{AreInTurn, ComesBefore, IsAt, IsPath}}
 use Rattle.sci_judge.proofs.Explained.{version_in}
 use Rattle.sci_judge.proofs.Forced.{are_of, behind_writer, below, explanation, reads_same, writing_makes}
@@ -144,7 +144,7 @@ making_of (Atomic read wrote) addresses done a e kind is = rw (is.act, kind) ref
 -- ---- operations in an order
 
 module _ (timed : Bool) (trace : Trace) (sites : List SiteVersions) (log : Log) (order : List Entry) (known : AreKnown trace.accesses.items)
-    (explained : AreExplained timed trace sites) (is : IsLogOf trace sites log) (sequential : IsSequentialOrder log.logs log.last order) where
+    (explained : All (IsExplainedAt timed trace) sites) (is : IsLogOf trace sites log) (sequential : IsSequentialOrder log.logs log.last order) where
   abbrev accesses : List Access
   accesses = trace.accesses.items
 
@@ -230,7 +230,7 @@ module _ (timed : Bool) (trace : Trace) (sites : List SiteVersions) (log : Log) 
             sym (slice_get-map (λ (s : SiteVersions). s.address) sites line
             ∙ ap (option_map (λ (s : SiteVersions). s.address)) (slice_get-get_or sites line some.0 lt)) ∙ here.has.is.line in
             cc in
-            let found = explained.each line some.0 lt in
+            let found = explained line some.0 lt in
             record {
               versions = site.versions.items;
               explains = subst (λ (k : ℕ). IsExplainedBy timed (at_address k accesses) (last_at k trace) site.versions.items) of found.0;

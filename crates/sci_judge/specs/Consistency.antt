@@ -1,7 +1,9 @@
 -- Whether one order of all operations explains a trace.
-use Rattle.std.specs.Prelude.{◌≡◌, Bool, List, All}
+use Rattle.std.specs.Prelude.{◌≡◌, Bool, true, false, List, All, Option, Some, None}
 use Rattle.sci_history.specs.Sequential.{IsSequentiallyConsistent}
-use Rattle.sci_judge.specs.declared.{consistency.Consistency.{Consistency}, judging.SiteVersions.{SiteVersions}, logging.Log.{Log}, trace.Trace.{Trace}}
+use Rattle.sci_judge.specs.declared.{consistency.Consistency.{Consistency}, logging.Log.{Log}, trace.Trace.{Trace}}
+use Rattle.sci_judge.specs.declared.judging.{Judgement.{Judgement}, SiteVersions.{SiteVersions}}
+use Rattle.sci_judge.specs.declared.judging.Judgement.TheVariants.{Coherent, NotCoherent, Undecided}
 use Rattle.sci_judge.specs.declared.consistency.Consistency.TheVariants as consistency
 use Rattle.sci_judge.specs.declared.finding.Freedom.TheVariants.{Forced}
 use Rattle.sci_judge.specs.{Cycle.{HasNoOrderAtAll, IsCycle}, Logged.{IsLogOf}}
@@ -24,3 +26,10 @@ IsConsistency timed trace sites consistency.Sequential = HasOrder trace sites
 IsConsistency timed trace sites (consistency.Cycle links) = IsCycle timed trace links.items × HasNoOrderAtAll timed trace
 IsConsistency timed trace sites consistency.NotSequential = HasNoOrder trace sites
 IsConsistency timed trace sites consistency.Unknown = Unit {0}
+
+-- what is said of one order of all operations holds; it is said of a coherent trace, if it is asked for
+abbrev pub IsOrdering : (timed ordered : Bool) → Trace → Judgement → Option Consistency → Type 0
+IsOrdering timed ordered trace (Coherent sites) None = ordered ≡ false
+IsOrdering timed ordered trace (Coherent sites) (Some consistency) = (ordered ≡ true) × IsConsistency timed trace sites.items consistency
+IsOrdering timed ordered trace (NotCoherent address there witness) consistency = consistency ≡ None
+IsOrdering timed ordered trace (Undecided address) consistency = consistency ≡ None

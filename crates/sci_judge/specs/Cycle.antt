@@ -1,12 +1,12 @@
 -- What shows that no one order of all operations explains a trace, whatever their versions are.
-use Rattle.std.specs.Prelude.{◌≡◌, ◌<◌, ℕ, Bool, true, false, List, [], ◌∷◌, None}
+use Rattle.std.specs.Prelude.{◌≡◌, ◌<◌, ℕ, All, Bool, true, false, List, [], ◌∷◌, None}
 use Rattle.std.specs.List.Sorted.{IsNonDecreasingBy}
 use Rattle.sci_history.specs.Sequential.{IsSequentiallyConsistent}
 use Rattle.sci_judge.specs.Access.{is_writing, left_by}
 use Rattle.sci_judge.specs.declared.{access.Access.{Access}, cycle.Link.{Link}, cycle.Reason.{Reason}, judging.SiteVersions.{SiteVersions}}
 use Rattle.sci_judge.specs.declared.{logging.Log.{Log}, trace.Trace.{Trace}}
 use Rattle.sci_judge.specs.declared.cycle.Reason.TheVariants as reason
-use Rattle.sci_judge.specs.{Judgement.{AreExplained, at_address, last_at}, Logged.{IsLogOf}, Witness.{AreWrittenOnce, IsAt, IsPath}}
+use Rattle.sci_judge.specs.{Judgement.{IsExplainedAt, at_address, last_at}, Logged.{IsLogOf}, Witness.{AreWrittenOnce, IsAt, IsPath}}
 
 -- two operations at one address at which each word is written at most once
 pub record AreAtOneAddress (trace : Trace) (y x : Access) : Type 0 where
@@ -38,10 +38,10 @@ abbrev pub IsCycle : (timed : Bool) → Trace → List Link → Type 0
 IsCycle timed trace [] = ⊥
 IsCycle timed trace (link ∷ links) = (y : Access) × IsAt trace.accesses.items link.place y × AreLinked timed trace link y links link.place y
 
--- no log of the trace, by whatever versions explain it, is sequentially consistent
+-- no log of the trace, by whatever versions explain the operations at its addresses, is sequentially consistent
 abbrev pub HasNoOrderAtAll : (timed : Bool) → Trace → Type 0
 HasNoOrderAtAll timed trace =
-    (sites : List SiteVersions) (log : Log) → AreExplained timed trace sites → IsLogOf trace sites log → IsSequentiallyConsistent log.logs log.last → ⊥
+    (sites : List SiteVersions) (log : Log) → All (IsExplainedAt timed trace) sites → IsLogOf trace sites log → IsSequentiallyConsistent log.logs log.last → ⊥
 
 -- ---- inside
 

@@ -1,6 +1,6 @@
 -- What the judge answers.
-use Rattle.std.specs.Prelude.{◌≡◌, ◌⊎◌, ◌==◌, ℕ, Bool, true, false, List, map, Option, IsSome, filter}
-use Rattle.std.specs.{BTreeMap.{get}, List.{All, Contains, list_any}, Ordering.{nat_cmp}}
+use Rattle.std.specs.Prelude.{◌≡◌, ◌<◌, ◌⊎◌, ◌↔◌, ◌==◌, ℕ, Bool, true, false, List, map, Option, IsSome, filter}
+use Rattle.std.specs.{BTreeMap.{get}, List.{All, AllPairs, Contains, list_any}, Ordering.{nat_cmp}}
 use Rattle.sci_judge.specs.declared.{access.Access.{Access}, finding.{Finding.{Finding}, Freedom.{Freedom}}, trace.Trace.{Trace}}
 use Rattle.sci_judge.specs.declared.finding.Finding.TheVariants as found
 use Rattle.sci_judge.specs.declared.finding.Freedom.TheVariants as freedom
@@ -57,10 +57,15 @@ IsFoundAt timed trace address finding = IsFinding timed (at_address address trac
 abbrev pub addresses_of : List SiteVersions → List ℕ
 addresses_of explained = map (λ there. there.address) explained
 
--- versions explain the operations at each address that a trace names
+-- versions explain the operations at an address, and what is said of others holds
+abbrev pub IsExplainedAt : (timed : Bool) → Trace → SiteVersions → Type 0
+IsExplainedAt timed trace there = IsFoundAt timed trace there.address (found.Coherent there.versions there.freedom)
+
+-- Versions explain the operations at each address that a trace names. The addresses are those that it names, each once, and rise.
 pub record AreExplained (timed : Bool) (trace : Trace) (explained : List SiteVersions) : Type 0 where
-  pub named : (address : ℕ) → Names trace address → Contains (addresses_of explained) address
-  pub each : All (λ there. IsFoundAt timed trace there.address (found.Coherent there.versions there.freedom)) explained
+  pub named : (address : ℕ) → Names trace address ↔ Contains (addresses_of explained) address
+  pub rising : AllPairs (λ x y. x < y) (addresses_of explained)
+  pub each : All (IsExplainedAt timed trace) explained
 
 -- what is answered of a trace holds of it: at each address that it names, or at the one that is answered
 abbrev pub IsJudgement : (timed : Bool) → Trace → Judgement → Type 0

@@ -1,11 +1,11 @@
 //! Whether one order of all operations explains a trace.
 
 ghost use Rattle.std.specs.{Bool.{OnTrue}, Prelude.{IfOk}};
-ghost use Rattle.sci_judge.specs.{Access.{AreKnown}, Consistency.{AreAllForced, IsConsistency}};
+ghost use Rattle.sci_judge.specs.{Access.{AreKnown}, Consistency.{AreAllForced, IsConsistency, IsOrdering}};
 
 use crate::cycle::Link;
 use crate::finding::Freedom;
-use crate::judging::SiteVersions;
+use crate::judging::{Judgement, SiteVersions, Way};
 use crate::linking::order_cycle;
 use crate::logging::{NoLog, log_of};
 use crate::trace::Trace;
@@ -64,8 +64,8 @@ fn by_log(
 /// Whether one order of all operations explains a trace whose operations are explained by versions at each address: Sequential
 /// if the log by these versions is sequentially consistent; Cycle if operations stand before one another in a circle, whatever the
 /// versions; NotSequential if the log isn't sequentially consistent and no other versions explain the operations; and else Unknown.
-/// With `timed`, Cycle is said of versions that respect times. Refused only if memory is.
-pub fn consistency_of(
+/// With `timed`, Cycle is said of versions that respect times.
+fn consistency_by(
     alloc: Global,
     trace: &Trace,
     sites: &[SiteVersions],
@@ -84,4 +84,23 @@ pub fn consistency_of(
         }
     }
     Ok(found)
+}
+
+/// Whether one order of all operations explains a trace with this judgement, if that is asked for. Of a trace that isn't coherent it
+/// isn't said. Refused only if memory is.
+pub fn consistency_of(
+    alloc: Global,
+    trace: &Trace,
+    judgement: &Judgement,
+    way: Way,
+) -> Result<Option<Consistency>, AllocError>
+    requires { AreKnown trace.now.accesses.items }
+    ensures { IfOk result (IsOrdering way.timed way.ordered trace.now judgement.now) }
+{
+    match judgement {
+        Judgement::Coherent(sites) if way.ordered => {
+            Ok(Some(consistency_by(alloc, trace, sites, way.timed)?))
+        }
+        _ => Ok(None),
+    }
 }

@@ -1,9 +1,9 @@
 //! The judge of a trace: each address by itself.
 
-ghost use Rattle.std.specs.Prelude.{◌≡◌, ℕ, true, IfOk, filter};
+ghost use Rattle.std.specs.Prelude.{◌≡◌, ◌↔◌, ℕ, true, IfOk, filter};
 ghost use Rattle.std.specs.{BTreeSet.{contains}, List.{list_any}, Ordering.{nat_cmp}};
 ghost use Rattle.std.specs.List.Sorted.{IsNonDecreasingBy};
-ghost use Rattle.sci_judge.specs.{Access.{AreKnown}, Judgement.{IsJudgement, Names, at_address, is_at}};
+ghost use Rattle.sci_judge.specs.{Access.{AreKnown}, Judgement.{IsJudgement, Names, at_address, is_at, is_free, is_unknown}};
 
 use crate::access::Access;
 use crate::finding::{Finding, Freedom};
@@ -29,7 +29,7 @@ pub struct SiteVersions {
 /// What is found of a trace.
 #[derive(Debug, Drop)]
 pub enum Judgement {
-    /// The operations at each address are coherent, by these versions. The addresses rise.
+    /// The operations at each address are coherent, by these versions. The addresses are those that the trace names, and rise.
     Coherent(Vec<SiteVersions>),
     /// The operations at this address are not coherent. They are given in the order of the trace, and the witness names them by
     /// their places there.
@@ -42,6 +42,30 @@ pub enum Judgement {
     Undecided {
         address: u64,
     },
+}
+
+/// Whether other versions explain the operations at some address as well.
+pub fn are_free(sites: &[SiteVersions]) -> bool
+    ensures { result ≡ list_any (λ there. is_free there.freedom) sites.now }
+{
+    for site in sites {
+        if site.freedom.is_free() {
+            return true;
+        }
+    }
+    false
+}
+
+/// Whether it isn't known of the operations at some address.
+pub fn are_unknown(sites: &[SiteVersions]) -> bool
+    ensures { result ≡ list_any (λ there. is_unknown there.freedom) sites.now }
+{
+    for site in sites {
+        if site.freedom.is_unknown() {
+            return true;
+        }
+    }
+    false
 }
 
 /// The operations by their addresses, and those at one address as they stand.
@@ -80,8 +104,8 @@ fn addresses_of(alloc: Global, accesses: &[Access]) -> Result<BTreeSet<u64>, All
 
 /// The addresses that a trace names.
 fn named(alloc: Global, trace: &Trace) -> Result<BTreeSet<u64>, AllocError>
-    ensures { IfOk result (λ set. (address : ℕ) → Names trace.now address →
-        contains nat_cmp set address ≡ true) }
+    ensures { IfOk result (λ set. (address : ℕ) →
+        Names trace.now address ↔ contains nat_cmp set address ≡ true) }
 {
     let mut addresses = addresses_of(alloc, &trace.accesses)?;
     for address in trace.last.keys() {

@@ -31,7 +31,7 @@ pub use consistency::{Consistency, consistency_of};
 pub use cycle::{Link, Reason};
 pub use finding::{Finding, Freedom};
 pub use forcing::Maker;
-pub use judging::{Judgement, SiteVersions, Way, judge};
+pub use judging::{Judgement, SiteVersions, Way, are_free, are_unknown, judge};
 pub use laws::{cycles_rule_out_order, witnesses_rule_out_coherence};
 pub use logging::{Log, NoLog, log_of};
 pub use site::Site;

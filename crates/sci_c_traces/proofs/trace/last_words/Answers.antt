@@ -1,5 +1,5 @@
 use Rattle.std.proofs.Common.{◌≡◌, false, true, rules, arith, subst}
-use Rattle.std.proofs.lemmas.{Bool.Decides.{nat_tests}, Grind.{common_steps}, List.{take_all}}
+use Rattle.std.proofs.lemmas.{List.{take_all}}
 use Rattle.std.specs.{BTreeMap.{get}, Ordering.{nat_cmp}}
 use Rattle.sci_c_traces.specs.Trace.{AreLastWords}
 use Rattle.sci_c_traces.specs.declared.trace.SciLastWord.{SciLastWord}

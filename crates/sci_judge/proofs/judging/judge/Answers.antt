@@ -1,39 +1,15 @@
-use Rattle.std.proofs.Common.{◌≡◌, ◌⊎◌, List, [], ◌∷◌, ◌++◌, Option, ap, ℕ, inl, inr, rules, subst, sym, ◌∙◌}
-use Rattle.std.proofs.lemmas.{List.{map-append}, List.Elements.{All-push, Contains-append_cases, Contains-append_left, Contains-append_right}}
-use Rattle.std.proofs.lemmas.Map.{Lookups.{exact_unsigned}, Views.{btree_set_contains_iff}}
-use Rattle.std.specs.{Cmp.{nat_cmp_total}, List.{All, Contains}}
+use Rattle.std.proofs.Common.{◌≡◌, ◌<◌, List, [], ◌∷◌, ◌++◌, Option, ap, append_assoc, ℕ, rules, subst, sym, ◌∙◌}
+use Rattle.std.proofs.lemmas.{List.{append-nil, map-append}, List.Elements.{All-push}, List.Kept.{AllPairs-from_increasing}}
+use Rattle.std.proofs.lemmas.Map.{Keys.{IsStrictlyIncreasing-from_sorted}, Lookups.{exact_unsigned}, Views.{btree_set_contains_iff}}
+use Rattle.std.specs.{BTreeSet.{keys}, Cmp.{nat_cmp_total}, List.{All, AllPairs, Contains}}
 use Rattle.sci_judge.specs.declared.{access.Access.{Access}, finding.Finding.TheVariants.{Coherent, NotCoherent}}
-use Rattle.sci_judge.specs.declared.{judging.SiteVersions.{SiteVersions}, trace.Trace.{Trace}}
-use Rattle.sci_judge.specs.Judgement.{IsFinding, IsFoundAt, Names, addresses_of, at_address, last_at}
+use Rattle.sci_judge.specs.declared.{judging.SiteVersions.{SiteVersions}}
+use Rattle.sci_judge.specs.Judgement.{IsExplainedAt, IsFinding, addresses_of, at_address, last_at}
 use Rattle.sci_judge.proofs.Runs.{site_known}
 use Rattle.sci_judge.proofs.judging.judge.Goals as goal
 
--- the address that was judged is explained, and those that come are fewer
-named_more : (trace : Trace) (old : List SiteVersions) (there : SiteVersions) (new : List SiteVersions) (before rest : List ℕ) → new ≡ old ++ there ∷ []
-    → before ≡ there.address ∷ rest
-    → ((address : ℕ) → Names trace address → Contains (addresses_of old) address ⊎ Contains before address)
-    → (address : ℕ) → Names trace address → Contains (addresses_of new) address ⊎ Contains rest address
-named_more trace old there new before rest pushed is all address names =
-    let longer : addresses_of new ≡ addresses_of old ++ there.address ∷ [] =
-    ap addresses_of pushed ∙ map-append (λ (e : SiteVersions). e.address) old (there ∷ []) in
-    elim (all address names) [
-      | inl old_ ↦ inl (subst (λ (xs : List ℕ). Contains xs address) (sym longer)
-          (Contains-append_left (addresses_of old) (there.address ∷ []) address old_))
-      | inr comes ↦ elim (Contains-append_cases (there.address ∷ []) rest address (subst (λ (xs : List ℕ). Contains xs address) is comes)) [
-        | inl this ↦ inl (subst (λ (xs : List ℕ). Contains xs address) (sym longer)
-            (Contains-append_right (addresses_of old) (there.address ∷ []) address this))
-        | inr later ↦ inr later
-      ]
-    ]
-
 pub loop-at-init : goal.loop-at-init
-loop-at-init c = record {
-  named = λ address names.
-      let keys = c.into_iter-at-iterator.ensures.into_iter_gives ∙ c.iter-at-items.ensures.rest in
-      inr (subst (λ (ks : List ℕ). Contains ks address) (sym keys)
-      ((btree_set_contains_iff nat_cmp_total exact_unsigned c.in_ok-addresses.addresses address).0 (c.in_ok-addresses.ensures address names)));
-  each = search rules;
-}
+loop-at-init c = record { parted = search rules; each = search rules }
 
 pub judge-requires : goal.judge-requires
 judge-requires c =
@@ -79,9 +55,29 @@ loop-at-preserved c =
     let pushed = c.in_ok-push-in-Coherent.ensures.items in
     let rest : c.loop-at.at-iterator ≡ address ∷ c.next.new.self = c.in-Some.ensures.steps in
     record {
-      named = named_more trace c.loop-at.explained.items there c.push.new.self.items c.loop-at.at-iterator c.next.new.self pushed rest
-          c.loop-at.invariant.named;
-      each = subst (All (λ e. IsFoundAt c.args.way.timed trace e.address (Coherent e.versions e.freedom))) (sym pushed)
-          (All-push (λ e. IsFoundAt c.args.way.timed trace e.address (Coherent e.versions e.freedom)) c.loop-at.explained.items there
-          c.loop-at.invariant.each found);
+      parted = ap (λ (ks : List ℕ). ks ++ c.next.new.self) (ap addresses_of pushed
+          ∙ map-append (λ (e : SiteVersions). e.address) c.loop-at.explained.items (there ∷ []))
+          ∙ (append_assoc (addresses_of c.loop-at.explained.items) (address ∷ []) c.next.new.self
+          ∙ (ap (λ (ks : List ℕ). addresses_of c.loop-at.explained.items ++ ks) (sym rest) ∙ c.loop-at.invariant.parted));
+      each = subst (All (IsExplainedAt c.args.way.timed trace)) (sym pushed)
+          (All-push (IsExplainedAt c.args.way.timed trace) c.loop-at.explained.items there c.loop-at.invariant.each found);
+    }
+
+pub returns : goal.returns
+returns c =
+    let addresses = c.in_ok-addresses.addresses in
+    let gone : c.loop-at.at-iterator ≡ [] = search rules in
+    let all : addresses_of c.loop-at.explained.items ≡ keys addresses =
+    sym (append-nil (addresses_of c.loop-at.explained.items))
+    ∙ (ap (λ (ks : List ℕ). addresses_of c.loop-at.explained.items ++ ks) (sym gone)
+    ∙ (c.loop-at.invariant.parted ∙ (c.into_iter-at-iterator.ensures.into_iter_gives ∙ c.iter-at-items.ensures.rest))) in
+    let known = btree_set_contains_iff nat_cmp_total exact_unsigned addresses in
+    record {
+      named = λ address. (
+        (λ names. subst (λ (ks : List ℕ). Contains ks address) (sym all) ((known address).0 ((c.in_ok-addresses.ensures address).0 names))),
+        (λ had. (c.in_ok-addresses.ensures address).1 ((known address).1 (subst (λ (ks : List ℕ). Contains ks address) all had))),
+      );
+      rising = subst (AllPairs (λ (x y : ℕ). x < y)) (sym all)
+          (AllPairs-from_increasing (keys addresses) (IsStrictlyIncreasing-from_sorted (keys addresses) c.iter-at-items.ensures.ordered));
+      each = c.loop-at.invariant.each;
     }

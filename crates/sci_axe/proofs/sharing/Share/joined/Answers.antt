@@ -1,7 +1,7 @@
 use Rattle.std.proofs.Common.{◌≡◌, ◌++◌, ◌∷◌, ◌∙◌, [], ap, length, length-append, sym, append_assoc, List, arith}
 use Rattle.std.proofs.lemmas.Result.{IfOk-at_ok}
 use Rattle.sci_axe.specs.Parts.{ArePartExplained, IsPartJudged}
-use Rattle.sci_axe.proofs.Parts.{each_more, named_more, next_judged}
+use Rattle.sci_axe.proofs.Parts.{each_more, named_more, next_judged, rising_more}
 use Rattle.sci_axe.proofs.sharing.Share.joined.Goals as goal
 
 pub loop-judgement-preserved : goal.loop-judgement-preserved
@@ -23,9 +23,14 @@ loop-judgement-preserved c =
     let long = length-append done (one ∷ []) in
     record {
       parted = append_assoc done (one ∷ []) rest ∙ together;
-      named = λ address below names.
-          named_more timed cuts trace (length done) c.loop-judgement.explained.items c.in-Coherent.sites.items c.append.new.self.items sites
-          inv.named here address (omega (arith, below, long)) names;
+      named = λ address.
+          let more = named_more timed cuts trace (length done) c.loop-judgement.explained.items c.in-Coherent.sites.items c.append.new.self.items sites
+          inv.named here address in (
+            (λ names. more.0 (names.0, let below = names.1 in omega (arith, below, long))),
+            (λ had. let names = more.1 had in (names.0, let below = names.1 in omega (arith, below, long))),
+          );
+      rising = rising_more timed cuts trace (length done) c.loop-judgement.explained.items c.in-Coherent.sites.items c.append.new.self.items sites
+          inv.named inv.rising here;
       each = each_more timed cuts trace (length done) c.loop-judgement.explained.items c.in-Coherent.sites.items c.append.new.self.items sites
           inv.each here;
     }

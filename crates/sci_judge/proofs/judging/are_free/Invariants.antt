@@ -1,7 +1,7 @@
 use Rattle.std.proofs.Common.{◌≡◌, false, take}
 use Rattle.std.specs.List.{list_any}
 use Rattle.sci_judge.specs.Judgement.{is_free}
-use Rattle.sci_c_traces.proofs.judgement.are_free.Given as goal
+use Rattle.sci_judge.proofs.judging.are_free.Given as goal
 
 -- none so far
 abbrev pub invariant-loop-site : goal.invariant-loop-site

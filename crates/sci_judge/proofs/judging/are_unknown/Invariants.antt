@@ -1,7 +1,7 @@
 use Rattle.std.proofs.Common.{◌≡◌, false, take}
 use Rattle.std.specs.List.{list_any}
 use Rattle.sci_judge.specs.Judgement.{is_unknown}
-use Rattle.sci_axe.proofs.telling.are_unknown.Given as goal
+use Rattle.sci_judge.proofs.judging.are_unknown.Given as goal
 
 -- none so far
 abbrev pub invariant-loop-site : goal.invariant-loop-site

@@ -1,8 +1,0 @@
-use Rattle.std.proofs.Common.{◌≡◌, false, take}
-use Rattle.std.specs.List.{list_any}
-use Rattle.sci_judge.specs.Judgement.{is_free}
-use Rattle.sci_axe.proofs.telling.are_free.Given as goal
-
--- none so far
-abbrev pub invariant-loop-site : goal.invariant-loop-site
-invariant-loop-site l = list_any (λ there. is_free there.freedom) (take l.site-index l.sites) ≡ false
