@@ -8,7 +8,7 @@ NEED_CARGO = command -v cargo > /dev/null || { echo "cargo is missing: install R
 PROGRAMS = crates/scimem/out/scimem crates/sciview/out/sciview crates/sci_circle/out/sci_circle
 SOURCES = crates.txt HANDLES $(shell find crates -name out -prune -o -path '*_tests' -prune -o \( -name '*.rt' -o -name '*.antt' \) -print)
 
-.PHONY: try run test check cosim bindings fmt bench growth instructions fuzz soak faults adversaries install build dist dist-twice library install-library plants cases examples charts pages clean
+.PHONY: try run test check cosim bindings fmt bench calls growth instructions fuzz soak faults adversaries install build dist dist-twice library install-library plants cases examples charts pages clean
 
 PREFIX = /usr/local
 
@@ -136,6 +136,12 @@ adversaries: library
 	@mkdir -p out/adversaries
 	@$(CC) -std=c11 -O2 -Iinclude library/tests/adversaries.c out/library/liblichenknit.a -o out/adversaries/adversaries
 	@out/adversaries/adversaries $(or $(TURNS),10000000) $(or $(SEED),1)
+
+# Builds the C library, and prints what its calls take, beside plain C: make calls CALLS=1000000 TRIES=5. It isn't part of the gate.
+calls: library
+	@mkdir -p out/calls
+	@$(CC) -std=c11 -O2 -Iinclude bench/calls.c out/library/liblichenknit.a -o out/calls/calls
+	@out/calls/calls $(or $(CALLS),1000000) $(or $(TRIES),5)
 
 # Builds both programs, gives scimem hostile inputs for some seconds, and for as long each small traces to sciview judge and small
 # scripts to sciview allowed and outcomes, whose answers are checked by trying all orders; then 1,000 of its own runs without their

@@ -184,7 +184,7 @@ def check_programs(tally, cc, room):
     cxx = next((it for it in (os.environ.get("CXX"), "c++", "g++", "clang++") if it and shutil.which(it)), None)
     tally.run("the header as C11", [cc, *C, *flags, "-fsyntax-only", "-x", "c", HEADER])
     made = [(cc, C, f"library/tests/{name}.c", [memory] if name == "memory" else []) for name in TESTS]
-    made += [(cc, C, f"examples/c/{name}.c", []) for name in ("first", "two_nodes", "any_order", "lock_step", "turns", "record", "scoreboard", "trace")]
+    made += [(cc, C, f"examples/c/{name}.c", []) for name in ("first", "two_nodes", "any_order", "lock_step", "turns", "long_run", "record", "scoreboard", "trace")]
     if cxx:
         tally.run("the header as C++17", [cxx, *CXX, *flags, "-fsyntax-only", "-x", "c++", HEADER])
         made += [(cxx, CXX, f"examples/c/{name}.cpp", []) for name in ("two_nodes", "machine")]

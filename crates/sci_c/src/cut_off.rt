@@ -6,9 +6,9 @@ ghost use Rattle.sci_c_values.specs.declared.status.TheConstants.{SCI_NO_MEMORY,
 ghost use Rattle.sci_c.specs.{Calls.{IsLook}, Journal.{first_of}, Kinds.{On, logs_in}, Logs.{IsFoundCutOff}};
 
 use crate::handle::SciObject;
-use crate::journal::Journal;
+use crate::journal::{Journal, zeros};
 use sci_c_values::{SCI_MISUSE, SCI_NO_MEMORY, SCI_OK, SciVerdict, verdict_out};
-use sci_history::{Last, Verdict};
+use sci_history::Verdict;
 use sci_windows::audit_cut_off;
 use std::alloc::{AllocError, Global};
 
@@ -20,7 +20,10 @@ fn audited_cut_off(alloc: Global, journal: &Journal) -> Result<Verdict, AllocErr
 {
     match journal.first() {
         Some(first) => audit_cut_off(alloc, journal.logs(), first),
-        None => audit_cut_off(alloc, journal.logs(), &Last::zero(journal.last().lines())),
+        None => {
+            let first = zeros(alloc, journal.last().lines())?;
+            audit_cut_off(alloc, journal.logs(), &first)
+        }
     }
 }
 

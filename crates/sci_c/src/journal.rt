@@ -1,6 +1,7 @@
 //! Logs with first and last contents.
 
-ghost use Rattle.std.specs.Prelude.{◌≡◌, ◌↔◌, IsTrue};
+ghost use Rattle.std.specs.Prelude.{◌≡◌, ◌≤◌, ◌↔◌, IfOk, IsTrue, length, replicate};
+ghost use Rattle.sci_words.specs.{declared.limits.TheConstants.{MAX_LINES}, Stamped.{zero_stamped}};
 ghost use Rattle.sci_windows.specs.Relative.{AreEarly};
 
 use sci_c_values::{SCI_FULL, SCI_NO_MEMORY, SCI_OK, SciEntry};
@@ -19,7 +20,7 @@ pub struct Journal {
     nodes: u8,
     logs: Logs,
     first: Option<Box<Last, Global>>,
-    last: Last,
+    last: Box<Last, Global>,
 }
 
 /// Whether no version of contents is above that of first contents.
@@ -34,15 +35,33 @@ fn are_early(contents: &Last) -> bool
     true
 }
 
-/// The same contents.
-fn copied(contents: &Last) -> Last
-    ensures { result ≡ contents.now }
+/// Zero words at version 0 on some lines, on the heap, as they take some KB. Refused if memory is. Requires that there are 1 to 64.
+#[inline(never)]
+pub(crate) fn zeros(alloc: Global, lines: u8) -> Result<Box<Last, Global>, AllocError>
+    requires some { 1 ≤ lines }
+    requires few { lines ≤ MAX_LINES }
+    ensures { IfOk result (λ zeros. zeros.value ≡ replicate lines zero_stamped) }
 {
-    let mut copy = Last::zero(contents.lines());
+    Ok(Box::new(alloc, Last::zero(lines))?)
+}
+
+/// Makes lines the same as others. Requires that there are as many.
+fn put_same(copy: &mut Last, contents: &Last)
+    requires { length copy.old ≡ length contents.now }
+    ensures { copy.new ≡ contents.now }
+{
     for line in 0..contents.lines() {
         copy.set(line, contents.get(line));
     }
-    copy
+}
+
+/// The same contents, on the heap. Refused if memory is.
+fn copied(alloc: Global, contents: &Last) -> Result<Box<Last, Global>, AllocError>
+    ensures { IfOk result (λ copy. copy.value ≡ contents.now) }
+{
+    let mut copy = zeros(alloc, contents.lines())?;
+    put_same(&mut copy, contents);
+    Ok(copy)
 }
 
 impl Model for Journal {
@@ -51,9 +70,9 @@ impl Model for Journal {
 
     ghost Value = { JournalOf };
 
-    ghost view = { λ journal. record { nodes = journal.nodes; logs = journal.logs; first = option_map (λ first. first.value) journal.first; last = journal.last } };
+    ghost view = { λ journal. record { nodes = journal.nodes; logs = journal.logs; first = option_map (λ first. first.value) journal.first; last = journal.last.value } };
 
-    ghost invariant = { λ journal. IsJournal (record { nodes = journal.nodes; logs = journal.logs; first = option_map (λ first. first.value) journal.first; last = journal.last }) };
+    ghost invariant = { λ journal. IsJournal (record { nodes = journal.nodes; logs = journal.logs; first = option_map (λ first. first.value) journal.first; last = journal.last.value }) };
 }
 
 impl Journal {
@@ -65,25 +84,26 @@ impl Journal {
     ghost use Rattle.sci_windows.specs.Relative.{AreEarly};
     ghost use Rattle.sci_c.specs.Journal.{FitsJournal, IsBeginning, empty_journal, first_of, journal_of, next_window, with_entry, with_first, with_last};
 
-    /// Logs without entries, and zero words at version 0. Requires that there are 1 to 16 nodes and 1 to 64 lines.
-    pub(crate) fn new(alloc: Global, nodes: u8, lines: u8) -> Journal
+    /// Logs without entries, and zero words at version 0. Refused if memory is. Requires that there are 1 to 16 nodes and 1 to 64 lines.
+    pub(crate) fn new(alloc: Global, nodes: u8, lines: u8) -> Result<Journal, AllocError>
         requires { IsSize nodes lines }
-        ensures { result ≡ empty_journal nodes lines }
+        ensures { IfOk result (λ journal. journal ≡ empty_journal nodes lines) }
     {
-        Journal {
+        let last = zeros(alloc, lines)?;
+        Ok(Journal {
             nodes,
             logs: Logs::new(alloc),
             first: None,
-            last: Last::zero(lines),
-        }
+            last,
+        })
     }
 
     /// These logs and last contents. Requires that they fit together.
-    pub(crate) fn of(nodes: u8, logs: Logs, last: Last) -> Journal
+    pub(crate) fn of(nodes: u8, logs: Logs, last: Box<Last, Global>) -> Journal
         requires some { 1 ≤ nodes }
         requires few { nodes ≤ MAX_NODES }
-        requires within { AreWithin (length last) logs }
-        ensures { result ≡ journal_of nodes logs last }
+        requires within { AreWithin (length last.value) logs }
+        ensures { result ≡ journal_of nodes logs last.value }
     {
         Journal {
             nodes,
@@ -191,7 +211,7 @@ impl Journal {
         match &mut self.first {
             Some(first) => first.set(line, contents),
             None => {
-                let mut first = Box::new(alloc, Last::zero(self.last.lines()))?;
+                let mut first = zeros(alloc, self.last.lines())?;
                 first.set(line, contents);
                 self.first = Some(first);
             }
@@ -210,7 +230,7 @@ impl Journal {
         if !are_early(&self.last) {
             return Ok(false);
         }
-        let first = Box::new(alloc, copied(&self.last))?;
+        let first = copied(alloc, &self.last)?;
         self.first = Some(first);
         self.logs = Logs::new(alloc);
         Ok(true)

@@ -34,11 +34,10 @@ pub extern "C" fn sci_logs_open(alloc: Global, object: &mut SciObject, nodes: u8
     if nodes == 0 || nodes > MAX_NODES || lines == 0 || lines > MAX_LINES {
         return SCI_RANGE;
     }
-    opened(
-        alloc,
-        object,
-        Thing::Logs(Journal::new(alloc, nodes, lines)),
-    )
+    match Journal::new(alloc, nodes, lines) {
+        Ok(journal) => opened(alloc, object, Thing::Logs(journal)),
+        Err(_) => SCI_NO_MEMORY,
+    }
 }
 
 /// Lets logs go, and leaves the object empty.

@@ -170,10 +170,13 @@ pub extern "C" fn sci_machine_logs(
         return SCI_MISUSE;
     };
     match machine.logs(alloc) {
-        Ok(made) => {
-            let journal = Journal::of(machine.extent().nodes, made, machine.last());
-            opened(alloc, logs, Thing::Logs(journal))
-        }
+        Ok(made) => match Box::new(alloc, machine.last()) {
+            Ok(last) => {
+                let journal = Journal::of(machine.extent().nodes, made, last);
+                opened(alloc, logs, Thing::Logs(journal))
+            }
+            Err(_) => SCI_NO_MEMORY,
+        },
         Err(_) => SCI_NO_MEMORY,
     }
 }

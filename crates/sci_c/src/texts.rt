@@ -93,9 +93,10 @@ pub extern "C" fn sci_logs_read(
         return SCI_MISUSE;
     }
     match logs_of(alloc, text) {
-        Ok((nodes, logs, last)) => {
-            opened(alloc, object, Thing::Logs(Journal::of(nodes, logs, last)))
-        }
+        Ok((nodes, logs, last)) => match Box::new(alloc, last) {
+            Ok(last) => opened(alloc, object, Thing::Logs(Journal::of(nodes, logs, last))),
+            Err(_) => SCI_NO_MEMORY,
+        },
         Err(refused) => status_of_text(refused, fault),
     }
 }

@@ -110,12 +110,12 @@ fn findings_shown(alloc: Global, json: bool, findings: &[Finding]) -> Result<Vec
 
 /// What is written of a log, and how the command ends.
 fn explained(alloc: Global, json: bool, log: &ReadLog) -> Result<Answer, AllocError>
-    requires within { AreWithin (length log.now.last) log.now.logs }
-    requires lines { length log.now.last ≤ log.now.before }
+    requires within { AreWithin (length log.now.last.value) log.now.logs }
+    requires lines { length log.now.last.value ≤ log.now.before }
     requires before { log.now.before ≤ MAX_LINES + 1 }
     requires few { (n : ℕ) → length (log_of log.now.logs n) ≤ MAX_OPERATIONS }
     ensures { IfOk result (λ x.
-        IsExplained json log.now.before log.now.logs log.now.last x.text.items x.outcome) }
+        IsExplained json log.now.before log.now.logs log.now.last.value x.text.items x.outcome) }
 {
     match audit(alloc, &log.logs, &log.last)? {
         Verdict::Lawful => Ok(Answer {

@@ -10,7 +10,7 @@ use crate::faulty::{Cause, FaultyEntry};
 use crate::finding::Finding;
 use crate::numbered::entries_by_line;
 use crate::read_log::ReadLog;
-use sci_history::{Entry, FaultKind, LineFault, Verdict, audit};
+use sci_history::{Entry, FaultKind, Last, LineFault, Logs, Verdict, audit};
 use sci_words::Word;
 use std::alloc::{AllocError, Global};
 
@@ -41,21 +41,26 @@ fn wanted_at(found: &Option<FaultyEntry>) -> Option<Wanted>
     }
 }
 
-/// What is wanted where an audit of a log finds a wrong reply.
-fn wanted_in(alloc: Global, log: &ReadLog) -> Result<Option<Wanted>, AllocError>
-    requires within { AreWithin (length log.now.last) log.now.logs }
-    requires lines { length log.now.last ≤ log.now.before }
-    requires before { log.now.before ≤ MAX_LINES + 1 }
-    requires few { (n : ℕ) → length (log_of log.now.logs n) ≤ MAX_OPERATIONS }
-    ensures { IfOk result (IsWanted log.now.before log.now.logs log.now.last) }
+/// What is wanted where an audit of a log finds a wrong reply, of a text with this many lines before the entries.
+fn wanted_in(
+    alloc: Global,
+    before: usize,
+    logs: &Logs,
+    last: &Last,
+) -> Result<Option<Wanted>, AllocError>
+    requires within { AreWithin (length last.now) logs.now }
+    requires lines { length last.now ≤ before }
+    requires before { before ≤ MAX_LINES + 1 }
+    requires few { (n : ℕ) → length (log_of logs.now n) ≤ MAX_OPERATIONS }
+    ensures { IfOk result (IsWanted before logs.now last.now) }
 {
     // Read, so that the prover knows that there are sixteen logs, and that each has its own node's entries.
-    let _nodes = log.logs.nodes();
+    let _nodes = logs.nodes();
     let Verdict::Fault {
         line,
         kind: FaultKind::WrongReply,
         at,
-    } = audit(alloc, &log.logs, &log.last)?
+    } = audit(alloc, logs, last)?
     else {
         return Ok(None);
     };
@@ -63,9 +68,9 @@ fn wanted_in(alloc: Global, log: &ReadLog) -> Result<Option<Wanted>, AllocError>
         kind: FaultKind::WrongReply,
         at,
     };
-    let mut lists = entries_by_line(alloc, &log.logs, log.before, log.last.lines())?;
+    let mut lists = entries_by_line(alloc, logs, before, last.lines())?;
     let entries = lists.swap_remove(line as usize);
-    let subject = subject_of(log.before, &log.last, line, entries);
+    let subject = subject_of(before, last, line, entries);
     let finding = Finding::of(alloc, fault, subject)?;
     Ok(wanted_at(&finding.found))
 }
@@ -77,6 +82,6 @@ impl ReadLog {
         requires { (text : List ℕ) × IsReadLog text self.now }
         ensures { (text : List ℕ) → IsReadLog text self.now → IfOk result (IsWantedOf text) }
     {
-        wanted_in(alloc, self)
+        wanted_in(alloc, self.before, &self.logs, &self.last)
     }
 }

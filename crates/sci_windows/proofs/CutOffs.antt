@@ -1,6 +1,6 @@
 -- A window whose last contents aren't known is lawful exactly if no line of its relative logs has a fault but that of the last contents.
-use Rattle.std.proofs.Common.{◌≡◌, ◌≢◌, ◌↔◌, ℕ, zero, suc, ◌+◌, ◌<◌, ◌≤◌, false, List, [], ◌∷◌, ◌++◌, length, map, get_or}
-use Rattle.std.proofs.Common.{Option, Some, None, refl, sym, ap, subst, ◌∙◌, arith, inl, inr}
+use Rattle.std.proofs.Common.{◌≡◌, ◌≢◌, ◌↔◌, ℕ, zero, suc, ◌<◌, ◌≤◌, false, List, [], ◌∷◌, ◌++◌, length, map, get_or}
+use Rattle.std.proofs.Common.{Option, Some, None, refl, sym, subst, ◌∙◌, arith, inl, inr}
 use Rattle.std.proofs.lemmas.Bool.{cases_eq, cases_lt, ne_eqb}
 use Rattle.std.proofs.lemmas.List.{get_or_append_left, get_or_past, get_or_push, length-append, length-map}
 use Rattle.std.proofs.lemmas.List.Elements.{recursion_from_All}
@@ -12,12 +12,12 @@ use Rattle.sci_history.specs.declared.verdict.FaultKind.TheVariants.{VersionTwic
 use Rattle.sci_history.specs.declared.verdict.Verdict.TheVariants as verdicts
 use Rattle.sci_history.specs.Audit.{AreFound, AreWithin, IsFound, IsLineFault, IsWithin, first_disordered, first_missing, first_twice, first_wrong, words_after}
 use Rattle.sci_history.specs.{History.{IsHistory}, Lawful.{IsLawfulLine}, Memory.{stamped_at}}
-use Rattle.sci_history.specs.Placed.{AreOwn, is_of_node, is_on_line, log_of, maker_count, on_line, placed_entries}
+use Rattle.sci_history.specs.Placed.{AreOwn, is_on_line, log_of, maker_count, on_line, placed_entries}
 use Rattle.sci_history.proofs.{Audits.{fault_or_none, lawful_found, no_fault}, Lawfulness.{lawful_line}}
 use Rattle.sci_history.proofs.Order.{all_weaker, filter_none}
 use Rattle.sci_windows.specs.Relative.{AreEarly, AreFew, AreLines, relative_entry, relative_logs, relative_stamped, relative_to}
-use Rattle.sci_windows.specs.{Fault.{IsLineFaultFrom, counted}, Window.{HasHistoryFrom, LawfulFrom}}
-use Rattle.sci_windows.specs.CutOff.{HasSomeHistory, IsAtLast, IsBeforeLast, IsFaultCutOff, IsVerdictCutOff, LawfulCutOff}
+use Rattle.sci_windows.specs.{Fault.{IsLineFaultFrom, counted}, Window.{HasHistoryFrom}}
+use Rattle.sci_windows.specs.CutOff.{HasSomeHistory, IsAtLast, IsBeforeLast, IsVerdictCutOff, LawfulCutOff}
 use Rattle.sci_windows.proofs.Reductions.{few_makers, own_relative, placed_back, relative_end, relative_start}
 use Rattle.sci_windows.proofs.{Overs.{over}, Relatives.{from_relative}, Verdicts.{counted_fault, on_line_over}}
 

@@ -30,5 +30,6 @@ pub fn audit_from(
         return Err(AllocError);
     }
     let relative = relative_logs(alloc, logs, first)?;
-    audit(alloc, &relative, &relative_contents(first, last))
+    let contents = relative_contents(alloc, first, last)?;
+    audit(alloc, &relative, &contents)
 }

@@ -31,7 +31,7 @@ pub fn order_from(
         return Err(AllocError);
     }
     let relative = relative_logs(alloc, logs, first)?;
-    let contents = relative_contents(first, last);
+    let contents = relative_contents(alloc, first, last)?;
     match sequential_order(alloc, &relative, &contents)? {
         OrderVerdict::Fault { line, kind, at } => Ok(WindowOrder::Fault { line, kind, at }),
         OrderVerdict::Order(order) => {

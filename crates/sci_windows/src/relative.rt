@@ -1,6 +1,6 @@
 //! Entries and contents of a window as a memory has them that begins with zero words at version 0.
 
-ghost use Rattle.std.specs.Prelude.{◌≡◌, ◌<◌, ◌↔◌, All, IfOk, IsTrue, length, map};
+ghost use Rattle.std.specs.Prelude.{◌≡◌, ◌<◌, ◌↔◌, All, IfOk, OnOk, IsTrue, length, map};
 ghost use Rattle.sci_words.specs.declared.limits.TheConstants.{MAX_NODES, WORDS_PER_LINE};
 ghost use Rattle.sci_history.specs.{Audit.{AreWithin}, Memory.{stamped_at}, Placed.{AreOwn}};
 ghost use Rattle.sci_windows.specs.Relative.{AreFew, AreLines, counted_from as counted_from_of, relative_act as relative_act_of, relative_contents as relative_contents_of};
@@ -156,18 +156,35 @@ fn relative_stamped(first: Stamped, stamped: Stamped) -> Stamped
     }
 }
 
-/// The contents of all lines of a window that begins with the first ones. Requires that both have as many lines.
-pub fn relative_contents(first: &Last, contents: &Last) -> Last
-    requires { length first.now ≡ length contents.now }
-    ensures contents { result ≡ relative_contents_of first.now contents.now }
+/// Makes lines the contents of a window that begins with the first ones. Requires that there are as many of each.
+fn put_relative(made: &mut Last, first: &Last, contents: &Last)
+    requires first { length first.now ≡ length contents.now }
+    requires made { length made.old ≡ length contents.now }
+    ensures contents { made.new ≡ relative_contents_of first.now contents.now }
     ensures first { AreLines first.now }
     ensures lines { AreLines contents.now }
 {
-    let mut made = Last::zero(contents.lines());
     for line in 0..contents.lines() {
         made.set(line, relative_stamped(first.get(line), contents.get(line)));
     }
-    made
+}
+
+/// The contents of all lines of a window that begins with the first ones, on the heap, as they take some KB. Refused if memory is.
+/// Requires that both have as many lines.
+#[inline(never)]
+pub fn relative_contents(
+    alloc: Global,
+    first: &Last,
+    contents: &Last,
+) -> Result<Box<Last, Global>, AllocError>
+    requires { length first.now ≡ length contents.now }
+    ensures contents { IfOk result (λ made. made.value ≡ relative_contents_of first.now contents.now) }
+    ensures first { OnOk result (AreLines first.now) }
+    ensures lines { OnOk result (AreLines contents.now) }
+{
+    let mut made = Box::new(alloc, Last::zero(contents.lines()))?;
+    put_relative(&mut made, first, contents);
+    Ok(made)
 }
 
 /// Whether no log has more entries than 2^32.

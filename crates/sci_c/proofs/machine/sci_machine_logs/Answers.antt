@@ -10,9 +10,9 @@ same_journal : {n m : ℕ} {logs others : List (List Entry)} {last ends : List S
     → journal_of n logs last ≡ journal_of m others ends
 same_journal p q r = cc
 
-pub returns-in-Ok-clause-done : goal.returns-in-Ok-clause-done
-returns-in-Ok-clause-done c = λ ok.
-    let made = same_journal c.extent.ensures.nodes c.in-Ok.ensures.logs c.last.ensures.last in
+pub returns-in-Ok-new-clause-done : goal.returns-in-Ok-new-clause-done
+returns-in-Ok-new-clause-done c = λ ok.
+    let made = same_journal c.extent.ensures.nodes c.in-Ok.ensures.logs (c.in-Ok-new.ensures.ok ∙ c.last.ensures.last) in
     record {
       thing = c.in-Some.machine.now;
       is_in = c.in-Some.ensures.value;

@@ -6,7 +6,9 @@ use Rattle.sci_reports.proofs.wanted.wanted_in.Goals as goal
 
 pub returns : goal.returns
 returns c =
-    let log = c.args.log.now in
+    let before = c.args.before in
+    let logs = c.args.logs.now in
+    let last = c.args.last.now in
     let line = c.in-Fault-default-WrongReply-default.line in
     let named = c.in-Fault-default-WrongReply-default.at in
     let finding = c.in_ok-finding.finding in
@@ -15,11 +17,11 @@ returns c =
     let fault = rw arm.kind-is at some in
     let lists = c.in_ok-lists.lists.items in
     let low_list : line < length lists = omega (arith, fault.in_range, c.in_ok-lists.ensures.lines) in
-    let taken = list_taken lists line c.swap_remove-entries.result (numbered_on line log.before log.logs) low_list c.swap_remove-entries.ensures.value
+    let taken = list_taken lists line c.swap_remove-entries.result (numbered_on line before logs) low_list c.swap_remove-entries.ensures.value
     (c.in_ok-lists.ensures.lists line (omega (arith, fault.in_range))) in
-    let about = c.subject_of-subject.ensures log.logs taken in
-    let on_line = entries_on_line line log.before log.logs c.subject_of-subject.result.entries.items about.entries in
+    let about = c.subject_of-subject.ensures logs taken in
+    let on_line = entries_on_line line before logs c.subject_of-subject.result.entries.items about.entries in
     let sixteen = sym c.nodes-nodes.ensures.nodes ∙ c.nodes-nodes.ensures.sixteen in
-    let known = known_on_line line log.logs _ _ on_line c.nodes-nodes.ensures.own sixteen c.requires.within in
-    let is_about = subst (λ (subject : Subject). IsSubject log.before log.logs log.last line subject) (sym c.in_ok-finding.ensures.subject) about in
-    rw c.wanted_at.ensures (wants log.before line log.logs log.last named finding finding.found fault is_about (c.in_ok-finding.ensures.found known) refl)
+    let known = known_on_line line logs _ _ on_line c.nodes-nodes.ensures.own sixteen c.requires.within in
+    let is_about = subst (λ (subject : Subject). IsSubject before logs last line subject) (sym c.in_ok-finding.ensures.subject) about in
+    rw c.wanted_at.ensures (wants before line logs last named finding finding.found fault is_about (c.in_ok-finding.ensures.found known) refl)

@@ -9,13 +9,13 @@ use Rattle.sci_history.specs.declared.entry.Entry.{Entry}
 use Rattle.sci_windows.specs.{Order.{step_in}, Relative.{relative_contents, relative_logs}}
 use Rattle.sci_windows.proofs.Founds.{cycle_found, named_verdict, nodes_each, nodes_from, nodes_known, order_found, ordered_relative}
 use Rattle.sci_windows.proofs.{CyclesBack.{all_known, all_within}, Loops.{audit_within}, Verdicts.{IsWindow, window_verdict}}
-use Rattle.sci_windows.proofs.ordering.order_from.Goals.{After-deref-in-Cycle, After-deref-in-Order, After-sequential_order}
+use Rattle.sci_windows.proofs.ordering.order_from.Goals.{After-deref-in-Cycle, After-deref-in-Order-2, After-sequential_order}
 use Rattle.sci_windows.proofs.ordering.order_from.Goals as goal
 
 pub sequential_order-requires : goal.sequential_order-requires
 sequential_order-requires c =
-    audit_within c.args.first.now c.args.last.now c.args.logs.now c.in_ok-relative.relative c.relative_contents-contents.result c.in_ok-relative.ensures.logs
-    c.relative_contents-contents.ensures.contents c.requires.lines c.requires.within
+    audit_within c.args.first.now c.args.last.now c.args.logs.now c.in_ok-relative.relative c.deref.result.now c.in_ok-relative.ensures.logs
+    (c.deref.ensures ∙ c.in_ok-contents.ensures.contents) c.requires.lines c.requires.within
 
 window : (c : After-sequential_order) → IsWindow c.args.logs.now c.args.first.now c.args.last.now
 window c = record {
@@ -23,62 +23,62 @@ window c = record {
   sixteen = c.in_ok-relative.ensures.sixteen;
   few = c.are_few.ensures.0 c.if-not-are_few.false;
   long = c.requires.lines;
-  first_lines = c.relative_contents-contents.ensures.first;
-  last_lines = c.relative_contents-contents.ensures.lines;
+  first_lines = c.in_ok-contents.ensures.first;
+  last_lines = c.in_ok-contents.ensures.lines;
   early = c.requires.early;
 }
 
 pub returns-in-Fault-clause-found : goal.returns-in-Fault-clause-found
 returns-in-Fault-clause-found c =
-    let at_fault : IsOrderVerdict c.in_ok-relative.relative c.relative_contents-contents.result (orders.Fault c.in-Fault.line c.in-Fault.kind c.in-Fault.at) =
-    subst (IsOrderVerdict c.in_ok-relative.relative c.relative_contents-contents.result) c.in-Fault.is c.in_ok-line.ensures.verdict in
+    let at_fault : IsOrderVerdict c.in_ok-relative.relative c.deref.result.now (orders.Fault c.in-Fault.line c.in-Fault.kind c.in-Fault.at) =
+    subst (IsOrderVerdict c.in_ok-relative.relative c.deref.result.now) c.in-Fault.is c.in_ok-line.ensures.verdict in
     window_verdict c.args.logs.now c.args.first.now c.args.last.now (verdicts.Fault c.in-Fault.line c.in-Fault.kind c.in-Fault.at)
     (window (goal.at.returns-in-Fault-clause-found c).After-sequential_order)
-    (named_verdict c.args.logs.now c.in_ok-relative.relative c.args.first.now c.args.last.now c.relative_contents-contents.result
-    (orders.Fault c.in-Fault.line c.in-Fault.kind c.in-Fault.at) c.in_ok-relative.ensures.logs c.relative_contents-contents.ensures.contents at_fault)
+    (named_verdict c.args.logs.now c.in_ok-relative.relative c.args.first.now c.args.last.now c.deref.result.now
+    (orders.Fault c.in-Fault.line c.in-Fault.kind c.in-Fault.at) c.in_ok-relative.ensures.logs (c.deref.ensures ∙ c.in_ok-contents.ensures.contents) at_fault)
 
 pub returns-in-Fault-clause-order : goal.returns-in-Fault-clause-order
 returns-in-Fault-clause-order c =
-    let ordered = subst (λ (found : OrderVerdict). IsOrdered found ↔ (Lawful c.in_ok-relative.relative c.relative_contents-contents.result
-    × IsSequentiallyConsistent c.in_ok-relative.relative c.relative_contents-contents.result)) c.in-Fault.is c.in_ok-line.ensures.order in (
+    let ordered = subst (λ (found : OrderVerdict). IsOrdered found ↔ (Lawful c.in_ok-relative.relative c.deref.result.now
+    × IsSequentiallyConsistent c.in_ok-relative.relative c.deref.result.now)) c.in-Fault.is c.in_ok-line.ensures.order in (
       λ none. absurd none,
-      λ both. ordered.1 (ordered_relative c.args.logs.now c.in_ok-relative.relative c.args.first.now c.args.last.now c.relative_contents-contents.result
+      λ both. ordered.1 (ordered_relative c.args.logs.now c.in_ok-relative.relative c.args.first.now c.args.last.now c.deref.result.now
           (window (goal.at.returns-in-Fault-clause-order c).After-sequential_order) c.in_ok-relative.ensures.logs
-          c.relative_contents-contents.ensures.contents both),
+          (c.deref.ensures ∙ c.in_ok-contents.ensures.contents) both),
     )
 
 -- the order that was found, of the relative logs by their names, and its nodes
-order_of : (c : After-deref-in-Order) → IsOrderVerdict (relative_logs c.args.first.now c.args.logs.now)
+order_of : (c : After-deref-in-Order-2) → IsOrderVerdict (relative_logs c.args.first.now c.args.logs.now)
     (relative_contents c.args.first.now c.args.last.now) (orders.Order c.in-Order.order)
 order_of c =
-    named_verdict c.args.logs.now c.in_ok-relative.relative c.args.first.now c.args.last.now c.relative_contents-contents.result
-    (orders.Order c.in-Order.order) c.in_ok-relative.ensures.logs c.relative_contents-contents.ensures.contents
-    (subst (IsOrderVerdict c.in_ok-relative.relative c.relative_contents-contents.result) c.in-Order.is c.in_ok-line.ensures.verdict)
+    named_verdict c.args.logs.now c.in_ok-relative.relative c.args.first.now c.args.last.now c.deref.result.now
+    (orders.Order c.in-Order.order) c.in_ok-relative.ensures.logs (c.deref.ensures ∙ c.in_ok-contents.ensures.contents)
+    (subst (IsOrderVerdict c.in_ok-relative.relative c.deref.result.now) c.in-Order.is c.in_ok-line.ensures.verdict)
 
-nodes_in : (c : After-deref-in-Order) → c.deref-in-Order.result.now ≡ map (λ (e : Entry). e.node) (entries_of c.in-Order.order.items)
+nodes_in : (c : After-deref-in-Order-2) → c.deref-in-Order-2.result.now ≡ map (λ (e : Entry). e.node) (entries_of c.in-Order.order.items)
 nodes_in c =
-    nodes_from c.in-Order.order.items c.deref.result.now c.in_ok-nodes-in-Order.nodes.items c.deref-in-Order.result.now c.deref.ensures.value
-    c.in_ok-nodes-in-Order.ensures c.deref-in-Order.ensures.value
+    nodes_from c.in-Order.order.items c.deref-in-Order.result.now c.in_ok-nodes-in-Order.nodes.items c.deref-in-Order-2.result.now c.deref-in-Order.ensures.value
+    c.in_ok-nodes-in-Order.ensures c.deref-in-Order-2.ensures.value
 
 pub in_turn-requires-clause-known : goal.in_turn-requires-clause-known
 in_turn-requires-clause-known c =
-    nodes_known c.args.logs.now c.args.first.now c.args.last.now (entries_of c.in-Order.order.items) c.deref-in-Order.result.now
+    nodes_known c.args.logs.now c.args.first.now c.args.last.now (entries_of c.in-Order.order.items) c.deref-in-Order-2.result.now
     c.in_ok-relative.ensures.sixteen (nodes_in c) (order_of c).1
 
 pub in_turn-requires-clause-each : goal.in_turn-requires-clause-each
 in_turn-requires-clause-each c =
-    nodes_each c.args.logs.now c.args.first.now c.args.last.now (entries_of c.in-Order.order.items) c.deref-in-Order.result.now (nodes_in c) (order_of c).1
+    nodes_each c.args.logs.now c.args.first.now c.args.last.now (entries_of c.in-Order.order.items) c.deref-in-Order-2.result.now (nodes_in c) (order_of c).1
 
 pub returns-in-Order-clause-found : goal.returns-in-Order-clause-found
 returns-in-Order-clause-found c =
-    let here = (goal.at.returns-in-Order-clause-found c).After-deref-in-Order in
+    let here = (goal.at.returns-in-Order-clause-found c).After-deref-in-Order-2 in
     order_found c.args.logs.now c.args.first.now c.args.last.now c.in_ok-made-in-Order.made.items (entries_of c.in-Order.order.items)
     (window (goal.at.returns-in-Order-clause-found c).After-sequential_order) (order_of here).0 (c.in_ok-made-in-Order.ensures.nodes ∙ nodes_in here)
     c.in_ok-made-in-Order.ensures.own (order_of here).1
 
 pub returns-in-Order-clause-order : goal.returns-in-Order-clause-order
 returns-in-Order-clause-order c =
-    let here = (goal.at.returns-in-Order-clause-order c).After-deref-in-Order in
+    let here = (goal.at.returns-in-Order-clause-order c).After-deref-in-Order-2 in
     let is = order_found c.args.logs.now c.args.first.now c.args.last.now c.in_ok-made-in-Order.made.items (entries_of c.in-Order.order.items)
     (window (goal.at.returns-in-Order-clause-order c).After-sequential_order) (order_of here).0 (c.in_ok-made-in-Order.ensures.nodes ∙ nodes_in here)
     c.in_ok-made-in-Order.ensures.own (order_of here).1 in
@@ -88,9 +88,9 @@ returns-in-Order-clause-order c =
 cycle_of : (c : After-deref-in-Cycle) → IsOrderVerdict (relative_logs c.args.first.now c.args.logs.now)
     (relative_contents c.args.first.now c.args.last.now) (orders.Cycle c.in-Cycle.steps)
 cycle_of c =
-    named_verdict c.args.logs.now c.in_ok-relative.relative c.args.first.now c.args.last.now c.relative_contents-contents.result
-    (orders.Cycle c.in-Cycle.steps) c.in_ok-relative.ensures.logs c.relative_contents-contents.ensures.contents
-    (subst (IsOrderVerdict c.in_ok-relative.relative c.relative_contents-contents.result) c.in-Cycle.is c.in_ok-line.ensures.verdict)
+    named_verdict c.args.logs.now c.in_ok-relative.relative c.args.first.now c.args.last.now c.deref.result.now
+    (orders.Cycle c.in-Cycle.steps) c.in_ok-relative.ensures.logs (c.deref.ensures ∙ c.in_ok-contents.ensures.contents)
+    (subst (IsOrderVerdict c.in_ok-relative.relative c.deref.result.now) c.in-Cycle.is c.in_ok-line.ensures.verdict)
 
 pub steps_in-requires-clause-known : goal.steps_in-requires-clause-known
 steps_in-requires-clause-known c =
@@ -111,9 +111,9 @@ returns-clause-found c =
 
 pub returns-clause-order : goal.returns-clause-order
 returns-clause-order c =
-    let ordered = subst (λ (found : OrderVerdict). IsOrdered found ↔ (Lawful c.in_ok-relative.relative c.relative_contents-contents.result
-    × IsSequentiallyConsistent c.in_ok-relative.relative c.relative_contents-contents.result)) c.in-Cycle.is c.in_ok-line.ensures.order in (
+    let ordered = subst (λ (found : OrderVerdict). IsOrdered found ↔ (Lawful c.in_ok-relative.relative c.deref.result.now
+    × IsSequentiallyConsistent c.in_ok-relative.relative c.deref.result.now)) c.in-Cycle.is c.in_ok-line.ensures.order in (
       λ none. absurd none,
-      λ both. ordered.1 (ordered_relative c.args.logs.now c.in_ok-relative.relative c.args.first.now c.args.last.now c.relative_contents-contents.result
-          (window (goal.at.returns-clause-order c).After-sequential_order) c.in_ok-relative.ensures.logs c.relative_contents-contents.ensures.contents both),
+      λ both. ordered.1 (ordered_relative c.args.logs.now c.in_ok-relative.relative c.args.first.now c.args.last.now c.deref.result.now
+          (window (goal.at.returns-clause-order c).After-sequential_order) c.in_ok-relative.ensures.logs (c.deref.ensures ∙ c.in_ok-contents.ensures.contents) both),
     )

@@ -2,7 +2,7 @@ use Rattle.std.proofs.Common.{◌≡◌, ℕ, ◌<◌, length}
 use Rattle.sci_words.specs.declared.limits.TheConstants.{WORDS_PER_LINE}
 use Rattle.sci_history.specs.Memory.{stamped_at}
 use Rattle.sci_windows.specs.Relative.{relative_stamped}
-use Rattle.sci_windows.proofs.relative.relative_contents.Given as goal
+use Rattle.sci_windows.proofs.relative.put_relative.Given as goal
 
 -- the lines so far are relative
 abbrev pub invariant-loop-line : goal.invariant-loop-line

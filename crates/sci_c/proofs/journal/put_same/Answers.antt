@@ -3,7 +3,7 @@ use Rattle.std.proofs.lemmas.List.{ext_get_or}
 use Rattle.sci_words.specs.{declared.stamped.Stamped.{Stamped}, Stamped.{zero_stamped}}
 use Rattle.sci_history.specs.Memory.{stamped_at}
 use Rattle.sci_c.proofs.Begun.{copied_next}
-use Rattle.sci_c.proofs.journal.copied.Goals as goal
+use Rattle.sci_c.proofs.journal.put_same.Goals as goal
 
 pub loop-line-preserved : goal.loop-line-preserved
 loop-line-preserved c =

@@ -3,7 +3,7 @@ use Rattle.sci_words.specs.{declared.{limits.TheConstants.{WORDS_PER_LINE}, stam
 use Rattle.sci_history.specs.Memory.{stamped_at}
 use Rattle.sci_windows.specs.Relative.{relative_stamped}
 use Rattle.sci_windows.proofs.Loops.{contents_are, holds_next, lines_are, set_next}
-use Rattle.sci_windows.proofs.relative.relative_contents.Goals as goal
+use Rattle.sci_windows.proofs.relative.put_relative.Goals as goal
 
 pub loop-line-preserved : goal.loop-line-preserved
 loop-line-preserved c =
@@ -28,12 +28,12 @@ loop-line-preserved c =
 pub returns-clause-contents : goal.returns-clause-contents
 returns-clause-contents c =
     let lines = c.lines-line-end.ensures.lines in
-    contents_are c.args.first.now c.args.contents.now c.loop-line.made c.requires c.loop-line.invariant.long
+    contents_are c.args.first.now c.args.contents.now c.loop-line.made c.requires.first c.loop-line.invariant.long
     (λ k lt. c.loop-line.invariant.made k (omega arith))
 
 pub returns-clause-first : goal.returns-clause-first
 returns-clause-first c =
-    lines_are c.args.first.now c.lines-line-end.result (c.lines-line-end.ensures.lines ∙ sym c.requires)
+    lines_are c.args.first.now c.lines-line-end.result (c.lines-line-end.ensures.lines ∙ sym c.requires.first)
     (λ k lt. c.loop-line.invariant.first k (omega arith))
 
 pub returns-clause-lines : goal.returns-clause-lines

@@ -1,6 +1,6 @@
 use Rattle.std.proofs.Common.{◌≡◌, ℕ, ◌<◌, length}
 use Rattle.sci_history.specs.Memory.{stamped_at}
-use Rattle.sci_c.proofs.journal.copied.Given as goal
+use Rattle.sci_c.proofs.journal.put_same.Given as goal
 
 -- the contents so far are the same
 abbrev pub invariant-loop-line : goal.invariant-loop-line
