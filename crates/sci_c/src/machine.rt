@@ -1,25 +1,28 @@
 //! Machines.
 
 ghost use denote.RawPtr.{null_ptr};
-ghost use Rattle.std.specs.Prelude.{◌≡◌, ◌≢◌, ◌≤◌, ◌↔◌, ◌⊎◌, ◌∷◌, [], None, IsSome};
+ghost use Rattle.std.specs.Prelude.{◌≡◌, ◌≢◌, ◌≤◌, ◌↔◌, ◌⊎◌, ◌∷◌, [], IfOk, OnOk, None, IsSome, length};
+ghost use Rattle.sci_history.specs.{Lawful.{Lawful}, Sequential.{IsSequentiallyConsistent}};
+ghost use Rattle.sci_core.specs.{Outcome.{logs_of}, Sharing.{last_of}};
 ghost use Rattle.sci_core.specs.Size.{IsMachineSize};
 ghost use Rattle.sci_c_values.specs.declared.status.TheConstants.{SCI_MISUSE, SCI_NOT_ENABLED, SCI_NO_MEMORY, SCI_OK, SCI_RANGE};
 ghost use Rattle.sci_c_values.specs.{Operation.{SaysEvent}, Saying.{SaysNone}};
 ghost use Rattle.sci_c.specs.{Calls.{IsAnswer, IsChange, IsLook}, Closing.{IsClosed, IsOpened}, Kinds.{Goes, On, machine_in}};
 ghost use Rattle.sci_c.specs.Machine.{AreLogsOf, HasNoAuthority, IsAuthorityOf, IsMachineLast, IsNotEnabled, IsOpening, IsPartOfSettling, IsSending};
-ghost use Rattle.sci_c.specs.Machine.{IsSettling, IsStep, size};
+ghost use Rattle.sci_c.specs.{Journal.{journal_of}, Machine.{IsSettling, IsStep, size}};
 
 use crate::closing::{closed, opened};
 use crate::handle::SciObject;
-use crate::journal::Journal;
+use crate::journal::{Journal, zeros};
 use crate::thing::Thing;
 use sci_c_values::{
     SCI_MISUSE, SCI_NO_MEMORY, SCI_NOT_ENABLED, SCI_OK, SCI_RANGE, SciEvent, SciStamped, event_in,
     stamped_out,
 };
 use sci_core::{ApplyFault, Machine};
+use sci_history::Last;
 use sci_words::{Extent, MAX_OPERATIONS};
-use std::alloc::Global;
+use std::alloc::{AllocError, Global};
 
 /// Puts a machine in which no line was touched into an empty object.
 #[unsafe(no_mangle)]
@@ -150,6 +153,30 @@ pub extern "C" fn sci_machine_authority(object: &mut SciObject, line: u8, node: 
     }
 }
 
+/// Makes lines the last contents of a machine. Requires that there are as many.
+fn put_last(last: &mut Last, machine: &Machine)
+    requires { length last.old ≡ machine.now.size.lines }
+    ensures { last.new ≡ last_of machine.now }
+{
+    for line in 0..machine.extent().lines {
+        last.set(line, machine.last_contents(line));
+    }
+}
+
+/// The logs of a machine, with its last contents. Refused if memory is.
+fn journal_in(alloc: Global, machine: &Machine) -> Result<Journal, AllocError>
+    ensures journal { IfOk result (λ journal. journal ≡
+        journal_of machine.now.size.nodes (logs_of machine.now) (last_of machine.now)) }
+    ensures lawful { OnOk result (Lawful (logs_of machine.now) (last_of machine.now)) }
+    ensures consistent { OnOk result (IsSequentiallyConsistent (logs_of machine.now) (last_of machine.now)) }
+{
+    let extent = machine.extent();
+    let logs = machine.logs(alloc)?;
+    let mut last = zeros(alloc, extent.lines)?;
+    put_last(&mut last, machine);
+    Ok(Journal::of(extent.nodes, logs, last))
+}
+
 /// Puts the machine's logs and last contents into an empty object of logs.
 #[unsafe(no_mangle)]
 pub extern "C" fn sci_machine_logs(
@@ -169,14 +196,8 @@ pub extern "C" fn sci_machine_logs(
     let Some(machine) = object.machine() else {
         return SCI_MISUSE;
     };
-    match machine.logs(alloc) {
-        Ok(made) => match Box::new(alloc, machine.last()) {
-            Ok(last) => {
-                let journal = Journal::of(machine.extent().nodes, made, last);
-                opened(alloc, logs, Thing::Logs(journal))
-            }
-            Err(_) => SCI_NO_MEMORY,
-        },
+    match journal_in(alloc, machine) {
+        Ok(journal) => opened(alloc, logs, Thing::Logs(journal)),
         Err(_) => SCI_NO_MEMORY,
     }
 }

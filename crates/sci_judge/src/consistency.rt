@@ -40,6 +40,7 @@ fn are_forced(sites: &[SiteVersions]) -> bool
 
 /// What the log by versions at each address says: Sequential if it is sequentially consistent, NotSequential if it isn't and no other
 /// versions explain the operations, and else Unknown.
+#[inline(never)]
 fn by_log(
     alloc: Global,
     trace: &Trace,
@@ -88,6 +89,7 @@ fn consistency_by(
 
 /// Whether one order of all operations explains a trace with this judgement, if that is asked for. Of a trace that isn't coherent it
 /// isn't said. Refused only if memory is.
+#[inline(never)]
 pub fn consistency_of(
     alloc: Global,
     trace: &Trace,

@@ -97,6 +97,7 @@ fn differ(count: usize, others: &[u64], versions: &[u64]) -> bool
 
 impl Site<'_> {
     /// Whether others explain the operations as well as these versions, as far as a hint shows it.
+    #[inline(never)]
     fn freedom(&self, alloc: Global, versions: &[u64], hint: Hint) -> Result<Freedom, AllocError>
         requires { AreKnown self.now.accesses.now }
         ensures { IfOk result
@@ -122,6 +123,7 @@ impl Site<'_> {
 
     /// What is said of versions that explain the operations: these with what a hint says of others, or a guess, if it explains
     /// them as well.
+    #[inline(never)]
     fn coherent(&self, alloc: Global, found: Found, guess: &[u64]) -> Result<Finding, AllocError>
         requires known { AreKnown self.now.accesses.now }
         requires found { IsExplainedBy self.now.timed self.now.accesses.now self.now.last
@@ -144,6 +146,7 @@ impl Site<'_> {
     /// Judges the operations: Coherent if versions were found that an audit has judged, NotCoherent if a witness was found that
     /// the check of witnesses has judged, and else Undecided. Where a word is written twice, a search makes at most `limit`
     /// choices. Versions of a guess are taken if they explain the operations; an empty one is none. Refused only if memory is.
+    #[inline(never)]
     pub fn judge(&self, alloc: Global, limit: u64, guess: &[u64]) -> Result<Finding, AllocError>
         requires { AreKnown self.now.accesses.now }
         ensures { IfOk result

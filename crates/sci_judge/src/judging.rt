@@ -126,6 +126,7 @@ pub struct Way {
 }
 
 /// Versions of all operations by one order of them, if one was found.
+#[inline(never)]
 fn order_versions(alloc: Global, trace: &Trace, way: Way) -> Result<Vec<u64>, Stop> {
     let mut search = Search::new(alloc, &trace.accesses, way.timed, way.limit)?;
     for (address, word) in trace.last.iter() {
@@ -135,6 +136,7 @@ fn order_versions(alloc: Global, trace: &Trace, way: Way) -> Result<Vec<u64>, St
 }
 
 /// At each address a guess at the versions of the operations there; none if they aren't to be of one order.
+#[inline(never)]
 fn guesses(alloc: Global, trace: &Trace, way: Way) -> Result<BTreeMap<u64, Vec<u64>>, AllocError> {
     let mut guesses = BTreeMap::new(alloc);
     if !way.ordered {
@@ -158,6 +160,7 @@ fn guesses(alloc: Global, trace: &Trace, way: Way) -> Result<BTreeMap<u64, Vec<u
 
 /// Judges a trace: Coherent if the operations at each address are, with the last word there if it is known, and else the lowest
 /// address at which they aren't, or at which nothing was found. Refused only if memory is.
+#[inline(never)]
 pub fn judge(alloc: Global, trace: &Trace, way: Way) -> Result<Judgement, AllocError>
     requires { AreKnown trace.now.accesses.items }
     ensures { IfOk result (IsJudgement way.timed trace.now) }

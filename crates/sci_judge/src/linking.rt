@@ -122,6 +122,7 @@ impl Sorted<'_> {
 
 /// A cycle of operations, each of which stands before the next one in every order that explains a trace, so that there is no such
 /// order; None if no cycle was found. Refused only if memory is.
+#[inline(never)]
 pub fn order_cycle(
     alloc: Global,
     trace: &Trace,

@@ -219,6 +219,7 @@ impl Log {
 /// The log of a trace, by versions for the operations at each address, as `judge` answers them: the entries of the operations,
 /// those of each processor in program order, with these versions. An audit has judged it. None if there are more than 64
 /// addresses, or a processor has more than 65,536 operations; and none may be found if the versions aren't those of `judge`.
+#[inline(never)]
 pub fn log_of(alloc: Global, trace: &Trace, sites: &[SiteVersions]) -> Result<Log, NoLog>
     requires { AreKnown trace.now.accesses.items }
     ensures log { IfOk result (IsLogOf trace.now sites.now) }
