@@ -18,9 +18,8 @@
 **
 ** All else is looked at. Any number may be passed in any field, and what can't be done is answered by a status.
 **
-** MEMORY AND STACK. A call takes memory only if SCI_NO_MEMORY is among its statuses. sci_logs_explain,
-** sci_logs_wanted and sci_trace_judge take at most 48 KB of stack; sci_logs_read and sci_machine_logs 32 KB; those that open, clone or
-** replay and sci_logs_audit_cut_off 24 KB; sci_logs_audit, sci_logs_order and sci_logs_order_kind 20 KB; all others 6 KB.
+** MEMORY AND STACK. A call takes memory only if SCI_NO_MEMORY is among its statuses. sci_trace_judge takes at most 48 KB of stack;
+** sci_logs_explain and sci_logs_wanted 24 KB; sci_logs_read 16 KB; sci_logs_order and sci_logs_order_kind 12 KB; all others 8 KB.
 **
 ** THE PROCESSOR. The library that `make library` builds needs an x86-64 processor of level v2, with SSE4.2, and doesn't look for
 ** one: an older processor ends the program by SIGILL. That of an archive by `make dist` needs any x86-64 processor.

@@ -188,18 +188,15 @@ static size_t stated(const char *name) {
         const char *name;
         size_t kilobytes;
     } deep[] = {
-        { "sci_logs_explain", 48 },  { "sci_logs_read", 32 },      { "sci_machine_logs", 32 }, { "sci_machine_open", 24 },
-        { "sci_machine_clone", 24 }, { "sci_machine_replay", 24 }, { "sci_node_open", 24 },    { "sci_node_clone", 24 },
-        { "sci_logs_open", 24 },     { "sci_logs_audit", 20 },     { "sci_logs_order", 20 },   { "sci_logs_order_kind", 20 },
-        { "sci_logs_wanted", 48 },   { "sci_scoreboard_open", 24 }, { "sci_logs_audit_cut_off", 24 },
-        { "sci_trace_judge", 48 },
+        { "sci_trace_judge", 48 }, { "sci_logs_explain", 24 }, { "sci_logs_wanted", 24 },
+        { "sci_logs_read", 16 },   { "sci_logs_order", 12 },   { "sci_logs_order_kind", 12 },
     };
     for (size_t i = 0; i < sizeof deep / sizeof *deep; i++) {
         if (strcmp(name, deep[i].name) == 0) {
             return deep[i].kilobytes * 1024;
         }
     }
-    return 6 * 1024;
+    return 8 * 1024;
 }
 
 int main(int count, char **arguments) {
