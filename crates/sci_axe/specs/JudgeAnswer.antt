@@ -15,7 +15,7 @@ use Rattle.sci_axe.specs.{declared.judging.JudgeRequest.{JudgeRequest}, Telling.
 pub record IsLogText (trace : Trace) (sites : List SiteVersions) (text : List ℕ) : Type 0 where
   pub log : Log
   pub of : IsLogOf trace sites log
-  pub written : text ≡ log_text MAX_NODES log.logs log.last
+  pub written : text ≡ log_text MAX_NODES log.logs log.last.value
 
 -- the words of a judgement and of an order, and no line of memory
 pub record IsVerdictText (request : JudgeRequest) (trace : Trace) (judgement : Judgement) (lines text : List ℕ) (outcome : Outcome) : Type 0 where

@@ -144,7 +144,7 @@ making_of (Atomic read wrote) addresses done a e kind is = rw (is.act, kind) ref
 -- ---- operations in an order
 
 module _ (timed : Bool) (trace : Trace) (sites : List SiteVersions) (log : Log) (order : List Entry) (known : AreKnown trace.accesses.items)
-    (explained : All (IsExplainedAt timed trace) sites) (is : IsLogOf trace sites log) (sequential : IsSequentialOrder log.logs log.last order) where
+    (explained : All (IsExplainedAt timed trace) sites) (is : IsLogOf trace sites log) (sequential : IsSequentialOrder log.logs log.last.value order) where
   abbrev accesses : List Access
   accesses = trace.accesses.items
 
@@ -200,7 +200,7 @@ module _ (timed : Bool) (trace : Trace) (sites : List SiteVersions) (log : Log) 
       let line = y.op.line in
       let on : x.op.line ≡ line =
       one_line (addresses_of sites) x.op.line line b.address is.rising next.has.is.line (here.has.is.line ∙ ap Some same) in
-      let rising = places-rise (filter (is_on_line line) order) zero_stamped (stamped_at log.last line) (sequential.histories line) in
+      let rising = places-rise (filter (is_on_line line) order) zero_stamped (stamped_at log.last.value line) (sequential.histories line) in
       before_by_key place (is_on_line line) order (stands_in i a) (stands_in j b) rising here.below next.below
       (eq-eqb _ line (ap (λ (e : Entry). e.op.line) here.same)) (eq-eqb _ line (ap (λ (e : Entry). e.op.line) next.same ∙ on))
       (subst (λ (k : ℕ). k < place (get_or order (stands_in j b) no_entry)) (sym (ap place here.same))

@@ -217,12 +217,12 @@ full trace sites i d used logs node none.NotFound lt is same small many = elim m
 
 -- ---- a log of a trace
 
-pub log_within : (trace : Trace) (sites : List SiteVersions) (log : Log) → IsLogOf trace sites log → AreWithin (length log.last) log.logs
+pub log_within : (trace : Trace) (sites : List SiteVersions) (log : Log) → IsLogOf trace sites log → AreWithin (length log.last.value) log.logs
 log_within trace sites log is = λ node.
     let long : length (addresses_of sites) ≡ length sites = length-map sites (λ (s : SiteVersions). s.address) in
     let lines = is.lines in
     let most = le-max_right 1 (length sites) in
-    All-from_recursion (IsWithin (length log.last)) (log_of log.logs node)
-    (in_log (IsWithin (length log.last)) is.entries log.logs node is.logged
-    (all-filter (IsWithin (length log.last)) (is_of_node node) is.entries
-    (entries_within (addresses_of sites) (length log.last) (omega arith) [] trace.accesses.items is.entries is.same)))
+    All-from_recursion (IsWithin (length log.last.value)) (log_of log.logs node)
+    (in_log (IsWithin (length log.last.value)) is.entries log.logs node is.logged
+    (all-filter (IsWithin (length log.last.value)) (is_of_node node) is.entries
+    (entries_within (addresses_of sites) (length log.last.value) (omega arith) [] trace.accesses.items is.entries is.same)))

@@ -10,7 +10,7 @@ use Rattle.sci_judge.specs.{Cycle.{HasNoOrderAtAll, IsCycle}, Logged.{IsLogOf}}
 
 -- a log of the trace by these versions is sequentially consistent
 abbrev pub HasOrder : Trace → List SiteVersions → Type 0
-HasOrder trace sites = (log : Log) × IsLogOf trace sites log × IsSequentiallyConsistent log.logs log.last
+HasOrder trace sites = (log : Log) × IsLogOf trace sites log × IsSequentiallyConsistent log.logs log.last.value
 
 -- no other versions explain the operations at any address
 abbrev pub AreAllForced : List SiteVersions → Type 0
@@ -18,7 +18,7 @@ AreAllForced sites = All (λ there. there.freedom ≡ Forced) sites
 
 -- the versions are forced, and the log by them is not sequentially consistent
 abbrev pub HasNoOrder : Trace → List SiteVersions → Type 0
-HasNoOrder trace sites = AreAllForced sites × (log : Log) × IsLogOf trace sites log × (IsSequentiallyConsistent log.logs log.last → ⊥)
+HasNoOrder trace sites = AreAllForced sites × (log : Log) × IsLogOf trace sites log × (IsSequentiallyConsistent log.logs log.last.value → ⊥)
 
 -- what is answered holds
 abbrev pub IsConsistency : (timed : Bool) → Trace → List SiteVersions → Consistency → Type 0

@@ -39,7 +39,7 @@ HaveVersions sites entries =
 -- last contents have the last word at each address where the trace has it
 abbrev pub HasLastWords : Trace → List SiteVersions → Log → Type 0
 HasLastWords trace sites log = (line address word : ℕ) → slice_get (addresses_of sites) line ≡ Some address → last_at address trace ≡ Some word
-    → slice_index_or (stamped_at log.last line).line 0 0 ≡ word
+    → slice_index_or (stamped_at log.last.value line).line 0 0 ≡ word
 
 -- A log of a trace, by versions for the operations at each address: it has the entries of the operations, each processor's in
 -- their order, and is lawful.
@@ -49,8 +49,8 @@ pub record IsLogOf (trace : Trace) (sites : List SiteVersions) (log : Log) : Typ
   pub same : AreEntriesOf (addresses_of sites) [] trace.accesses.items entries
   pub versions : HaveVersions sites entries
   pub logged : log.logs ≡ logs_by_node entries
-  pub lines : length log.last ≡ max 1 (length sites)
-  pub lawful : Lawful log.logs log.last
+  pub lines : length log.last.value ≡ max 1 (length sites)
+  pub lawful : Lawful log.logs log.last.value
   pub ends : HasLastWords trace sites log
 
 -- why there is no log: more addresses than lines, or more operations of a processor than a log has room for

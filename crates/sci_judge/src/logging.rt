@@ -22,7 +22,7 @@ pub struct Log {
     /// The entries of each processor, in program order.
     pub logs: Logs,
     /// The last contents of each line. There is one line at least.
-    pub last: Last,
+    pub last: Box<Last, Global>,
 }
 
 /// Why a trace whose operations are coherent has no log.
@@ -146,6 +146,7 @@ fn push(logs: &mut Logs, entry: Entry) -> Result<(), NoLog>
 }
 
 /// A log of the operations, with the versions in their order, and how many of the versions at each address are used.
+#[inline(never)]
 fn log_with(
     alloc: Global,
     trace: &Trace,
@@ -157,7 +158,7 @@ fn log_with(
     requires few { lines ≤ MAX_LINES }
     ensures logged { IfOk result (λ made.
         AreLogged sites.now trace.now.accesses.items made.1.items made.0.logs) }
-    ensures lines { IfOk result (λ made. length made.0.last ≡ lines) }
+    ensures lines { IfOk result (λ made. length made.0.last.value ≡ lines) }
     ensures none { IfErr result (IsNoLog trace.now sites.now) }
 {
     let mut logs = Logs::new(alloc);
@@ -171,6 +172,7 @@ fn log_with(
         stamp(&mut last, &entry, access.kind.left());
         used[entry.op.line as usize] += 1;
     }
+    let last = Box::new(alloc, last).map_err(AllocError::from)?;
     Ok((Log { logs, last }, used))
 }
 
@@ -190,9 +192,9 @@ fn are_all_used(sites: &[SiteVersions], used: &[usize]) -> bool
 impl Log {
     /// Whether the last contents of a line have a word, if it is known.
     fn has_last_word(&self, line: u8, last: Option<Word>) -> bool
-        requires { line < length self.now.last }
+        requires { line < length self.now.last.value }
         ensures { OnTrue result ((word : ℕ) → last ≡ Some word
-            → slice_index_or (stamped_at self.now.last line).line 0 0 ≡ word) }
+            → slice_index_or (stamped_at self.now.last.value line).line 0 0 ≡ word) }
     {
         match last {
             Some(word) => self.last.get(line).line.word(0) == word,
@@ -202,7 +204,7 @@ impl Log {
 
     /// Whether the last contents have the last word at each address where the trace has it.
     fn has_last_words(&self, trace: &Trace, sites: &[SiteVersions]) -> bool
-        requires { length sites.now ≤ length self.now.last }
+        requires { length sites.now ≤ length self.now.last.value }
         ensures { OnTrue result (HasLastWords trace.now sites.now self.now) }
     {
         for line in 0..self.last.lines() {
