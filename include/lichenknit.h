@@ -18,8 +18,8 @@
 **
 ** All else is looked at. Any number may be passed in any field, and what can't be done is answered by a status.
 **
-** MEMORY AND STACK. A call takes memory only if SCI_NO_MEMORY is among its statuses. sci_trace_judge takes at most 48 KB of stack;
-** sci_logs_explain and sci_logs_wanted 24 KB; sci_logs_read 16 KB; sci_logs_order and sci_logs_order_kind 12 KB; all others 8 KB.
+** MEMORY AND STACK. A call takes memory only if SCI_NO_MEMORY is among its statuses. sci_logs_explain and sci_logs_wanted take at most
+** 24 KB of stack; sci_logs_read and sci_trace_judge 16 KB; sci_logs_order and sci_logs_order_kind 12 KB; all others 8 KB.
 **
 ** THE PROCESSOR. The library that `make library` builds needs an x86-64 processor of level v2, with SSE4.2, and doesn't look for
 ** one: an older processor ends the program by SIGILL. That of an archive by `make dist` needs any x86-64 processor.
@@ -820,8 +820,8 @@ sci_status sci_node_turn(
 
 /** Counts a turn of the node. A turn is what a node does at one time, in this order: it sends the answer that waits, accepts the answers
 ** that have come, looks at the requests that have come, and does what it wants. In another order nodes can go on for ever without an
-** operation: a claim that was answered wbno is made again at once, and the cread that was kept has to be looked at in between. In one turn of 64 sci_node_decide keeps fewer requests
-** (Policy::begin_turn).
+** operation: a claim that was answered wbno is made again at once, and the cread that was kept has to be looked at in between. In one
+** turn of 64 sci_node_decide keeps fewer requests (Policy::begin_turn).
 **
 **   - SCI_OK
 **   - SCI_MISUSE      The object keeps no node. */

@@ -16,7 +16,7 @@ static ucontext_t here, there;
 /* What the calls are made with. */
 static sci_machine machine = SCI_INIT, copy = SCI_INIT, again = SCI_INIT;
 static sci_node node = SCI_INIT, home = SCI_INIT, other = SCI_INIT;
-static sci_logs logs = SCI_INIT, empty = SCI_INIT, read_again = SCI_INIT, wrong = SCI_INIT;
+static sci_logs logs = SCI_INIT, empty = SCI_INIT, read_again = SCI_INIT, wrong = SCI_INIT, many = SCI_INIT, many_again = SCI_INIT;
 static sci_scoreboard board = SCI_INIT;
 static const sci_op store = { SCI_STORE, 0, 3, 0, 0, 42 };
 static const sci_event events[] = {
@@ -29,6 +29,7 @@ static const sci_event events[] = {
 };
 static sci_entry entry = { 0, 0, 0, 1, { SCI_STORE, 0, 3, 0, 0, 42 }, 0, 2 }, entries[64];
 static const sci_entry first = { 0, 0, 0, 0, { SCI_STORE, 0, 3, 0, 0, 42 }, 0, 1 };
+static const sci_entry later = { 0, 0, 0, 0, { SCI_STORE, 0, 3, 0, 0, 42 }, 0, 1601 };
 static const sci_entry bad = { 1, 1, 0, 0, { SCI_LOAD, 0, 3, 0, 0, 0 }, 7, 1 };
 static sci_packet packet, came[8], sent[8 + SCI_TURN_ROOM];
 static sci_held held;
@@ -51,6 +52,7 @@ static const sci_access accesses[] = {
     { 1, SCI_ACCESS_LOAD, 0, 0, 8, 1, 0, 0, UINT64_MAX, 4 },
     { 1, SCI_ACCESS_LOAD, 0, 0, 8, 0, 0, 0, UINT64_MAX, 5 },
 };
+static sci_access many_accesses[800];
 static const sci_last_word last_word = { 8, 1 };
 static const sci_trace_way way = { 1, 1, 1000 };
 static sci_judgement judgement;
@@ -111,6 +113,24 @@ static sci_status status;
     CALL(sci_scoreboard_close, &board)                                                                         \
     CALL(sci_trace_judge, accesses, 4, &last_word, 1, &way, &judgement, words, SCI_PACKET_WORDS)               \
     CALL(sci_trace_judge, accesses, 6, &last_word, 1, &way, &judgement, words, SCI_PACKET_WORDS)               \
+    CALL(sci_trace_judge, many_accesses, 400, &last_word, 0, &way, &judgement, words, SCI_PACKET_WORDS)        \
+    CALL(sci_trace_judge, many_accesses, 800, &last_word, 0, &way, &judgement, words, SCI_PACKET_WORDS)        \
+    CALL(sci_logs_audit, &many, &verdict)                                                                      \
+    CALL(sci_logs_audit_cut_off, &many, &verdict)                                                              \
+    CALL(sci_logs_order_kind, &many, &number)                                                                  \
+    CALL(sci_logs_explain, &many, text, sizeof text, &length)                                                  \
+    CALL(sci_logs_write, &many, text, sizeof text, &length)                                                    \
+    CALL(sci_logs_read, &many_again, text, length, &fault)                                                     \
+    CALL(sci_logs_push, &many_again, &bad)                                                                     \
+    CALL(sci_logs_explain, &many_again, text, sizeof text, &length)                                            \
+    CALL(sci_logs_wanted, &many_again, &words[0], &number, &entry)                                             \
+    CALL(sci_logs_go_on, &many)                                                                                \
+    CALL(sci_logs_push, &many, &later)                                                                         \
+    CALL(sci_logs_audit, &many, &verdict)                                                                      \
+    CALL(sci_logs_audit_cut_off, &many, &verdict)                                                              \
+    CALL(sci_logs_order_kind, &many, &number)                                                                  \
+    CALL(sci_logs_close, &many)                                                                                \
+    CALL(sci_logs_close, &many_again)                                                                          \
     CALL(sci_packet_encode, &packet, bytes, &length)                                                             \
     CALL(sci_packet_decode, bytes, length, &packet, &used)                                                     \
     CALL(sci_packet_to_words, &packet, words, &used)                                                           \
@@ -166,6 +186,22 @@ static void make(void) {
 #undef CALL
 }
 
+/* Logs of 1,600 operations that add 1 to a word, and traces of 400 such operations and of 400 more on words that are written twice. */
+static void fill(void) {
+    const sci_stamped last = { 1600, { 0, 0, 0, 1600, 0, 0, 0, 0 } };
+    sci_logs_open(&many, 16, 64);
+    for (uint32_t i = 0; i < 1600; i++) {
+        const sci_entry add = { (uint8_t)(i % 16), 1, 0, i / 16, { SCI_FETCH_ADD, 0, 3, 0, 0, 1 }, i, i + 1 };
+        sci_logs_push(&many, &add);
+    }
+    sci_logs_set_last(&many, 0, &last);
+    for (uint32_t i = 0; i < 800; i++) {
+        const sci_access access = { (uint8_t)(i % 16), SCI_ACCESS_ATOMIC, 0, 0, i < 400 ? 8 : 16, i % 400 % (i < 400 ? 400 : 7), i % 400 % (i < 400 ? 400 : 7) + 1,
+            i, i + 20, i };
+        many_accesses[i] = access;
+    }
+}
+
 /* How many bytes of its own stack a call takes, with the frame of make. */
 static size_t taken(void) {
     size_t free_bytes = 0;
@@ -188,8 +224,8 @@ static size_t stated(const char *name) {
         const char *name;
         size_t kilobytes;
     } deep[] = {
-        { "sci_trace_judge", 48 }, { "sci_logs_explain", 24 }, { "sci_logs_wanted", 24 },
-        { "sci_logs_read", 16 },   { "sci_logs_order", 12 },   { "sci_logs_order_kind", 12 },
+        { "sci_logs_explain", 24 }, { "sci_logs_wanted", 24 }, { "sci_logs_read", 16 },
+        { "sci_trace_judge", 16 },  { "sci_logs_order", 12 },  { "sci_logs_order_kind", 12 },
     };
     for (size_t i = 0; i < sizeof deep / sizeof *deep; i++) {
         if (strcmp(name, deep[i].name) == 0) {
@@ -207,6 +243,7 @@ int main(int count, char **arguments) {
     };
     int failed = 0;
     (void)arguments;
+    fill();
     for (place = 0; place < (int)(sizeof names / sizeof *names); place++) {
         const size_t bytes_taken = taken();
         if (count > 1) {

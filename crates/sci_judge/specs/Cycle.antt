@@ -41,7 +41,8 @@ IsCycle timed trace (link ∷ links) = (y : Access) × IsAt trace.accesses.items
 -- no log of the trace, by whatever versions explain the operations at its addresses, is sequentially consistent
 abbrev pub HasNoOrderAtAll : (timed : Bool) → Trace → Type 0
 HasNoOrderAtAll timed trace =
-    (sites : List SiteVersions) (log : Log) → All (IsExplainedAt timed trace) sites → IsLogOf trace sites log → IsSequentiallyConsistent log.logs log.last.value → ⊥
+    (sites : List SiteVersions) (log : Log) → All (IsExplainedAt timed trace) sites → IsLogOf trace sites log
+    → IsSequentiallyConsistent log.logs log.last.value → ⊥
 
 -- ---- inside
 

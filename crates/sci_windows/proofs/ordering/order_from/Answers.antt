@@ -57,7 +57,8 @@ order_of c =
 
 nodes_in : (c : After-deref-in-Order-2) → c.deref-in-Order-2.result.now ≡ map (λ (e : Entry). e.node) (entries_of c.in-Order.order.items)
 nodes_in c =
-    nodes_from c.in-Order.order.items c.deref-in-Order.result.now c.in_ok-nodes-in-Order.nodes.items c.deref-in-Order-2.result.now c.deref-in-Order.ensures.value
+    nodes_from c.in-Order.order.items c.deref-in-Order.result.now c.in_ok-nodes-in-Order.nodes.items c.deref-in-Order-2.result.now
+    c.deref-in-Order.ensures.value
     c.in_ok-nodes-in-Order.ensures c.deref-in-Order-2.ensures.value
 
 pub in_turn-requires-clause-known : goal.in_turn-requires-clause-known
@@ -115,5 +116,6 @@ returns-clause-order c =
     × IsSequentiallyConsistent c.in_ok-relative.relative c.deref.result.now)) c.in-Cycle.is c.in_ok-line.ensures.order in (
       λ none. absurd none,
       λ both. ordered.1 (ordered_relative c.args.logs.now c.in_ok-relative.relative c.args.first.now c.args.last.now c.deref.result.now
-          (window (goal.at.returns-clause-order c).After-sequential_order) c.in_ok-relative.ensures.logs (c.deref.ensures ∙ c.in_ok-contents.ensures.contents) both),
+          (window (goal.at.returns-clause-order c).After-sequential_order) c.in_ok-relative.ensures.logs
+          (c.deref.ensures ∙ c.in_ok-contents.ensures.contents) both),
     )
