@@ -25,18 +25,20 @@ static uint8_t form_of(uint16_t command) {
     return command >= 0x100 && command < 0x100 + sizeof answers ? answers[command - 0x100] : 0xFF;
 }
 
-static uint64_t read_number(const uint8_t *bytes, int count) {
-    uint64_t number = 0;
-    for (int i = 0; i < count; i++) {
-        number = number << 8 | bytes[i];
-    }
-    return number;
+static uint64_t read_word(const uint8_t *b) {
+    return (uint64_t)b[0] << 56 | (uint64_t)b[1] << 48 | (uint64_t)b[2] << 40 | (uint64_t)b[3] << 32 | (uint64_t)b[4] << 24 | (uint64_t)b[5] << 16 |
+           (uint64_t)b[6] << 8 | b[7];
 }
 
-static void write_number(uint8_t *bytes, int count, uint64_t number) {
-    for (int i = 0; i < count; i++) {
-        bytes[i] = (uint8_t)(number >> 8 * (count - 1 - i));
-    }
+static void write_word(uint8_t *b, uint64_t word) {
+    b[0] = (uint8_t)(word >> 56);
+    b[1] = (uint8_t)(word >> 48);
+    b[2] = (uint8_t)(word >> 40);
+    b[3] = (uint8_t)(word >> 32);
+    b[4] = (uint8_t)(word >> 24);
+    b[5] = (uint8_t)(word >> 16);
+    b[6] = (uint8_t)(word >> 8);
+    b[7] = (uint8_t)word;
 }
 
 static int has_bad_identifier(const sci_packet *packet, uint8_t form) {
@@ -49,12 +51,13 @@ static sci_status plain_decode(const uint8_t *bytes, size_t length, sci_packet *
     if (length < 16) {
         return SCI_SHORT;
     }
-    made.target = (uint16_t)read_number(bytes, 2);
-    made.command = (uint16_t)read_number(bytes + 2, 2);
-    made.source = (uint16_t)read_number(bytes + 4, 2);
-    made.control = (uint16_t)read_number(bytes + 6, 2);
-    made.line = read_number(bytes + 8, 6);
-    made.identifier = (uint16_t)read_number(bytes + 14, 2);
+    const uint64_t first = read_word(bytes), second = read_word(bytes + 8);
+    made.target = (uint16_t)(first >> 48);
+    made.command = (uint16_t)(first >> 32);
+    made.source = (uint16_t)(first >> 16);
+    made.control = (uint16_t)first;
+    made.line = second >> 16;
+    made.identifier = (uint16_t)second;
     const uint8_t form = form_of(made.command);
     if (form == 0xFF) {
         return SCI_UNKNOWN_COMMAND;
@@ -72,9 +75,9 @@ static sci_status plain_decode(const uint8_t *bytes, size_t length, sci_packet *
             return SCI_SHORT;
         }
         made.has_contents = 1;
-        made.version = read_number(bytes + 16, 8);
+        made.version = read_word(bytes + 16);
         for (int word = 0; word < SCI_LINE_WORDS; word++) {
-            made.words[word] = read_number(bytes + 24 + 8 * word, 8);
+            made.words[word] = read_word(bytes + 24 + 8 * word);
         }
         *used = SCI_PACKET_BYTES;
     }
@@ -96,16 +99,12 @@ static sci_status plain_encode(const sci_packet *packet, uint8_t bytes[SCI_PACKE
     if (packet->has_contents != (form & CONTENTS)) {
         return packet->has_contents ? SCI_RANGE : SCI_SHORT;
     }
-    write_number(bytes, 2, packet->target);
-    write_number(bytes + 2, 2, packet->command);
-    write_number(bytes + 4, 2, packet->source);
-    write_number(bytes + 6, 2, packet->control);
-    write_number(bytes + 8, 6, packet->line * 64);
-    write_number(bytes + 14, 2, packet->identifier);
+    write_word(bytes, (uint64_t)packet->target << 48 | (uint64_t)packet->command << 32 | (uint64_t)packet->source << 16 | packet->control);
+    write_word(bytes + 8, packet->line << 22 | packet->identifier);
     if (packet->has_contents) {
-        write_number(bytes + 16, 8, packet->version);
+        write_word(bytes + 16, packet->version);
         for (int word = 0; word < SCI_LINE_WORDS; word++) {
-            write_number(bytes + 24 + 8 * word, 8, packet->words[word]);
+            write_word(bytes + 24 + 8 * word, packet->words[word]);
         }
     }
     *used = packet->has_contents ? SCI_PACKET_BYTES : 16;
@@ -189,6 +188,18 @@ static void close_all(void) {
     told = 0;
 }
 
+/* The plain C gives the same bytes and the same packet as the library. */
+static void compare(void) {
+    uint8_t plain[SCI_PACKET_BYTES];
+    sci_packet one = { 0 }, other = { 0 };
+    expect(sci_packet_encode(&packet, bytes, &used));
+    expect(plain_encode(&packet, plain, &used));
+    refused += memcmp(bytes, plain, sizeof plain) != 0;
+    expect(sci_packet_decode(bytes, sizeof bytes, &one, &used));
+    expect(plain_decode(bytes, sizeof bytes, &other, &used));
+    refused += memcmp(&one, &other, sizeof one) != 0;
+}
+
 /* The nanoseconds of processor time that a call takes, on average of this many. */
 static double taken_by(void (*call)(void), long calls) {
     struct timespec begin, end;
@@ -217,6 +228,7 @@ int main(int count, char **arguments) {
         { "sci_scoreboard_tell", tell, 0 },
     };
     const long calls = count > 1 ? atol(arguments[1]) : 1000000, tries = count > 2 ? atol(arguments[2]) : 5;
+    compare();
     for (size_t i = 0; i < sizeof measured / sizeof *measured; i++) {
         const long made = measured[i].most != 0 && measured[i].most < calls ? measured[i].most : calls;
         double least = 0;

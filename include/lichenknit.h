@@ -21,6 +21,9 @@
 ** MEMORY AND STACK. A call takes memory only if SCI_NO_MEMORY is among its statuses. sci_logs_explain and sci_logs_wanted take at most
 ** 24 KB of stack; sci_logs_read and sci_trace_judge 16 KB; sci_logs_order and sci_logs_order_kind 12 KB; all others 8 KB.
 **
+** TIME. On one x86-64 processor an operation that is issued and performed took 59 ns, a turn with nothing to do and a request that isn't
+** enabled 16 ns each, and a packet of 88 bytes 14 ns to write and 20 ns to read (`make calls`).
+**
 ** THE PROCESSOR. The library that `make library` builds needs an x86-64 processor of level v2, with SSE4.2, and doesn't look for
 ** one: an older processor ends the program by SIGILL. That of an archive by `make dist` needs any x86-64 processor.
 **
