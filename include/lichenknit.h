@@ -1048,8 +1048,8 @@ sci_status sci_logs_order_kind(const sci_logs *logs, uint32_t *kind);
 **   - SCI_NO_MEMORY */
 sci_status sci_logs_read(sci_logs *logs, const uint8_t *text, size_t length, sci_text_fault *fault);
 
-/** Writes the text of the logs over the first bytes, and how many. The bytes after it stay, and no zero ends the text
-** (sci_text::logs_text).
+/** Writes the text of the logs over the first bytes, and how many. The bytes after it stay, and no zero ends the text. If a serial is
+** 65,536 or more, sci_logs_read refuses it (sci_text::logs_text).
 **
 **   - SCI_OK          text and used are written.
 **   - SCI_RANGE       The logs can't be a text: they begin with contents that were given.
