@@ -383,7 +383,7 @@ module _ (K : Change) (IsTurn : ℕ → Working → Working → Type 0) (parts :
               ]
         ]
 
-    -- so it is taken within so many windows for each packet up to it
+    -- so it is taken within one window more than the count for each packet up to it
     pub letter_comes : (p position extra : ℕ) (order : List ℕ) (first last : Working) → position ≤ p → WorksByTurns first.core → first.core.size ≡ size
         → Stands_on first.core n to letter position → AreTurns IsTurn order first last → HasWindows size.nodes (suc p * suc most + extra) order
         → ComesBy IsTurn Done size.nodes extra order first last
