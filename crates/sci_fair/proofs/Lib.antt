@@ -28,13 +28,13 @@ pub mod LaneTurns
 pub mod HomeAnswers
 pub mod Descents
 pub mod Fronts
-pub mod Going
+mod Going
 mod Creads
 mod Leaders
 mod KeptTurns
 mod Passing
 mod TurnLaws
-pub mod EachRequest
+mod EachRequest
 pub mod Requests
 pub mod AnswersCome
 pub mod SteadyLaws
@@ -50,6 +50,6 @@ pub mod Promised
 pub mod Comers
 pub mod Joins
 pub mod Homes
-pub mod Standing
-mod Standstill
+mod Standing
+pub mod Standstill
 pub mod Stretches
