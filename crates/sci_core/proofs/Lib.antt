@@ -10,3 +10,4 @@ pub mod ReachedLaws
 pub mod Schedules
 pub mod NetworkLaws
 pub mod Summaries
+pub mod Submitting

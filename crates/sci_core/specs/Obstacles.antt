@@ -1,9 +1,9 @@
 -- Why an event isn't enabled: the first thing that stands in its way, in the order of these cases.
-use Rattle.std.specs.Prelude.{ℕ, List, codes, Bool, nat_lt, not, if◌then◌else◌, Option, Some, None, is_some, is_none, Result, Ok, Err, slice_get}
+use Rattle.std.specs.Prelude.{ℕ, List, codes, Bool, nat_lt, not, if◌then◌else◌, Option, Some, None, is_some, is_none, option_map, Result, Ok, Err, slice_get}
 use Rattle.sci_words.specs.declared.{limits.TheConstants.{WORDS_PER_LINE}, event.{AskKind.{AskKind}, Event.{Event}}}
 use Rattle.sci_words.specs.declared.operation.Op.{Op}
 use Rattle.sci_cache.specs.{declared.fault.AskFault.{AskFault}, Cache.{CacheOf, Letter, cache_asking}}
-use Rattle.sci_core.specs.declared.obstacle.Obstacle.{Obstacle}
+use Rattle.sci_core.specs.declared.{obstacle.Obstacle.{Obstacle}, submit.SubmitFault.{SubmitFault}}
 use Rattle.sci_core.specs.declared.obstacle.Obstacle.TheVariants.{NoSuchNode, NoSuchSender, NoSuchLine, NoSuchWord, AlreadyPending, NoIssueLeft}
 use Rattle.sci_core.specs.declared.obstacle.Obstacle.TheVariants.{NothingPending, NotAllowed, NotAsked, NoSlot, NothingUnderWay, AnswerWaits, SetbackComes}
 use Rattle.sci_core.specs.declared.{obstacle.Obstacle.TheVariants.{NoAnswerWaits}, taking.Taking.{Taking}}
@@ -12,17 +12,30 @@ use Rattle.sci_core.specs.Node.{NodeOf, lines_of, pending_on, is_setback, node_p
 use Rattle.sci_core.specs.{Core.{Core, node_at, lane_of, node_of}, Taking.{lane_kind}}
 use Rattle.sci_words.specs.declared.event.Event.TheVariants as event
 use Rattle.sci_cache.specs.declared.fault.AskFault.TheVariants as fault
+use Rattle.sci_core.specs.declared.submit.SubmitFault.TheVariants as submit
 
 -- what stands in the way: this, unless the condition is met, and else the rest
 abbrev pub unless : Bool → Obstacle → Option Obstacle → Option Obstacle
 unless met obstacle rest = if met then rest else Some obstacle
 
+-- why an operation can't be submitted, if it can't: the first cause that holds
+abbrev pub submit_fault : NodeOf → Op → Option SubmitFault
+submit_fault node op =
+    if not (nat_lt op.line (lines_of node)) then Some submit.NoSuchLine
+    else if not (nat_lt op.word WORDS_PER_LINE) then Some submit.NoSuchWord
+    else if is_some (pending_on node op.line) then Some submit.LineTaken
+    else if not (nat_lt node.issued node.limit) then Some submit.LogFull
+    else None
+
+-- the same cause, as that of an Issue
+abbrev pub obstacle_of : SubmitFault → Obstacle
+obstacle_of submit.NoSuchLine = NoSuchLine
+obstacle_of submit.NoSuchWord = NoSuchWord
+obstacle_of submit.LineTaken = AlreadyPending
+obstacle_of submit.LogFull = NoIssueLeft
+
 abbrev pub issue_obstacle : NodeOf → Op → Option Obstacle
-issue_obstacle node op =
-    unless (nat_lt op.line (lines_of node)) NoSuchLine
-    (unless (nat_lt op.word WORDS_PER_LINE) NoSuchWord
-    (unless (is_none (pending_on node op.line)) AlreadyPending
-    (unless (nat_lt node.issued node.limit) NoIssueLeft None)))
+issue_obstacle node op = option_map obstacle_of (submit_fault node op)
 
 abbrev pub perform_obstacle : NodeOf → ℕ → Option Obstacle
 perform_obstacle node line =

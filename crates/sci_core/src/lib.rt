@@ -20,6 +20,7 @@ mod queue;
 mod settle;
 mod sharing_list;
 mod state;
+mod submit;
 mod taking;
 
 pub use apply::node_of;
@@ -46,3 +47,4 @@ pub use pending::Pending;
 pub use progress::{packets_move_on, packets_run_out, weightless_is_drained, weights_are_bounded};
 pub use queue::{first_come_first_served, members_wait_in_line, the_first_is_served};
 pub use sharing_list::Sharing;
+pub use submit::SubmitFault;

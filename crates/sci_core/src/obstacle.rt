@@ -6,9 +6,10 @@ ghost use Rattle.sci_cache.specs.{Asking.{asking}, State.{Out}};
 use crate::apply::node_of;
 use crate::machine::Machine;
 use crate::node::Node;
+use crate::submit::SubmitFault;
 use crate::taking::Taking;
 use sci_packets::{Body, Packet};
-use sci_words::{AskKind, Event, Op, WORDS_PER_LINE};
+use sci_words::{AskKind, Event, Op};
 
 /// Why an event isn't enabled: the first thing that stands in its way.
 #[derive(Clone, Copy, Debug, PartialEq, Eq)]
@@ -92,18 +93,10 @@ impl Node {
         ensures obstacle { result ≡ issue_obstacle_of self.now op.now }
         ensures enabled { is_none result ≡ is_some (node_issuing self.now op.now) }
     {
-        let may_issue = self.may_issue(op);
-        if op.line >= self.extent().lines {
-            Some(Obstacle::NoSuchLine)
-        } else if usize::from(op.word) >= WORDS_PER_LINE {
-            Some(Obstacle::NoSuchWord)
-        } else if self.pending(op.line).is_some() {
-            Some(Obstacle::AlreadyPending)
-        } else if !may_issue {
-            Some(Obstacle::NoIssueLeft)
-        } else {
-            None
+        if self.may_issue(op) {
+            return None;
         }
+        Some(SubmitFault::of(self, op).obstacle())
     }
 
     /// Why the operation that is pending on a line can't be performed, or None if it can.

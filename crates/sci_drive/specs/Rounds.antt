@@ -4,8 +4,8 @@ use Rattle.std.specs.Prelude.{Option, Some, None, IsSome, Result, Ok, Err, IfOk,
 use Rattle.std.specs.{List.{Contains}, declared.alloc.AllocError.{AllocError}}
 use Rattle.sci_words.specs.declared.operation.Op.{Op}
 use Rattle.sci_history.specs.declared.entry.Entry.{Entry}
-use Rattle.sci_core.specs.{Node.{NodeOf, node_performing}, Work.{IsIssued, IsLogged}}
-use Rattle.sci_policy.specs.{Deeds.{Deed, Issues, Performs, Turns}, Turn.{submit_fault}, Worker.{HasSameWork, IsNodeTurn}}
+use Rattle.sci_core.specs.{Node.{NodeOf, node_performing}, Obstacles.{submit_fault}, Work.{IsIssued, IsLogged}}
+use Rattle.sci_policy.specs.{Deeds.{Deed, Issues, Performs, Turns}, Worker.{HasSameWork, IsNodeTurn}}
 use Rattle.sci_drive.specs.declared.driver.{Issuing.{Issuing, TheVariants.{Ahead, InOrder}}, Round.{Round}}
 use Rattle.sci_drive.specs.{Calls.{Call, IsHeard, MayIssue, reports}, Driving.{DriverOf, IsAnswered}, Resting.{AreBehind}}
 

@@ -2,12 +2,10 @@
 
 ghost use Rattle.std.specs.Prelude.{◌≡◌, ◌<◌, Some, None, IfErr, IfOk, IfSome, IsErr, IsOk};
 ghost use Rattle.sci_words.specs.declared.event.Event.TheVariants.{Issue, Perform};
-ghost use Rattle.sci_core.specs.{Core.{node_at, stepping}, Node.{node_performing}};
-ghost use Rattle.sci_policy.specs.Turn.{submit_fault};
+ghost use Rattle.sci_core.specs.{Core.{node_at, stepping}, Node.{node_performing}, Obstacles.{submit_fault}};
 
-use sci_core::Machine;
+use sci_core::{Machine, SubmitFault};
 use sci_history::Entry;
-use sci_policy::SubmitFault;
 use sci_words::Op;
 
 /// Submits an operation at a node: an Issue, whose serial it gives. Requires that there is such a node.

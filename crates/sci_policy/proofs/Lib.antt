@@ -8,7 +8,6 @@ pub mod AlwaysWants
 pub mod Idle
 pub mod Targets
 pub mod Deciding
-pub mod Submitting
 pub mod Telling
 pub mod Alone
 pub mod Circles

@@ -4,8 +4,7 @@ use Rattle.std.specs.{Prelude.{is_some, IfSome, IsSome}, List.{list_any}}
 use Rattle.sci_words.specs.declared.{limits.TheConstants.{WORDS_PER_LINE}, event.Event.{Event}, operation.Op.{Op}}
 use Rattle.sci_core.specs.{Core.{node_of}, Node.{NodeOf, lines_of, node_performing, pending_on}}
 use Rattle.sci_policy.specs.declared.decision.Decision.{Decision, TheVariants.{Keep, Refuse, Serve}}
-use Rattle.sci_policy.specs.declared.{progress.Progress.{Progress}, submit.SubmitFault.{SubmitFault}}
-use Rattle.sci_policy.specs.declared.submit.SubmitFault.TheVariants.{NoSuchLine, NoSuchWord, LineTaken, LogFull}
+use Rattle.sci_policy.specs.declared.progress.Progress.{Progress}
 use Rattle.sci_words.specs.declared.event.Event.TheVariants as event
 
 -- ---- the events of a turn
@@ -74,17 +73,6 @@ pub record MadeNothing (progress : Progress) : Type 0 where
 -- the line that is reported, if any, has an operation that can be performed
 abbrev pub MayPerform : NodeOf → Option ℕ → Type 0
 MayPerform node ready = IfSome ready (λ line. IsSome (node_performing node line))
-
--- ---- what is submitted
-
--- why an operation can't be submitted, if it can't: the first cause that holds
-abbrev pub submit_fault : NodeOf → Op → Option SubmitFault
-submit_fault node op =
-    if not (nat_lt op.line (lines_of node)) then Some NoSuchLine
-    else if not (nat_lt op.word WORDS_PER_LINE) then Some NoSuchWord
-    else if is_some (pending_on node op.line) then Some LineTaken
-    else if not (nat_lt node.issued node.limit) then Some LogFull
-    else None
 
 -- ---- the report of a turn that found nothing to do
 

@@ -9,13 +9,12 @@ mod lines;
 mod policy;
 mod progress;
 mod rules;
-mod submit;
 mod want;
 mod worker;
 
 pub use decision::Decision;
 pub use policy::{PATIENCE, Policy};
 pub use progress::Progress;
-pub use submit::SubmitFault;
+pub use sci_core::SubmitFault;
 pub use want::Want;
 pub use worker::Worker;

@@ -1,7 +1,7 @@
 //! A worker does a processor's operations: submits them, performs them, and takes turns in between.
 
 use crate::progress::Progress;
-use crate::submit::SubmitFault;
+use sci_core::SubmitFault;
 use sci_history::Entry;
 use sci_words::Op;
 use std::alloc::AllocError;
@@ -15,8 +15,8 @@ use std::alloc::AllocError;
 /// which requests are let go, a Head that was used is given to the next node that asks.
 pub trait Worker {
     ghost use Rattle.std.specs.Prelude.{◌≡◌, ◌++◌, true, List, [], ◌∷◌, Some, None, IfOk, IfErr, IfSome, IsErr};
-    ghost use Rattle.sci_core.specs.{Node.{NodeOf, node_performing}, Work.{IsIssued, IsLogged}};
-    ghost use Rattle.sci_policy.specs.{Deeds.{Deed, Issues, Performs, Turns}, Rest.{MayIdle}, Turn.{is_idle, submit_fault}, Worker.{HasSameWork, IsNodeTurn}};
+    ghost use Rattle.sci_core.specs.{Node.{NodeOf, node_performing}, Obstacles.{submit_fault}, Work.{IsIssued, IsLogged}};
+    ghost use Rattle.sci_policy.specs.{Deeds.{Deed, Issues, Performs, Turns}, Rest.{MayIdle}, Turn.{is_idle}, Worker.{HasSameWork, IsNodeTurn}};
 
     ghost node: { Self → NodeOf };
 

@@ -11,10 +11,8 @@ use Rattle.sci_history.specs.{declared.entry.Entry.{Entry}, Seen.{IsAmong}}
 use Rattle.sci_words.specs.declared.{event.Event.{Event}, operation.Op.{Op}}
 use Rattle.sci_text.specs.{Script.{IsScript, ScriptValue, operations_of}}
 use Rattle.sci_core.specs.{Core.{Core, lane_at, node_at, node_of, stepping}, Node.{NodeOf, lines_of, node_performing, pending_on, performing_pending}}
-use Rattle.sci_core.specs.{Reached.{IsReached}, Size.{Size}}
-use Rattle.sci_core.specs.declared.pending.Pending.{Pending}
+use Rattle.sci_core.specs.{declared.{pending.Pending.{Pending}, submit.SubmitFault.{SubmitFault}}, Obstacles.{submit_fault}, Reached.{IsReached}, Size.{Size}}
 use Rattle.sci_core.proofs.WellFormed.WellFormedSteps.{reached_well, size_either}
-use Rattle.sci_policy.specs.{declared.submit.SubmitFault.{SubmitFault}, Turn.{submit_fault}}
 use Rattle.sci_policy.specs.{Deeds.{Deed, DoesBy, Issues, Performs, Turns}, Policy.{PolicyOf, opening_policy}}
 use Rattle.sci_locked.specs.Lent.{KeepsRoom}
 use Rattle.sci_turn.specs.{Posts.{post_at}, Whole.{IsWholeTurn}}

@@ -6,11 +6,11 @@ use Rattle.std.proofs.lemmas.{List.{Elements.{All-head}, Sums.{count_by-le-lengt
 use Rattle.std.specs.{Prelude.{IfSome, IsSome, count_by, nat_lt, slice_get}, List.{Contains}}
 use Rattle.sci_words.specs.declared.{event.Event.{Event}, limits.TheConstants.{WORDS_PER_LINE}, operation.Op.{Op}}
 use Rattle.sci_history.specs.declared.entry.Entry.{Entry}
-use Rattle.sci_core.specs.declared.{lane.LaneKind.TheVariants.{Answers}, pending.Pending.{Pending}}
-use Rattle.sci_core.specs.{Core.{Core, lane_of, node_at}, Node.{NodeOf, lines_of, node_performing, pending_on}}
-use Rattle.sci_policy.specs.declared.{progress.Progress.{Progress}, submit.SubmitFault.{SubmitFault}, want.Want.{Want, TheVariants.{Perform, Ask}}}
+use Rattle.sci_core.specs.declared.{lane.LaneKind.TheVariants.{Answers}, pending.Pending.{Pending}, submit.SubmitFault.{SubmitFault}}
+use Rattle.sci_core.specs.{Core.{Core, lane_of, node_at}, Node.{NodeOf, lines_of, node_performing, pending_on}, Obstacles.{submit_fault}}
+use Rattle.sci_policy.specs.declared.{progress.Progress.{Progress}, want.Want.{Want, TheVariants.{Perform, Ask}}}
 use Rattle.sci_policy.specs.{Deeds.{Deed, DoesBy, Issues, Performs, Turns}, Policy.{PolicyOf, next_policy, next_wanted, opening_policy, turned}}
-use Rattle.sci_policy.specs.Turn.{Counts, MadeNothing, MayPerform, is_idle, submit_fault}
+use Rattle.sci_policy.specs.Turn.{Counts, MadeNothing, MayPerform, is_idle}
 use Rattle.sci_turn.specs.{Idle.{IsHeldUp, IsIdleTurn, WasSo}, Moves.{HasMoved, Leads, own_of, taken_next}}
 use Rattle.sci_turn.specs.Posts.{IsFurther, IsStill, OthersLead, PostOf, post_at}
 use Rattle.sci_turn.proofs.Stills.{still_itself}

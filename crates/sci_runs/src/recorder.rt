@@ -1,10 +1,9 @@
 //! A machine with the schedule that has led it where it stands.
 
 use crate::fault::RunFault;
-use sci_core::Machine;
+use sci_core::{Machine, SubmitFault};
 use sci_history::Entry;
 use sci_locked::{perform_on, submit_on};
-use sci_policy::SubmitFault;
 use sci_text::{PushFault, Schedule};
 use sci_words::{Event, Extent, Op};
 use std::alloc::{AllocError, Global};
@@ -88,8 +87,7 @@ impl Recorder {
     ghost use Rattle.sci_words.specs.declared.limits.TheConstants.{MAX_EVENTS, MAX_OPERATIONS};
     ghost use Rattle.sci_runs.specs.declared.fault.RunFault.{RunFault, TheVariants.{TooMany}};
     ghost use Rattle.sci_core.specs.{Core.{IsEnabled, node_at, opening, stepping}, Node.{node_performing}, Reached.{IsReached}, Size.{size_of}};
-    ghost use Rattle.sci_core.specs.Work.{IsIssued, IsLogged};
-    ghost use Rattle.sci_policy.specs.Turn.{submit_fault};
+    ghost use Rattle.sci_core.specs.{Obstacles.{submit_fault}, Work.{IsIssued, IsLogged}};
     ghost use Rattle.sci_text.specs.Schedule.{IsSchedule};
     ghost use Rattle.sci_runs.specs.Recorded.{HasLed, IsOfSize, SparesOthers};
 

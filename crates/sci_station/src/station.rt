@@ -38,8 +38,8 @@ impl HasEnd for Station {
 
 impl Station {
     ghost use Rattle.std.specs.Prelude.{◌≡◌, ◌<◌, ◌≤◌, ◌⊎◌, [], true, Some, None, IfErr, IfOk, IfSome, IsErr, IsOk};
-    ghost use Rattle.sci_core.specs.{Node.{node_issuing, node_performing}, Work.{IsIssued, IsLogged}};
-    ghost use Rattle.sci_policy.specs.{Rest.{MayIdle}, Turn.{MayPerform, is_idle, submit_fault}};
+    ghost use Rattle.sci_core.specs.{Node.{node_issuing, node_performing}, Obstacles.{submit_fault}, Work.{IsIssued, IsLogged}};
+    ghost use Rattle.sci_policy.specs.{Rest.{MayIdle}, Turn.{MayPerform, is_idle}};
     ghost use Rattle.sci_policy.specs.Worker.{HasSameWork, IsNodeTurn};
     ghost use Rattle.sci_words.specs.declared.event.Event.TheVariants.{Issue, Perform};
     ghost use Rattle.sci_lanes.specs.{Shown.{me_of}, Telling.{IsMade}};

@@ -1,7 +1,7 @@
 use Rattle.std.proofs.Common.{◌≡◌, None, sym, ap, subst, ◌∙◌}
 use Rattle.std.specs.Prelude.{is_some}
 use Rattle.sci_core.specs.{Core.{Core, node_at}, Node.{NodeOf, node_issuing}}
-use Rattle.sci_policy.proofs.Submitting.{issued_freely}
+use Rattle.sci_core.proofs.Submitting.{issued_freely}
 use Rattle.sci_locked.proofs.lent.submit_on.Goals as goal
 
 pub of-requires : goal.of-requires

@@ -4,8 +4,8 @@ use Rattle.std.proofs.lemmas.Option.{slice_get_past, slice_get_read}
 use Rattle.std.specs.Prelude.{nat_eq, nat_lt, slice_get, Result, Ok, Err, IfErr, IsErr, IsSome}
 use Rattle.std.specs.List.{Contains, list_any}
 use Rattle.sci_words.specs.declared.operation.Op.{Op}
-use Rattle.sci_core.specs.Work.{IsIssued}
-use Rattle.sci_policy.specs.{Deeds.{Issues}, Turn.{submit_fault}}
+use Rattle.sci_core.specs.{Obstacles.{submit_fault}, Work.{IsIssued}}
+use Rattle.sci_policy.specs.Deeds.{Issues}
 use Rattle.sci_drive.specs.{Calls.{MayIssue}, Driving.{DriverOf, IsDriven}}
 use Rattle.sci_drive.specs.Rounds.{AllSubmitted, LineIsTaken, NoRoom, NotAllowed, Refused, most_pending, next_op}
 use Rattle.sci_drive.proofs.{Drives.{left_of, submits}, DriverRounds.{asks, holds_back, submits_one}}

@@ -1,6 +1,7 @@
 //! Why an operation can't be submitted.
 
-use sci_core::Node;
+use crate::node::Node;
+use crate::obstacle::Obstacle;
 use sci_words::{Op, WORDS_PER_LINE};
 
 /// Why an operation can't be submitted, in the order in which the causes are looked for.
@@ -19,7 +20,7 @@ pub enum SubmitFault {
 impl SubmitFault {
     ghost use Rattle.std.specs.Prelude.{◌≡◌, Some, None};
     ghost use Rattle.sci_core.specs.Node.{node_issuing};
-    ghost use Rattle.sci_policy.specs.Turn.{submit_fault};
+    ghost use Rattle.sci_core.specs.Obstacles.{submit_fault, obstacle_of};
 
     /// Why an operation can't be issued at a node: the first cause that holds. Requires that it can't be issued there.
     pub fn of(node: &Node, op: &Op) -> SubmitFault
@@ -38,5 +39,17 @@ impl SubmitFault {
             return SubmitFault::LineTaken;
         }
         SubmitFault::LogFull
+    }
+
+    /// The same cause, as that of an Issue.
+    pub(crate) fn obstacle(self) -> Obstacle
+        ensures { result ≡ obstacle_of self }
+    {
+        match self {
+            SubmitFault::NoSuchLine => Obstacle::NoSuchLine,
+            SubmitFault::NoSuchWord => Obstacle::NoSuchWord,
+            SubmitFault::LineTaken => Obstacle::AlreadyPending,
+            SubmitFault::LogFull => Obstacle::NoIssueLeft,
+        }
     }
 }
