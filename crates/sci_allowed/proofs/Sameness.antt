@@ -2,7 +2,7 @@
 use Rattle.std.proofs.Common.{◌≡◌, ◌&&◌, ℕ, nat_eq, Bool, true, List, [], ◌∷◌, refl, ap, subst, ◌∙◌, arith}
 use Rattle.std.proofs.lemmas.Bool.{and_from, and_parts, eq-eqb, eqb-true}
 use Rattle.std.specs.Cmp.Lexicographic.{pointwise}
-use Rattle.sci_allowed.specs.{Outcome.{Shown, shown_of}, declared.outcome.{Held.{Held}, Outcome.{Outcome}, Replied.{Replied}}}
+use Rattle.sci_allowed.specs.{Outcome.{Shown, shown_of}, declared.outcome.{FinalWord.{FinalWord}, Outcome.{Outcome}, Replied.{Replied}}}
 use Rattle.sci_allowed.specs.contracts.outcome.HeldPartialEq.TheImpl as held
 use Rattle.sci_allowed.specs.contracts.outcome.OutcomePartialEq.TheImpl as outcomes
 use Rattle.sci_allowed.specs.contracts.outcome.RepliedPartialEq.TheImpl as replies
@@ -47,14 +47,14 @@ same_replied a b is =
 equal_replied : (a : Replied) → (replies.ghosts).eq a a ≡ true
 equal_replied a = numbers_equal a.node a.serial a.word
 
-same_held : (a b : Held) → (held.ghosts).eq a b ≡ true → a ≡ b
+same_held : (a b : FinalWord) → (held.ghosts).eq a b ≡ true → a ≡ b
 same_held a b is =
     let all = numbers_same a.line a.word a.value b.line b.word b.value is in
-    ap (λ (n : ℕ). let h : Held = record { line = n; word = a.word; value = a.value } in h) all.0
-    ∙ (ap (λ (n : ℕ). let h : Held = record { line = b.line; word = n; value = a.value } in h) all.1.0
-    ∙ ap (λ (n : ℕ). let h : Held = record { line = b.line; word = b.word; value = n } in h) all.1.1)
+    ap (λ (n : ℕ). let h : FinalWord = record { line = n; word = a.word; value = a.value } in h) all.0
+    ∙ (ap (λ (n : ℕ). let h : FinalWord = record { line = b.line; word = n; value = a.value } in h) all.1.0
+    ∙ ap (λ (n : ℕ). let h : FinalWord = record { line = b.line; word = b.word; value = n } in h) all.1.1)
 
-equal_held : (a : Held) → (held.ghosts).eq a a ≡ true
+equal_held : (a : FinalWord) → (held.ghosts).eq a a ≡ true
 equal_held a = numbers_equal a.line a.word a.value
 
 -- ---- outcomes

@@ -7,7 +7,7 @@ use Rattle.sci_history.specs.declared.entry.Entry.{Entry}
 use Rattle.sci_core.specs.Size.{Size}
 use Rattle.sci_orders.specs.{Orders.{IsOutcomeOf}, Positions.{Operations, Position, answer_at, own_of}}
 use Rattle.sci_allowed.{proofs.Sameness.{same_shown}, specs.Outcome.{IsPlaceWithin, held_in, replied_at, replies_at, replies_on, shown_at}}
-use Rattle.sci_allowed.specs.declared.{outcome.{Held.{Held}, Replied.{Replied}}, place.Place.{Place}}
+use Rattle.sci_allowed.specs.declared.{outcome.{FinalWord.{FinalWord}, Replied.{Replied}}, place.Place.{Place}}
 
 -- what two functions give of the numbers from one on is the same, if they give the same of each
 pub gives_same : {Y : Type 0} (f g : ℕ → Option Y) (a n : ℕ) → ((i : ℕ) → i < a + n → f i ≡ g i)
@@ -44,7 +44,7 @@ module _ (size : Size) (operations : Operations) (entries : List Entry) (content
 
   same_word : (place : Place) → IsPlaceWithin size.lines place → held_in p place ≡ held_in q place
   same_word place within =
-      ap (λ (word : ℕ). let h : Held = record { line = place.line; word = place.word; value = word } in h)
+      ap (λ (word : ℕ). let h : FinalWord = record { line = place.line; word = place.word; value = word } in h)
       (one.words place.line place.word within.0 within.1 ∙ sym (other.words place.line place.word within.0 within.1))
 
   pub shown_same : (places : List Place) → All (IsPlaceWithin size.lines) places → shown_at operations places p ≡ shown_at operations places q

@@ -10,14 +10,14 @@ use Rattle.sci_allowed.specs.declared.condition_text.Binding.TheVariants as bind
 use Rattle.sci_allowed.specs.declared.condition.Term.TheVariants as term
 use Rattle.sci_allowed.specs.declared.condition.Term as terms
 use Rattle.sci_orders.specs.Positions.{own_of}
-use Rattle.sci_allowed.specs.{Allowed.{shares_of}, Outcome.{Shown, is_written}, declared.outcome.{Held.{Held}, Replied.{Replied}}}
+use Rattle.sci_allowed.specs.{Allowed.{shares_of}, Outcome.{Shown, is_written}, declared.outcome.{FinalWord.{FinalWord}, Replied.{Replied}}}
 
 -- ---- what it says
 
 abbrev pub has_reply : Replied → List Replied → Bool
 has_reply said replies = list_any (λ r. (r.node == said.node) && ((r.serial == said.serial) && (r.word == said.word))) replies
 
-abbrev pub has_word : Held → List Held → Bool
+abbrev pub has_word : FinalWord → List FinalWord → Bool
 has_word said words = list_any (λ h. (h.line == said.line) && ((h.word == said.word) && (h.value == said.value))) words
 
 -- whether what is seen of a run is as the term says: an operation replied the word, or a word of memory holds the value

@@ -6,7 +6,7 @@ use Rattle.sci_words.specs.declared.{limits.TheConstants.{WORDS_PER_LINE}, opera
 use Rattle.sci_words.specs.Operation.{is_maker}
 use Rattle.sci_orders.specs.Positions.{Operations, Position, answer_at, own_of}
 use Rattle.sci_orders.specs.declared.standing.Answer.{Answer, TheVariants.{Got}}
-use Rattle.sci_allowed.specs.declared.outcome.{Held.{Held}, Outcome.{Outcome}, Replied.{Replied}}
+use Rattle.sci_allowed.specs.declared.outcome.{FinalWord.{FinalWord}, Outcome.{Outcome}, Replied.{Replied}}
 use Rattle.sci_allowed.specs.declared.place.Place.{Place}
 
 -- ---- the words that a script may write
@@ -54,16 +54,16 @@ abbrev pub replies_at : Operations → Position → List Replied
 replies_at operations p = flat_map (replies_on operations p) (range_with_len 0 (length operations))
 
 -- what the word at a place holds, if these are all words
-abbrev pub held_of : List ℕ → Place → Held
+abbrev pub held_of : List ℕ → Place → FinalWord
 held_of words place = record { line = place.line; word = place.word; value = slice_index_or words (place.line * WORDS_PER_LINE + place.word) 0 }
 
-abbrev pub held_in : Position → Place → Held
+abbrev pub held_in : Position → Place → FinalWord
 held_in p place = held_of p.words place
 
 -- what is seen of a run: what its operations replied, by node and then by serial, and what words hold at its end
 pub record Shown : Type 0 where
   pub replies : List Replied
-  pub last : List Held
+  pub last : List FinalWord
 
 -- what these operations replied, and what the words at these places hold
 abbrev pub shown_at : Operations → List Place → Position → Shown
@@ -77,7 +77,7 @@ shown_of outcome = record { replies = outcome.replies.items; last = outcome.last
 abbrev pub replied_cmp : Replied → Replied → Ordering
 replied_cmp a b = ordering_then (nat_cmp a.node b.node) (ordering_then (nat_cmp a.serial b.serial) (nat_cmp a.word b.word))
 
-abbrev pub held_cmp : Held → Held → Ordering
+abbrev pub held_cmp : FinalWord → FinalWord → Ordering
 held_cmp a b = ordering_then (nat_cmp a.line b.line) (ordering_then (nat_cmp a.word b.word) (nat_cmp a.value b.value))
 
 abbrev pub outcome_cmp : Outcome → Outcome → Ordering

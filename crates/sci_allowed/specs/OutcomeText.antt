@@ -2,14 +2,14 @@
 use Rattle.std.specs.Prelude.{ℕ, Bool, true, false, List, [], ◌∷◌, ◌++◌, codes}
 use Rattle.std.specs.List.{flat_map}
 use Rattle.sci_text.specs.Number.{number}
-use Rattle.sci_allowed.specs.declared.outcome.{Held.{Held}, Outcome.{Outcome}, Replied.{Replied}}
+use Rattle.sci_allowed.specs.declared.outcome.{FinalWord.{FinalWord}, Outcome.{Outcome}, Replied.{Replied}}
 
 -- `NODE:SERIAL=WORD `
 unfoldable pub replied_text : Replied → List ℕ
 replied_text replied = number replied.node ++ (codes ":" ++ (number replied.serial ++ (codes "=" ++ (number replied.word ++ codes " "))))
 
 -- ` LINE.PLACE=WORD`
-unfoldable pub held_text : Held → List ℕ
+unfoldable pub held_text : FinalWord → List ℕ
 held_text held = codes " " ++ (number held.line ++ (codes "." ++ (number held.word ++ (codes "=" ++ number held.value))))
 
 -- what was replied, a bar, and the words

@@ -3,7 +3,7 @@
 ghost use Rattle.std.specs.Prelude.{◌≡◌};
 ghost use Rattle.sci_allowed.specs.{Condition.{has_reply as has_reply_of, has_word as has_word_of, satisfies, says_of}, Outcome.{shown_of}};
 
-use crate::outcome::{Held, Outcome, Replied};
+use crate::outcome::{FinalWord, Outcome, Replied};
 
 /// What one term says of an outcome.
 #[derive(Clone, Copy, Debug, PartialEq, Eq)]
@@ -11,7 +11,7 @@ pub enum Term {
     /// That an operation replied a word.
     Replied(Replied),
     /// That a word of memory holds a value at the end.
-    Held(Held),
+    Held(FinalWord),
 }
 
 /// What is said of an outcome.
@@ -57,7 +57,7 @@ fn has_reply(replies: &[Replied], said: Replied) -> bool
 }
 
 /// Whether this is what one of the words holds.
-fn has_word(words: &[Held], said: Held) -> bool
+fn has_word(words: &[FinalWord], said: FinalWord) -> bool
     ensures { result ≡ has_word_of said words.now }
 {
     words.iter().any(|h| h.line == said.line && h.word == said.word && h.value == said.value)

@@ -8,7 +8,7 @@ ghost use Rattle.sci_allowed.specs.Condition.{IsRead, IsSaidBy, has_term, quanti
 
 use crate::condition::{Condition, FinalCondition, Quantifier, Term};
 use crate::litmus::Litmus;
-use crate::outcome::{Held, Replied};
+use crate::outcome::{FinalWord, Replied};
 use sci_text::whole_number;
 use std::alloc::{AllocError, Global};
 
@@ -78,7 +78,7 @@ fn range(rest: &[u8], expected: &'static str) -> Unread {
 }
 
 /// What stands for a term that isn't judged.
-const NO_TERM: Term = Term::Held(Held {
+const NO_TERM: Term = Term::Held(FinalWord {
     line: 0,
     word: 0,
     value: 0,
@@ -215,7 +215,7 @@ impl ConditionReader<'_> {
         let (word, rest) = self.number(rest)?;
         let (value, rest) = self.value(rest)?;
         let term = match (u8::try_from(line), u8::try_from(word)) {
-            (Ok(line), Ok(word)) => Some(Term::Held(Held { line, word, value })),
+            (Ok(line), Ok(word)) => Some(Term::Held(FinalWord { line, word, value })),
             _ => None,
         };
         let term = self.known(

@@ -19,7 +19,7 @@ pub use allowed_report::{AllowedRequest, allowed};
 pub use condition::{Condition, FinalCondition, Quantifier, Term};
 pub use conditioned::{Conditioned, read_conditioned};
 pub use litmus::Litmus;
-pub use outcome::{Held, Outcome, Replied};
+pub use outcome::{FinalWord, Outcome, Replied};
 pub use outcome_text::{push_outcome, sense_words};
 pub use place::{Place, written_places};
 pub use rows::{AllowedRow, TOO_MANY_POSITIONS};

@@ -24,7 +24,7 @@ pub struct Replied {
 
 /// What a word of memory holds.
 #[derive(Clone, Copy, Debug, PartialEq, Eq, PartialOrd, Ord)]
-pub struct Held {
+pub struct FinalWord {
     /// The line, below 64.
     pub line: u8,
     /// The word's place in the line, below 8.
@@ -39,7 +39,7 @@ pub struct Outcome {
     /// What each load and each lock operation replied, by node, then by serial.
     pub replies: Vec<Replied>,
     /// What each word that the script may write holds at the end, by line, then by place.
-    pub last: Vec<Held>,
+    pub last: Vec<FinalWord>,
 }
 
 /// What the operation with this serial replied. None if it is a store, or isn't performed.
@@ -96,11 +96,11 @@ fn replies_of(
 }
 
 /// What the word at a place holds, and 0 if there is no such word.
-fn held_word(place: Place, words: &[Word]) -> Held
+fn held_word(place: Place, words: &[Word]) -> FinalWord
     ensures { result ≡ held_of words.now place }
 {
     let at = usize::from(place.line) * WORDS_PER_LINE + usize::from(place.word);
-    Held {
+    FinalWord {
         line: place.line,
         word: place.word,
         value: words.get(at).copied().unwrap_or(0),
@@ -108,7 +108,11 @@ fn held_word(place: Place, words: &[Word]) -> Held
 }
 
 /// What the words at these places hold.
-fn words_of(alloc: Global, places: &[Place], standing: &Standing) -> Result<Vec<Held>, AllocError>
+fn words_of(
+    alloc: Global,
+    places: &[Place],
+    standing: &Standing,
+) -> Result<Vec<FinalWord>, AllocError>
     ensures { IfOk result (λ words. words.items ≡ map (held_in (position_of standing.now)) places.now) }
 {
     let mut words = Vec::with_capacity(alloc, places.len())?;

@@ -3,7 +3,7 @@
 ghost use Rattle.std.specs.{Prelude.{◌≡◌, ◌++◌, OnOk}, List.{flat_map}};
 ghost use Rattle.sci_allowed.specs.OutcomeText.{held_text, outcome_text, replied_text, sense_text};
 
-use crate::outcome::{Held, Outcome, Replied};
+use crate::outcome::{FinalWord, Outcome, Replied};
 use sci_text::{push_number, push_text};
 use std::alloc::AllocError;
 
@@ -22,7 +22,7 @@ fn push_replied(out: &mut Vec<u8>, replied: &Replied) -> Result<(), AllocError>
 
 /// Appends what a word holds.
 #[tactic(auto, unfolding(crate::specs::OutcomeText::held_text))]
-fn push_held(out: &mut Vec<u8>, held: &Held) -> Result<(), AllocError>
+fn push_held(out: &mut Vec<u8>, held: &FinalWord) -> Result<(), AllocError>
     ensures { OnOk result (out.new.items ≡ out.old.items ++ held_text held.now) }
 {
     push_text(out, " ")?;
@@ -44,7 +44,7 @@ fn push_replies(out: &mut Vec<u8>, replies: &[Replied]) -> Result<(), AllocError
 }
 
 /// Appends what words hold.
-fn push_words(out: &mut Vec<u8>, words: &[Held]) -> Result<(), AllocError>
+fn push_words(out: &mut Vec<u8>, words: &[FinalWord]) -> Result<(), AllocError>
     ensures { OnOk result (out.new.items ≡ out.old.items ++ flat_map held_text words.now) }
 {
     for held in words {

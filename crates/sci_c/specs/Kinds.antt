@@ -29,7 +29,7 @@ pub record On {A : Type 0} (kind : Option Thing → Option A) (value : Option Th
   pub holds : P thing
 
 -- it keeps one before and one after, and this leads from one to the other
-pub record Goes {A : Type 0} (kind : Option Thing → Option A) (old new : Option Thing) (leads : A → A → Type 0) : Type 0 where
+pub record ChangesBy {A : Type 0} (kind : Option Thing → Option A) (old new : Option Thing) (leads : A → A → Type 0) : Type 0 where
   pub before : A
   pub after : A
   pub was : kind old ≡ Some before

@@ -10,7 +10,7 @@ use Rattle.sci_policy.specs.Policy.{PolicyOf, decided}
 use Rattle.sci_c_values.specs.Want.{decision_number}
 use Rattle.sci_c.specs.declared.controller.Controller.{Controller}
 use Rattle.sci_c.specs.declared.{taking.Taking.{Taking, TheVariants.{Serve, Refuse, Accept}}, thing.Thing.{Thing}}
-use Rattle.sci_c.specs.{Asked.{told_asked}, Calls.{IsChange, IsLook}, Kinds.{Goes, On, node_in}, Packet.{fault_status}}
+use Rattle.sci_c.specs.{Asked.{told_asked}, Calls.{IsChange, IsLook}, Kinds.{ChangesBy, On, node_in}, Packet.{fault_status}}
 
 -- the sender of a packet is a node of the machine, and so is the node that the packet names, if it names one
 pub record IsOfMachine (node : NodeOf) (letter : Letter) : Type 0 where
@@ -77,7 +77,7 @@ pub record HasTaken (may : NodeOf → Letter → Type 0) (taking : NodeOf → Le
 -- what each status of such a call says of the bytes, and of what the object kept before and after it
 pub record IsGiving (may : NodeOf → Letter → Type 0) (taking : NodeOf → Letter → Option NodeOf) (noting : Letter → PolicyOf → PolicyOf)
     (bytes : List ℕ) (old : Option Thing) (status : ℕ) (new : Option Thing) : Type 0 where
-  pub done : status ≡ SCI_OK → Goes node_in old new (λ before after. Begins bytes (HasTaken may taking noting before after))
+  pub done : status ≡ SCI_OK → ChangesBy node_in old new (λ before after. Begins bytes (HasTaken may taking noting before after))
   pub refused : status ≡ SCI_NOT_ENABLED → On node_in old (λ c. Begins bytes (λ letter. may c.node letter × (taking c.node letter ≡ None)))
   pub range : status ≡ SCI_RANGE → On node_in old (λ c. Begins bytes (λ letter. may c.node letter → ⊥))
   pub fault : SCI_FULL < status → status ≡ fault_status (fault_of bytes)

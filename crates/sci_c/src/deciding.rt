@@ -3,7 +3,7 @@
 ghost use Rattle.std.specs.Prelude.{◌≡◌, ◌≢◌, []};
 ghost use Rattle.sci_policy.specs.Policy.{first_sender};
 ghost use Rattle.sci_c_values.specs.declared.status.TheConstants.{SCI_OK};
-ghost use Rattle.sci_c.specs.{Calls.{IsChange, IsLook}, Deciding.{HasBegunTurn, IsNext}, Kinds.{Goes, On, node_in}};
+ghost use Rattle.sci_c.specs.{Calls.{IsChange, IsLook}, Deciding.{HasBegunTurn, IsNext}, Kinds.{ChangesBy, On, node_in}};
 
 use crate::handle::SciObject;
 use sci_c_values::{SCI_MISUSE, SCI_OK, SciWant, want_out};
@@ -11,7 +11,7 @@ use sci_c_values::{SCI_MISUSE, SCI_OK, SciWant, want_out};
 /// Counts a turn of the node.
 #[unsafe(no_mangle)]
 pub extern "C" fn sci_node_begin_turn(object: &mut SciObject) -> u32
-    ensures done { result ≡ SCI_OK → Goes node_in object.old.value object.new.value HasBegunTurn }
+    ensures done { result ≡ SCI_OK → ChangesBy node_in object.old.value object.new.value HasBegunTurn }
     ensures change { IsChange node_in [] object.old.value result object.new.value }
 {
     let Some(controller) = object.node() else {
@@ -24,7 +24,7 @@ pub extern "C" fn sci_node_begin_turn(object: &mut SciObject) -> u32
 /// Gives what the node does next, by its policy. The node stays as it is; the policy remembers that it was asked.
 #[unsafe(no_mangle)]
 pub extern "C" fn sci_node_next(object: &mut SciObject, want: &mut SciWant) -> u32
-    ensures done { result ≡ SCI_OK → Goes node_in object.old.value object.new.value (IsNext want.new) }
+    ensures done { result ≡ SCI_OK → ChangesBy node_in object.old.value object.new.value (IsNext want.new) }
     ensures change { IsChange node_in [] object.old.value result object.new.value }
     ensures same { result ≢ SCI_OK → want.new ≡ want.old }
 {

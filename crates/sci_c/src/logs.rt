@@ -8,7 +8,7 @@ ghost use Rattle.sci_text.specs.LogValue.{IsSize};
 ghost use Rattle.sci_c_values.specs.declared.status.TheConstants.{SCI_FULL, SCI_NO_MEMORY, SCI_OK, SCI_RANGE};
 ghost use Rattle.sci_c_values.specs.{Entry.{SaysEntry}, Saying.{SaysNone}};
 ghost use Rattle.sci_c.specs.{Calls.{IsChange, IsLook}, Closing.{IsClosed, IsOpened}, Journal.{FitsJournal, empty_journal, next_window}};
-ghost use Rattle.sci_c.specs.{Kinds.{Goes, On, logs_in}, Logs.{IsEntryAt, IsFirstOf, IsFirstSet, IsFull, IsLastOf, IsLastSet, IsNoFirst, IsPushed}};
+ghost use Rattle.sci_c.specs.{Kinds.{ChangesBy, On, logs_in}, Logs.{IsEntryAt, IsFirstOf, IsFirstSet, IsFull, IsLastOf, IsLastSet, IsNoFirst, IsPushed}};
 ghost use Rattle.sci_windows.specs.Relative.{AreEarly};
 
 use crate::closing::{closed, opened};
@@ -53,7 +53,7 @@ pub extern "C" fn sci_logs_close(alloc: Global, object: &mut SciObject) -> u32
 /// Ends the log of the entry's node with the entry.
 #[unsafe(no_mangle)]
 pub extern "C" fn sci_logs_push(object: &mut SciObject, entry: &SciEntry) -> u32
-    ensures pushed { result ≡ SCI_OK → Goes logs_in object.old.value object.new.value (IsPushed entry.now) }
+    ensures pushed { result ≡ SCI_OK → ChangesBy logs_in object.old.value object.new.value (IsPushed entry.now) }
     ensures full { result ≡ SCI_FULL → On logs_in object.old.value
         (λ journal. FitsJournal journal entry.now × IsFull entry.now journal) }
     ensures range { result ≡ SCI_RANGE → On logs_in object.old.value
@@ -77,7 +77,7 @@ pub extern "C" fn sci_logs_push(object: &mut SciObject, entry: &SciEntry) -> u32
 /// Replaces the last contents of a line.
 #[unsafe(no_mangle)]
 pub extern "C" fn sci_logs_set_last(object: &mut SciObject, line: u8, contents: &SciStamped) -> u32
-    ensures done { result ≡ SCI_OK → Goes logs_in object.old.value object.new.value (IsLastSet line contents.now) }
+    ensures done { result ≡ SCI_OK → ChangesBy logs_in object.old.value object.new.value (IsLastSet line contents.now) }
     ensures range { result ≡ SCI_RANGE → On logs_in object.old.value (λ journal. length journal.last ≤ line) }
     ensures change { IsChange logs_in (SCI_RANGE ∷ []) object.old.value result object.new.value }
 {
@@ -99,7 +99,7 @@ pub extern "C" fn sci_logs_set_first(
     line: u8,
     contents: &SciStamped,
 ) -> u32
-    ensures done { result ≡ SCI_OK → Goes logs_in object.old.value object.new.value (IsFirstSet line contents.now) }
+    ensures done { result ≡ SCI_OK → ChangesBy logs_in object.old.value object.new.value (IsFirstSet line contents.now) }
     ensures range { result ≡ SCI_RANGE → On logs_in object.old.value (IsNoFirst line contents.now) }
     ensures memory { result ≡ SCI_NO_MEMORY → On logs_in object.old.value
         (λ journal. IsNoFirst line contents.now journal → ⊥) }
@@ -138,7 +138,7 @@ pub extern "C" fn sci_logs_first(object: &mut SciObject, line: u8, contents: &mu
 /// Drops all entries, and begins with the last contents.
 #[unsafe(no_mangle)]
 pub extern "C" fn sci_logs_go_on(alloc: Global, object: &mut SciObject) -> u32
-    ensures done { result ≡ SCI_OK → Goes logs_in object.old.value object.new.value
+    ensures done { result ≡ SCI_OK → ChangesBy logs_in object.old.value object.new.value
         (λ before after. after ≡ next_window before) }
     ensures range { result ≡ SCI_RANGE → On logs_in object.old.value (λ journal. AreEarly journal.last → ⊥) }
     ensures change { IsChange logs_in (SCI_RANGE ∷ SCI_NO_MEMORY ∷ []) object.old.value result object.new.value }

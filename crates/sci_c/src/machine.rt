@@ -7,7 +7,7 @@ ghost use Rattle.sci_core.specs.{Outcome.{logs_of}, Sharing.{last_of}};
 ghost use Rattle.sci_core.specs.Size.{IsMachineSize};
 ghost use Rattle.sci_c_values.specs.declared.status.TheConstants.{SCI_MISUSE, SCI_NOT_ENABLED, SCI_NO_MEMORY, SCI_OK, SCI_RANGE};
 ghost use Rattle.sci_c_values.specs.{Operation.{SaysEvent}, Saying.{SaysNone}};
-ghost use Rattle.sci_c.specs.{Calls.{IsAnswer, IsChange, IsLook}, Closing.{IsClosed, IsOpened}, Kinds.{Goes, On, machine_in}};
+ghost use Rattle.sci_c.specs.{Calls.{IsAnswer, IsChange, IsLook}, Closing.{IsClosed, IsOpened}, Kinds.{ChangesBy, On, machine_in}};
 ghost use Rattle.sci_c.specs.Machine.{AreLogsOf, HasNoAuthority, IsAuthorityOf, IsMachineLast, IsNotEnabled, IsOpening, IsPartOfSettling, IsSending};
 ghost use Rattle.sci_c.specs.{Journal.{journal_of}, Machine.{IsSettling, IsStep, size}};
 
@@ -55,7 +55,7 @@ pub extern "C" fn sci_machine_open(
 /// Applies the event to the machine.
 #[unsafe(no_mangle)]
 pub extern "C" fn sci_machine_step(object: &mut SciObject, event: &SciEvent) -> u32
-    ensures done { result ≡ SCI_OK → Goes machine_in object.old.value object.new.value (IsStep event.now) }
+    ensures done { result ≡ SCI_OK → ChangesBy machine_in object.old.value object.new.value (IsStep event.now) }
     ensures refused { result ≡ SCI_NOT_ENABLED → On machine_in object.old.value (IsNotEnabled event.now) }
     ensures memory { result ≡ SCI_NO_MEMORY → On machine_in object.old.value (IsSending event.now) }
     ensures range { result ≡ SCI_RANGE → SaysNone (SaysEvent event.now) }
@@ -89,8 +89,8 @@ pub extern "C" fn sci_machine_close(alloc: Global, object: &mut SciObject) -> u3
 /// made so far lead.
 #[unsafe(no_mangle)]
 pub extern "C" fn sci_machine_settle(object: &mut SciObject, events: &mut u32) -> u32
-    ensures settled { result ≡ SCI_OK → Goes machine_in object.old.value object.new.value (IsSettling events.new) }
-    ensures memory { result ≡ SCI_NO_MEMORY → Goes machine_in object.old.value object.new.value IsPartOfSettling }
+    ensures settled { result ≡ SCI_OK → ChangesBy machine_in object.old.value object.new.value (IsSettling events.new) }
+    ensures memory { result ≡ SCI_NO_MEMORY → ChangesBy machine_in object.old.value object.new.value IsPartOfSettling }
     ensures answer { IsAnswer machine_in (SCI_NO_MEMORY ∷ []) object.old.value result }
     ensures same { result ≡ SCI_MISUSE → object.new.value ≡ object.old.value }
     ensures same_events { result ≢ SCI_OK → events.new ≡ events.old }

@@ -8,7 +8,7 @@ ghost use Rattle.sci_core.specs.Size.{IsMachineSize};
 ghost use Rattle.sci_c_values.specs.declared.status.TheConstants.{SCI_FULL, SCI_NOT_ENABLED, SCI_OK, SCI_RANGE};
 ghost use Rattle.sci_c_values.specs.{Operation.{SaysOp}, Saying.{SaysNone}};
 ghost use Rattle.sci_words.specs.declared.event.TheConstants.AskKind.{ALL};
-ghost use Rattle.sci_c.specs.{Calls.{IsChange, IsLook}, Closing.{IsClosed, IsOpened}, Kinds.{Goes, On, OnNode, node_in}, Machine.{size}};
+ghost use Rattle.sci_c.specs.{Calls.{IsChange, IsLook}, Closing.{IsClosed, IsOpened}, Kinds.{ChangesBy, On, OnNode, node_in}, Machine.{size}};
 ghost use Rattle.sci_c.specs.Node.{HasIssuedAll, HasNoContents, IsAsk, IsHomeContents, IsIssue, IsNoAsk, IsNoIssue, IsOpeningNode, IsPendingOf};
 ghost use Rattle.sci_c.specs.Node.{IsPerformed, IsReply, MayNotIssue};
 
@@ -85,7 +85,7 @@ fn status_of_no_issue(node: &Node, op: &Op) -> u32
 /// Issues an operation, and gives its serial.
 #[unsafe(no_mangle)]
 pub extern "C" fn sci_node_issue(object: &mut SciObject, op: &SciOp, serial: &mut u32) -> u32
-    ensures done { result ≡ SCI_OK → Goes node_in object.old.value object.new.value
+    ensures done { result ≡ SCI_OK → ChangesBy node_in object.old.value object.new.value
         (OnNode (IsIssue op.now serial.new)) }
     ensures refused { result ≡ SCI_NOT_ENABLED → On node_in object.old.value
         (λ c. IsNoIssue MayNotIssue op.now c.node) }
@@ -113,7 +113,7 @@ pub extern "C" fn sci_node_issue(object: &mut SciObject, op: &SciOp, serial: &mu
 /// Performs the operation that is pending on a line, and gives its entry.
 #[unsafe(no_mangle)]
 pub extern "C" fn sci_node_perform(object: &mut SciObject, line: u8, entry: &mut SciEntry) -> u32
-    ensures done { result ≡ SCI_OK → Goes node_in object.old.value object.new.value
+    ensures done { result ≡ SCI_OK → ChangesBy node_in object.old.value object.new.value
         (OnNode (IsPerformed line entry.new)) }
     ensures refused { result ≡ SCI_NOT_ENABLED → On node_in object.old.value
         (λ c. node_performing c.node line ≡ None) }
@@ -141,7 +141,7 @@ pub extern "C" fn sci_node_ask(
     bytes: &mut [u8; 88],
     used: &mut usize,
 ) -> u32
-    ensures done { result ≡ SCI_OK → Goes node_in object.old.value object.new.value
+    ensures done { result ≡ SCI_OK → ChangesBy node_in object.old.value object.new.value
         (OnNode (IsAsk line ask bytes.old bytes.new used.new)) }
     ensures refused { result ≡ SCI_NOT_ENABLED → On node_in object.old.value (λ c. IsNoAsk line ask c.node) }
     ensures range { result ≡ SCI_RANGE → slice_get ALL ask ≡ None }
@@ -171,7 +171,7 @@ pub extern "C" fn sci_node_take_answer(
     bytes: &mut [u8; 88],
     used: &mut usize,
 ) -> u32
-    ensures done { result ≡ SCI_OK → Goes node_in object.old.value object.new.value
+    ensures done { result ≡ SCI_OK → ChangesBy node_in object.old.value object.new.value
         (OnNode (IsReply bytes.old bytes.new used.new)) }
     ensures refused { result ≡ SCI_NOT_ENABLED → On node_in object.old.value (λ c. node_replying c.node ≡ None) }
     ensures change { IsChange node_in (SCI_NOT_ENABLED ∷ []) object.old.value result object.new.value }

@@ -8,7 +8,7 @@ ghost use Rattle.sci_windows.specs.declared.score.Score.TheVariants.{NotNext};
 ghost use Rattle.sci_windows.specs.Scoreboard.{IsScore, empty_board, line_of};
 ghost use Rattle.sci_c_values.specs.declared.status.TheConstants.{SCI_NO_MEMORY, SCI_NOT_ENABLED, SCI_OK, SCI_RANGE};
 ghost use Rattle.sci_c_values.specs.{Entry.{SaysEntry}, Saying.{SaysNone}};
-ghost use Rattle.sci_c.specs.{Calls.{IsChange, IsLook}, Closing.{IsClosed, IsOpened}, Kinds.{Goes, On, board_in}};
+ghost use Rattle.sci_c.specs.{Calls.{IsChange, IsLook}, Closing.{IsClosed, IsOpened}, Kinds.{ChangesBy, On, board_in}};
 ghost use Rattle.sci_c.specs.Scoreboard.{FitsBoard, HasContents, IsBegun, IsNotNext, IsTold, IsToldOf};
 
 use crate::closing::{closed, opened};
@@ -63,7 +63,7 @@ pub extern "C" fn sci_scoreboard_begin(
     line: u8,
     contents: &SciStamped,
 ) -> u32
-    ensures done { result ≡ SCI_OK → Goes board_in object.old.value object.new.value (IsBegun line contents.now) }
+    ensures done { result ≡ SCI_OK → ChangesBy board_in object.old.value object.new.value (IsBegun line contents.now) }
     ensures range { result ≡ SCI_RANGE → On board_in object.old.value (λ board. length board.lines ≤ line) }
     ensures change { IsChange board_in (SCI_RANGE ∷ []) object.old.value result object.new.value }
 {
@@ -139,7 +139,7 @@ pub extern "C" fn sci_scoreboard_tell(
     entry: &SciEntry,
     verdict: &mut SciVerdict,
 ) -> u32
-    ensures told { result ≡ SCI_OK → Goes board_in object.old.value object.new.value (IsTold entry.now verdict.new) }
+    ensures told { result ≡ SCI_OK → ChangesBy board_in object.old.value object.new.value (IsTold entry.now verdict.new) }
     ensures not_next { result ≡ SCI_NOT_ENABLED → On board_in object.old.value (IsNotNext entry.now) }
     ensures range { result ≡ SCI_RANGE → On board_in object.old.value
         (λ board. FitsBoard board entry.now → SaysNone (SaysEntry entry.now)) }

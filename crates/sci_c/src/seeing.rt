@@ -5,7 +5,7 @@ ghost use Rattle.sci_cache.specs.Cache.{letter_of};
 ghost use Rattle.sci_core.specs.{Core.{node_of as node_of_event, stepping}, Fault.{IsFaultOf}};
 ghost use Rattle.sci_c_values.specs.declared.status.TheConstants.{SCI_NOT_ENABLED, SCI_NO_MEMORY, SCI_OK, SCI_RANGE};
 ghost use Rattle.sci_c_values.specs.{Operation.{SaysEvent}, Saying.{SaysNone}};
-ghost use Rattle.sci_c.specs.{Calls.{IsChange}, Kinds.{Goes, On, machine_in}, Machine.{IsNotEnabled, IsSending}};
+ghost use Rattle.sci_c.specs.{Calls.{IsChange}, Kinds.{ChangesBy, On, machine_in}, Machine.{IsNotEnabled, IsSending}};
 ghost use Rattle.sci_c.specs.Seeing.{HasMade, IsSeenStep, front_of, letter_moved};
 
 use crate::handle::SciObject;
@@ -73,7 +73,7 @@ pub extern "C" fn sci_machine_step_seen(
     event: &SciEvent,
     seen: &mut SciSeen,
 ) -> u32
-    ensures done { result ≡ SCI_OK → Goes machine_in object.old.value object.new.value (IsSeenStep event.now seen.new) }
+    ensures done { result ≡ SCI_OK → ChangesBy machine_in object.old.value object.new.value (IsSeenStep event.now seen.new) }
     ensures refused { result ≡ SCI_NOT_ENABLED → On machine_in object.old.value (IsNotEnabled event.now) }
     ensures memory { result ≡ SCI_NO_MEMORY → On machine_in object.old.value (IsSending event.now) }
     ensures range { result ≡ SCI_RANGE → SaysNone (SaysEvent event.now) }

@@ -6,7 +6,7 @@ ghost use Rattle.sci_packets.specs.Table.{IsRequest};
 ghost use Rattle.sci_home.specs.Serving.{IsForHome, home_serving, opening_home};
 ghost use Rattle.sci_core.specs.Node.{IsAtRest, home_of, home_place, lines_of};
 ghost use Rattle.sci_c_values.specs.declared.status.TheConstants.{SCI_NO_MEMORY, SCI_NOT_ENABLED, SCI_OK, SCI_RANGE};
-ghost use Rattle.sci_c.specs.{Calls.{IsChange}, Kinds.{Goes, On, node_in}};
+ghost use Rattle.sci_c.specs.{Calls.{IsChange}, Kinds.{ChangesBy, On, node_in}};
 ghost use Rattle.sci_c.specs.Starting.{HasHomes, IsFresh, IsStarted, told, with_home};
 
 use crate::handle::SciObject;
@@ -90,7 +90,7 @@ fn started(alloc: Global, node: &Node, limit: u32) -> Result<Node, AllocError>
 /// Begins again with an empty log: serials from 0, and this many operations to issue. The homes know what they knew.
 #[unsafe(no_mangle)]
 pub extern "C" fn sci_node_start_log(alloc: Global, object: &mut SciObject, limit: u32) -> u32
-    ensures done { result ≡ SCI_OK → Goes node_in object.old.value object.new.value (IsStarted limit) }
+    ensures done { result ≡ SCI_OK → ChangesBy node_in object.old.value object.new.value (IsStarted limit) }
     ensures refused { result ≡ SCI_NOT_ENABLED → On node_in object.old.value
         (λ c. (IsAtRest c.node → ⊥) ⊎ IsSome c.node.waiting) }
     ensures range { result ≡ SCI_RANGE → (limit ≡ 0) ⊎ (MAX_OPERATIONS < limit) }

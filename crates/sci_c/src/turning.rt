@@ -6,7 +6,7 @@ ghost use Rattle.sci_c.specs.declared.taking.Taking.{Taking as TakingValue};
 ghost use Rattle.sci_words.specs.declared.limits.TheConstants.{MAX_NODES};
 ghost use Rattle.sci_cache.specs.Cache.{letter_of};
 ghost use Rattle.sci_c_values.specs.declared.status.TheConstants.{SCI_FULL, SCI_OK, SCI_RANGE};
-ghost use Rattle.sci_c.specs.{Calls.{IsChange}, Kinds.{Goes, node_in}, Taking.{IsRequestFor}};
+ghost use Rattle.sci_c.specs.{Calls.{IsChange}, Kinds.{ChangesBy, node_in}, Taking.{IsRequestFor}};
 ghost use Rattle.sci_c.specs.Turning.{AcceptsAt, AcceptsStruct, Asks, AsksSome, EndsAsking, HasDone, HasTakenStruct, IsTurn, Keeps};
 ghost use Rattle.sci_c.specs.Turning.{LeavesRequest, Replies, Sends, SendsNone, TakesAt, UpTo, stage};
 
@@ -231,7 +231,7 @@ pub extern "C" fn sci_node_turn(
     used: &mut usize,
     want: &mut SciWant,
 ) -> u32
-    ensures done { result ≡ SCI_OK → Goes node_in object.old.value object.new.value (λ before after.
+    ensures done { result ≡ SCI_OK → ChangesBy node_in object.old.value object.new.value (λ before after.
         IsTurn came.now want.new (stage before taken.old sent.old 0) (stage after taken.new sent.new used.new)) }
     ensures range { result ≡ SCI_RANGE → length taken.old < length came.now }
     ensures marks { result ≡ SCI_OK → length came.now ≤ length taken.old }

@@ -1,8 +1,8 @@
 -- A chart that is being drawn.
 use Rattle.std.specs.Prelude.{◌≡◌, ℕ, Bool, true, false, List, [], ◌∷◌, ◌++◌, codes, Option, Some, None}
 use Rattle.sci_cache.specs.Cache.{Letter, letter_of}
-use Rattle.sci_charts.specs.declared.{charting.ChartRequest.{ChartRequest}, deed.Mark.{Mark}}
-use Rattle.sci_charts.specs.declared.deed.Mark.TheVariants.{Dead, Issued, Performed, Sent, Taken, Refused}
+use Rattle.sci_charts.specs.declared.{charting.ChartRequest.{ChartRequest}, mark.Mark.{Mark}}
+use Rattle.sci_charts.specs.declared.mark.Mark.TheVariants.{Dead, Issued, Performed, Sent, Taken, Refused}
 use Rattle.sci_charts.specs.Rows.{Place, IsRowOf, is_shown}
 
 -- what is asked for, and the text so far

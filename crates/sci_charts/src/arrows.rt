@@ -4,7 +4,7 @@ ghost use Rattle.std.specs.Prelude.{◌≡◌};
 ghost use Rattle.sci_cache.specs.Cache.{letter_of};
 ghost use Rattle.sci_charts.specs.Rows.{ShowsPacket, kind_class};
 
-use crate::deed::Mark;
+use crate::mark::Mark;
 use sci_packets::{Body, Packet};
 use sci_words::MAX_NODES;
 use std::alloc::{AllocError, Global};
@@ -31,13 +31,13 @@ pub enum ArrowKind {
 
 impl ArrowKind {
     /// The kind of a packet.
-    pub fn of(packet: &Packet, passage: &Passage) -> ArrowKind
+    pub fn of(packet: &Packet, flight: &Flight) -> ArrowKind
         ensures { ShowsPacket result (letter_of packet.now) }
     {
         match packet.body {
             Body::Busy => ArrowKind::Busy,
             _ if !packet.is_request() => ArrowKind::Answer,
-            _ if passage.is_refused => ArrowKind::Refused,
+            _ if flight.is_refused => ArrowKind::Refused,
             _ => ArrowKind::Request,
         }
     }
@@ -57,7 +57,7 @@ impl ArrowKind {
 
 /// When a packet was sent and taken.
 #[derive(Clone, Copy)]
-pub struct Passage {
+pub struct Flight {
     /// The row where it was sent, unless that was before the first row.
     pub sent: Option<u32>,
     /// The row where it was taken, if it was.
@@ -71,15 +71,15 @@ pub struct Passage {
     pub track: u8,
 }
 
-impl Passage {
+impl Flight {
     /// Of no packet.
-    pub fn none() -> Passage {
-        Passage::begun(None, 0)
+    pub fn none() -> Flight {
+        Flight::begun(None, 0)
     }
 
     /// Of a packet that is sent in a row, or before the first one.
-    fn begun(sent: Option<u32>, track: u8) -> Passage {
-        Passage {
+    fn begun(sent: Option<u32>, track: u8) -> Flight {
+        Flight {
             sent,
             taken: None,
             is_past: false,
@@ -119,7 +119,7 @@ pub enum Origin {
 #[derive(Drop)]
 pub struct Arrows {
     /// Of all packets, in the order in which they were sent.
-    passages: Vec<Passage>,
+    flights: Vec<Flight>,
     /// Those that were sent before the first row.
     early: Vec<Packet>,
     /// Of the packets that were taken in rows, in the order in which they were taken: from where they came.
@@ -150,7 +150,7 @@ impl Arrows {
             }
         }
         Ok(Arrows {
-            passages: Vec::new(alloc),
+            flights: Vec::new(alloc),
             early: Vec::new(alloc),
             origins: Vec::new(alloc),
             lanes,
@@ -160,8 +160,8 @@ impl Arrows {
     }
 
     /// The packets that were sent before the first row, with when they were taken.
-    pub fn early(&self) -> (&[Packet], &[Passage]) {
-        (&self.early, &self.passages)
+    pub fn early(&self) -> (&[Packet], &[Flight]) {
+        (&self.early, &self.flights)
     }
 
     /// Whether a packet in a lane goes on a way.
@@ -170,8 +170,8 @@ impl Arrows {
             return false;
         };
         for place in places.iter() {
-            if let Some(passage) = self.passages.get(*place) {
-                if passage.track == track {
+            if let Some(flight) = self.flights.get(*place) {
+                if flight.track == track {
                     return true;
                 }
             }
@@ -198,9 +198,9 @@ impl Arrows {
     fn send(&mut self, packet: &Packet, row: Option<u32>) -> Result<(), AllocError> {
         // Makes an option, so that the prover learns the types inside a packet.
         let _told = Some(*packet);
-        let place = self.passages.len();
+        let place = self.flights.len();
         let track = self.free_track(packet);
-        self.passages.push(Passage::begun(row, track))?;
+        self.flights.push(Flight::begun(row, track))?;
         if row.is_none() {
             self.early.push(*packet)?;
         }
@@ -210,14 +210,14 @@ impl Arrows {
         Ok(())
     }
 
-    /// A packet is taken in a row, or before the first one: it is the oldest of its lane. Gives its passage.
-    fn take(&mut self, packet: &Packet, row: Option<u32>) -> Option<&mut Passage> {
+    /// A packet is taken in a row, or before the first one: it is the oldest of its lane. Gives its flight.
+    fn take(&mut self, packet: &Packet, row: Option<u32>) -> Option<&mut Flight> {
         let lane = self.lanes.get_mut(lane_of(packet))?;
         let place = lane.pop_front()?;
-        let passage = self.passages.get_mut(place)?;
-        passage.taken = row;
-        passage.is_past = row.is_none();
-        Some(passage)
+        let flight = self.flights.get_mut(place)?;
+        flight.taken = row;
+        flight.is_past = row.is_none();
+        Some(flight)
     }
 
     /// Notes which packet an event sent or took in a row, or before the first one. From where one came that it took. Refused if
@@ -229,13 +229,13 @@ impl Arrows {
                 return Ok(Origin::Near);
             }
             Mark::Taken(packet) => match self.take(packet, row) {
-                Some(passage) => passage.origin(),
+                Some(flight) => flight.origin(),
                 None => Origin::Near,
             },
             Mark::Refused(packet) => match self.take(packet, row) {
-                Some(passage) => {
-                    passage.is_refused = true;
-                    passage.origin()
+                Some(flight) => {
+                    flight.is_refused = true;
+                    flight.origin()
                 }
                 None => Origin::Near,
             },
@@ -247,13 +247,13 @@ impl Arrows {
         Ok(origin)
     }
 
-    /// The passage of the packet that is sent in the next row where one is.
-    pub fn next_sent(&mut self) -> Passage {
+    /// The flight of the packet that is sent in the next row where one is.
+    pub fn next_sent(&mut self) -> Flight {
         let place = self.early.len().saturating_add(self.asked_sent);
         self.asked_sent = self.asked_sent.saturating_add(1);
-        match self.passages.get(place) {
-            Some(passage) => *passage,
-            None => Passage::none(),
+        match self.flights.get(place) {
+            Some(flight) => *flight,
+            None => Flight::none(),
         }
     }
 

@@ -4,14 +4,14 @@ ghost use Rattle.std.specs.Prelude.{◌≡◌, ℕ, List, ◌++◌, IfOk, OnOk, 
 ghost use Rattle.sci_core.specs.Core.{step};
 ghost use Rattle.sci_charts.specs.{Drawing.{Adds, Drawn, chart_begin, chart_end, is_dead, letter_in}, Rows.{IsRow}};
 
-use crate::arrows::{Arrows, Passage};
+use crate::arrows::{Arrows, Flight};
 use crate::charting::ChartRequest;
-use crate::deed::{Mark, mark_after};
 use crate::elements::{Words, push_svg};
 use crate::frame::{Frame, title_of};
-use crate::labels::{About, Deed, Label};
+use crate::labels::{About, Effect, Label};
 use crate::layout::{MARGIN, row_at};
-use crate::plan::Plan;
+use crate::mark::{Mark, mark_after};
+use crate::plan::ChartPlan;
 use crate::rows::{Row, Rows};
 use crate::sights::{Change, Sight, Spot};
 use crate::survey::Survey;
@@ -54,7 +54,7 @@ impl Drawing {
         ensures begins { IfOk result (λ drawing.
             (front : List ℕ) × (drawing.text ≡ chart_begin ++ front)) }
     {
-        let plan = Plan::of(alloc, schedule, request)?;
+        let plan = ChartPlan::of(alloc, schedule, request)?;
         let survey = Survey::of(&plan, schedule)?;
         let title = title_of(&plan, &survey)?;
         let frame = Frame {
@@ -80,22 +80,22 @@ impl Drawing {
         })
     }
 
-    /// What is known of an event of the next row, and the passage of the packet that it sent, if it sent one.
-    fn known(&mut self, mark: &Mark) -> (Passage, About)
+    /// What is known of an event of the next row, and the flight of the packet that it sent, if it sent one.
+    fn known(&mut self, mark: &Mark) -> (Flight, About)
         ensures { self.new ≡ self.old }
     {
-        let mut passage = Passage::none();
+        let mut flight = Flight::none();
         let mut about = About::nothing();
         match mark {
             Mark::Sent(_) => {
-                passage = self.arrows.next_sent();
-                about.goes_on = passage.goes_on();
+                flight = self.arrows.next_sent();
+                about.goes_on = flight.goes_on();
             }
             Mark::Taken(_) | Mark::Refused(_) => about.origin = self.arrows.next_origin(),
             Mark::Performed => about.wait = self.waits.next_wait(),
             Mark::Dead | Mark::Issued => {}
         }
-        (passage, about)
+        (flight, about)
     }
 
     /// Notes how the states of a line changed from what they were.
@@ -127,7 +127,7 @@ impl Drawing {
         number: u64,
         event: &Event,
         mark: &Mark,
-        passage: Passage,
+        flight: Flight,
     ) -> Result<(), AllocError>
         ensures row { OnOk result ((text : List ℕ) × (self.new.text ≡ self.old.text ++ text)
             × IsRow (not (is_dead mark.now)) (letter_in mark.now) number event.now text) }
@@ -137,7 +137,7 @@ impl Drawing {
             number,
             event: *event,
             mark: *mark,
-            passage,
+            flight,
             label: Words {
                 text: self.label.text(),
                 // Without the spaces that begin the line of a trace.
@@ -170,15 +170,15 @@ impl Drawing {
         let words = standing(self.alloc, machine, spot.node, spot.line)?;
         let mark = mark_after(machine, event)?;
         self.note_title(machine, spot, &words)?;
-        let (passage, about) = self.known(&mark);
+        let (flight, about) = self.known(&mark);
         let after = Sight::at(machine, spot);
-        let deed = Deed {
+        let effect = Effect {
             mark,
             about,
             change: Change { before, after },
         };
-        self.label.tell(machine, spot.node, &deed)?;
-        self.add(number, event, &mark, passage)
+        self.label.tell(machine, spot.node, &effect)?;
+        self.add(number, event, &mark, flight)
     }
 
     /// The text of the chart. Refused if memory is.

@@ -1,10 +1,10 @@
 //! What a chart has beside its rows: title and legend, columns, the names of the nodes, and packets from above the first row.
 
-use crate::arrows::{ArrowKind, Passage};
+use crate::arrows::{ArrowKind, Flight};
 use crate::elements::{Point, Way, push_arrow, push_ground, push_stem, push_use, push_words};
 use crate::layout::{MARGIN, names_at, row_at, width_of};
 use crate::legend::{RIGHT, push_legend, push_style};
-use crate::plan::{Heights, Plan, way_of};
+use crate::plan::{ChartPlan, Heights, way_of};
 use crate::rows::push_packet_words;
 use crate::survey::Survey;
 use crate::waits::Wait;
@@ -32,14 +32,14 @@ const WORDS: i16 = 16;
 /// What a chart has beside its rows.
 #[derive(Clone, Copy)]
 pub struct Frame<'a> {
-    pub plan: Plan,
+    pub plan: ChartPlan,
     pub survey: &'a Survey,
     /// The words above all.
     pub title: &'a [u8],
 }
 
 /// The title of a chart. Refused if memory is.
-pub fn title_of(plan: &Plan, survey: &Survey) -> Result<Vec<u8>, AllocError> {
+pub fn title_of(plan: &ChartPlan, survey: &Survey) -> Result<Vec<u8>, AllocError> {
     let mut text = Vec::new(plan.alloc);
     push_text(&mut text, "Message sequence chart")?;
     if let Some(line) = plan.request.line {
@@ -80,10 +80,10 @@ impl Frame<'_> {
 
     /// How high the words are for packets that are under way in all rows.
     fn passing_height(&self) -> u64 {
-        let (packets, passages) = self.survey.arrows.early();
+        let (packets, flights) = self.survey.arrows.early();
         let mut height = 0u64;
-        for (_packet, passage) in packets.iter().zip(passages) {
-            if passage.goes_on() {
+        for (_packet, flight) in packets.iter().zip(flights) {
+            if flight.goes_on() {
                 height = height.saturating_add(WORDS as u64);
             }
         }
@@ -120,30 +120,30 @@ impl Frame<'_> {
         &self,
         out: &mut Vec<u8>,
         packet: &Packet,
-        passage: &Passage,
+        flight: &Flight,
     ) -> Result<(), AllocError> {
         let heights = Heights {
             from: names_at(0),
-            to: passage.taken.map_or(self.bottom(), row_at),
+            to: flight.taken.map_or(self.bottom(), row_at),
         };
         let mut title = Vec::new(self.plan.alloc);
         push_packet_words(&mut title, packet)?;
-        let way = way_of(self.plan.layout, packet, passage, heights);
-        let kind = ArrowKind::of(packet, passage);
+        let way = way_of(self.plan.layout, packet, flight, heights);
+        let kind = ArrowKind::of(packet, flight);
         push_arrow(out, kind.class(), &way, &title)?;
         push_text(out, "\n")
     }
 
     /// Appends the words for each packet that is under way in all rows, below the names of the nodes: no row is its own.
     fn push_passing(&self, out: &mut Vec<u8>) -> Result<(), AllocError> {
-        let (packets, passages) = self.survey.arrows.early();
+        let (packets, flights) = self.survey.arrows.early();
         let mut at = Point {
             x: 0,
             y: self.bottom().saturating_add(2 * WORDS as u64),
         };
         let mut words = Vec::new(self.plan.alloc);
-        for (packet, passage) in packets.iter().zip(passages) {
-            if passage.goes_on() {
+        for (packet, flight) in packets.iter().zip(flights) {
+            if flight.goes_on() {
                 words.clear();
                 push_text(&mut words, "under way in all rows: ")?;
                 push_text(&mut words, packet.body.command().name())?;
@@ -207,10 +207,10 @@ impl Frame<'_> {
         push_text(out, "\"/>\n")?;
         self.push_columns(out)?;
         self.push_waits(out)?;
-        let (packets, passages) = self.survey.arrows.early();
-        for (packet, passage) in packets.iter().zip(passages) {
-            if !passage.is_past {
-                self.push_early(out, packet, passage)?;
+        let (packets, flights) = self.survey.arrows.early();
+        for (packet, flight) in packets.iter().zip(flights) {
+            if !flight.is_past {
+                self.push_early(out, packet, flight)?;
             }
         }
         self.push_uses(out)?;

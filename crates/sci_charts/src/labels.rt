@@ -1,7 +1,7 @@
 //! What a chart says beside the column of a node.
 
 use crate::arrows::Origin;
-use crate::deed::Mark;
+use crate::mark::Mark;
 use crate::sights::{Change, push_change};
 use sci_command::push_labelled;
 use sci_core::Machine;
@@ -95,7 +95,7 @@ impl About {
 
 /// What an event did, and how its line's states changed at its node.
 #[derive(Clone, Copy)]
-pub struct Deed {
+pub struct Effect {
     pub mark: Mark,
     pub about: About,
     pub change: Change,
@@ -129,25 +129,25 @@ impl Label {
     /// Says what an event did at a node: the entry of what was performed, with how many events it waited; the name of a packet
     /// that was sent, with its receiver if it wasn't taken, or of one that was taken and came from far, with its sender if it
     /// came from above; and how the line's states changed. Refused if memory is.
-    pub fn tell(&mut self, machine: &Machine, node: u8, deed: &Deed) -> Result<(), AllocError> {
+    pub fn tell(&mut self, machine: &Machine, node: u8, effect: &Effect) -> Result<(), AllocError> {
         self.said.clear();
-        match &deed.mark {
+        match &effect.mark {
             Mark::Performed => {
                 push_performed(&mut self.said, machine, node)?;
-                push_wait(&mut self.said, deed.about.wait)?;
+                push_wait(&mut self.said, effect.about.wait)?;
             }
-            Mark::Sent(packet) => push_sent(&mut self.said, packet, deed.about.goes_on)?,
+            Mark::Sent(packet) => push_sent(&mut self.said, packet, effect.about.goes_on)?,
             Mark::Taken(packet) | Mark::Refused(packet) => {
-                push_taken(&mut self.said, packet, deed.about.origin)?
+                push_taken(&mut self.said, packet, effect.about.origin)?
             }
             _ => {}
         }
-        push_change(&mut self.said, &deed.change)?;
+        push_change(&mut self.said, &effect.change)?;
         self.text.clear();
         if self.said.is_empty() {
             return Ok(());
         }
-        self.push_line(&deed.mark)?;
+        self.push_line(&effect.mark)?;
         self.text.extend_from_slice(&self.said)
     }
 

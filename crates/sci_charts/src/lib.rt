@@ -3,13 +3,13 @@
 
 mod arrows;
 mod charting;
-mod deed;
 mod drawing;
 mod elements;
 mod frame;
 mod labels;
 mod layout;
 mod legend;
+mod mark;
 mod plan;
 mod rows;
 mod sights;

@@ -2,7 +2,7 @@
 
 ghost use Rattle.std.specs.Prelude.{◌≡◌, IfOk};
 
-use crate::arrows::Passage;
+use crate::arrows::Flight;
 use crate::charting::ChartRequest;
 use crate::elements::{Point, Way};
 use crate::layout::Layout;
@@ -19,7 +19,7 @@ const NEXT_LOOP: i16 = 7;
 
 /// What a chart is drawn of, and where its columns are.
 #[derive(Clone, Copy)]
-pub struct Plan {
+pub struct ChartPlan {
     pub alloc: Global,
     pub extent: Extent,
     pub request: ChartRequest,
@@ -33,12 +33,16 @@ pub struct Heights {
     pub to: u64,
 }
 
-impl Plan {
+impl ChartPlan {
     /// The plan of the chart of a schedule. Refused if memory is.
-    pub fn of(alloc: Global, schedule: &Schedule, request: ChartRequest) -> Result<Plan, AllocError>
+    pub fn of(
+        alloc: Global,
+        schedule: &Schedule,
+        request: ChartRequest,
+    ) -> Result<ChartPlan, AllocError>
         ensures { IfOk result (λ plan. plan.request ≡ request) }
     {
-        Ok(Plan {
+        Ok(ChartPlan {
             alloc,
             extent: schedule.extent(),
             request,
@@ -53,7 +57,7 @@ impl Plan {
 }
 
 /// The way of a packet's arrow between two heights: from its sender's column to its receiver's.
-pub fn way_of(layout: Layout, packet: &Packet, passage: &Passage, heights: Heights) -> Way {
+pub fn way_of(layout: Layout, packet: &Packet, flight: &Flight, heights: Heights) -> Way {
     let from = Point {
         x: layout.column(packet.source.get()),
         y: heights.from,
@@ -63,7 +67,7 @@ pub fn way_of(layout: Layout, packet: &Packet, passage: &Passage, heights: Heigh
         y: heights.to,
     };
     if packet.source == packet.target {
-        let left = LOOP + NEXT_LOOP * i16::from(passage.track.min(5));
+        let left = LOOP + NEXT_LOOP * i16::from(flight.track.min(5));
         Way::Around {
             from,
             left: to.moved(-left, 0),

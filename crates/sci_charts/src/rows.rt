@@ -5,12 +5,12 @@ ghost use Rattle.sci_command.specs.PacketLine.{packet_line};
 ghost use Rattle.sci_charts.specs.Drawing.{chart_end, is_dead, letter_in};
 ghost use Rattle.sci_charts.specs.Rows.{IsBegun, IsEvent, IsLabelled, IsMarked, IsRow, IsSent, row_class};
 
-use crate::arrows::{ArrowKind, Passage};
-use crate::deed::Mark;
+use crate::arrows::{ArrowKind, Flight};
 use crate::elements::{
     Point, Way, Words, push_arrow, push_block, push_circle, push_cross, push_event, push_label,
 };
 use crate::layout::{LABEL, Layout, begins_block, block_of, names_at, push_numbered, row_at};
+use crate::mark::Mark;
 use crate::plan::{Heights, way_of};
 use sci_command::push_packet;
 use sci_core::node_of;
@@ -31,7 +31,7 @@ pub struct Row<'a> {
     pub event: Event,
     pub mark: Mark,
     /// Of the packet that it sent, if it sent one.
-    pub passage: Passage,
+    pub flight: Flight,
     /// What is said beside its node's column.
     pub label: Words<'a>,
 }
@@ -129,13 +129,13 @@ impl Rows {
     }
 
     /// The way of a packet that is sent in the next row.
-    fn way(&self, packet: &Packet, passage: &Passage, from: u64) -> Way {
-        let end = passage.taken.map_or(self.bottom, row_at);
+    fn way(&self, packet: &Packet, flight: &Flight, from: u64) -> Way {
+        let end = flight.taken.map_or(self.bottom, row_at);
         let heights = Heights {
             from,
             to: end.saturating_sub(names_at(block_of(self.count))),
         };
-        way_of(self.layout, packet, passage, heights)
+        way_of(self.layout, packet, flight, heights)
     }
 
     /// Appends the arrow of the packet that an event sent, if it sent one.
@@ -147,8 +147,8 @@ impl Rows {
             Mark::Sent(packet) => {
                 self.words.clear();
                 push_packet_words(&mut self.words, packet)?;
-                let way = self.way(packet, &row.passage, from);
-                let kind = ArrowKind::of(packet, &row.passage);
+                let way = self.way(packet, &row.flight, from);
+                let kind = ArrowKind::of(packet, &row.flight);
                 push_arrow(&mut self.out, kind.class(), &way, &self.words)
             }
             _ => Ok(()),

@@ -1,11 +1,11 @@
 //! The first pass over a schedule: what a chart has to know before its first row is written.
 
 use crate::arrows::Arrows;
-use crate::deed::mark_after;
 use crate::elements::{Point, push_guides, push_stroke};
-use crate::labels::{About, Deed, Label};
+use crate::labels::{About, Effect, Label};
 use crate::layout::{FIRST_LINE, LABEL, begins_block, block_of, names_at, push_numbered, width_of};
-use crate::plan::Plan;
+use crate::mark::mark_after;
+use crate::plan::ChartPlan;
 use crate::sights::{Change, Sight, Spot};
 use crate::waits::Waits;
 use sci_command::is_asked;
@@ -26,7 +26,7 @@ const FRAME_BYTES: usize = 8192;
 /// What the rows of a chart will have.
 #[derive(Drop)]
 pub struct Survey {
-    plan: Plan,
+    plan: ChartPlan,
     /// How many rows there are.
     pub rows: u32,
     /// How far to the right their labels go.
@@ -45,7 +45,7 @@ pub struct Survey {
 
 impl Survey {
     /// Of no event. Refused if memory is.
-    fn new(plan: &Plan) -> Result<Survey, AllocError> {
+    fn new(plan: &ChartPlan) -> Result<Survey, AllocError> {
         let alloc = plan.alloc;
         Ok(Survey {
             plan: *plan,
@@ -60,7 +60,7 @@ impl Survey {
     }
 
     /// Of all events of a schedule that are shown. Refused if memory is.
-    pub fn of(plan: &Plan, schedule: &Schedule) -> Result<Survey, AllocError> {
+    pub fn of(plan: &ChartPlan, schedule: &Schedule) -> Result<Survey, AllocError> {
         let mut survey = Survey::new(plan)?;
         let mut machine = Machine::new(plan.alloc, schedule.extent(), MAX_OPERATIONS)?;
         let mut number = FIRST_LINE;
@@ -109,7 +109,7 @@ impl Survey {
         if !is_within {
             return Ok(());
         }
-        let deed = Deed {
+        let effect = Effect {
             mark,
             about,
             change: Change {
@@ -117,7 +117,7 @@ impl Survey {
                 after: Sight::at(machine, spot),
             },
         };
-        self.label.tell(machine, spot.node, &deed)?;
+        self.label.tell(machine, spot.node, &effect)?;
         self.note_row(number, event)
     }
 

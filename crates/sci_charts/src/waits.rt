@@ -2,7 +2,7 @@
 
 ghost use Rattle.std.specs.Prelude.{◌<◌, IfSome, length};
 
-use crate::deed::Mark;
+use crate::mark::Mark;
 use crate::sights::Spot;
 use std::alloc::{AllocError, Global};
 

@@ -10,7 +10,8 @@ use Rattle.sci_policy.specs.{Deeds.{Deed, Issues}, Worker.{HasSameWork, IsNodeTu
 use Rattle.sci_drive.specs.{declared.driver.Round.{Round}, Calls.{AllDone, Answered, Call, HasHeard, MayIssue, Rest, end_told, reports}}
 use Rattle.sci_drive.specs.Driving.{DriverOf, IsAnswered, IsDriven}
 use Rattle.sci_drive.specs.Resting.{AllAreDone, AreBehind, IsAsked, NotAsked, NotYet, in_a_row, is_rest_due, rests_if, row_after}
-use Rattle.sci_drive.specs.Rounds.{ArePerformed, GoRounds, GoesRound, HasPerformed, IsHeldBack, IsTried, NoneNow, OneMore, Submits, most_pending, next_op}
+use Rattle.sci_drive.specs.Rounds.{ArePerformed, AreDrivenRounds, IsDrivenRound, HasPerformed, IsHeldBack, IsTried, NoneNow, OneMore, Submits, most_pending}
+use Rattle.sci_drive.specs.Rounds.{next_op}
 use Rattle.sci_drive.specs.Rounds.{performed}
 use Rattle.sci_drive.specs.Rounds.{turn_of, with_submitted}
 use Rattle.sci_drive.proofs.GateCalls.{heard_on, no_calls, one_call, submit_call}
@@ -87,7 +88,7 @@ module _ {G E : Type 0} (hears : G → List Call → G → Type 0) (hears_on : (
       → HasSameWork z w → IfOk result (λ round. IsNodeTurn z w round.progress)
       → HasHeard hears k l c d z w (end_told a.was_done d.was_done) → IfOk result (λ round. (d.was_done ≡ true) ↔ IsAnswered d)
       → (IsErr result → d.was_done ≡ a.was_done)
-      → GoesRound hears ((first ++ map performed entries) ++ turn_of result) g l a d x w result
+      → IsDrivenRound hears ((first ++ map performed entries) ++ turn_of result) g l a d x w result
   goes g h k l a b c d x y z w result asked first entries submits submitting performs performing left tried work turn ending done stopped =
       let behind = heard_on hears hears_on h k l b c d y z w (map Answered entries) (end_told a.was_done d.was_done) performing ending in
       let whole = heard_on hears hears_on g h l a b d x y w asked (reports entries a.was_done d.was_done) submitting behind in record {
@@ -158,7 +159,7 @@ module _ {G : Type 0} (hears : G → List Call → G → Type 0) (hears_nothing 
   behind_last driver g h true round row done (inr is) = (AllDone true ∷ [], is.1, AllAreDone is.0 refl refl refl)
 
   pub one_round_more : (g h k l : G) (a b c : DriverOf) (x y z : NodeOf) (turns row next : ℕ) (round : Round) (finished : Bool) (deeds more : List Deed)
-      → GoRounds hears turns false row deeds g h a b x y → GoesRound {E = AllocError} hears more h k b c y z (Ok round)
-      → IsBehind hears c k l round row next finished → GoRounds hears (turns + 1) finished next (deeds ++ more) g l a c x z
+      → AreDrivenRounds hears turns false row deeds g h a b x y → IsDrivenRound {E = AllocError} hears more h k b c y z (Ok round)
+      → IsBehind hears c k l round row next finished → AreDrivenRounds hears (turns + 1) finished next (deeds ++ more) g l a c x z
   one_round_more g h k l a b c x y z turns row next round finished deeds more was goes last =
       rw add-one (h, k, b, y, round, row, last.0, deeds, more, refl, was, goes, last.1, last.2)

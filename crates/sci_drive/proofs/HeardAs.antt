@@ -2,12 +2,12 @@
 use Rattle.std.proofs.Common.{ℕ, zero, suc, Bool, false, List, Result, ap}
 use Rattle.sci_core.specs.Node.{NodeOf}
 use Rattle.sci_policy.specs.Deeds.{Deed}
-use Rattle.sci_drive.specs.{declared.driver.Round.{Round}, Calls.{Call}, Driving.{DriverOf}, Rounds.{GoRounds, GoesRound}}
+use Rattle.sci_drive.specs.{declared.driver.Round.{Round}, Calls.{Call}, Driving.{DriverOf}, Rounds.{AreDrivenRounds, IsDrivenRound}}
 
 module _ {G H : Type 0} (hears : G → List Call → G → Type 0) (other : H → List Call → H → Type 0) (same : G → H)
     (hears_as : (g h : G) (calls : List Call) → hears g calls h → other (same g) calls (same h)) where
   pub round_as : {E : Type 0} {deeds : List Deed} {gate later : G} {old new : DriverOf} {before after : NodeOf} {result : Result Round E}
-      → GoesRound hears deeds gate later old new before after result → GoesRound other deeds (same gate) (same later) old new before after result
+      → IsDrivenRound hears deeds gate later old new before after result → IsDrivenRound other deeds (same gate) (same later) old new before after result
   round_as {gate = gate} {later} goes = record {
     heard = record { calls = goes.heard.calls; heard = hears_as gate later goes.heard.calls goes.heard.heard; are = goes.heard.are };
     node = goes.node;
@@ -22,8 +22,8 @@ module _ {G H : Type 0} (hears : G → List Call → G → Type 0) (other : H �
   }
 
   pub rounds_as : (turns : ℕ) (finished : Bool) (restless : ℕ) (deeds : List Deed) (gate later : G) (old new : DriverOf) (before after : NodeOf)
-      → GoRounds hears turns finished restless deeds gate later old new before after
-      → GoRounds other turns finished restless deeds (same gate) (same later) old new before after
+      → AreDrivenRounds hears turns finished restless deeds gate later old new before after
+      → AreDrivenRounds other turns finished restless deeds (same gate) (same later) old new before after
   rounds_as zero finished restless deeds gate later old new before after go = (go.0, go.1, go.2, ap same go.3, go.4, go.5)
   rounds_as (suc turns) finished restless deeds gate later old new before after go = (
     same go.0,

@@ -8,7 +8,7 @@ use Rattle.sci_history.specs.declared.entry.Entry.{Entry}
 use Rattle.sci_core.specs.Node.{NodeOf}
 use Rattle.sci_policy.specs.Deeds.{Deed, Issues, Performs, Turns}
 use Rattle.sci_drive.specs.{declared.driver.{Issuing.{Issuing}, Round.{Round}}, Calls.{Call}, Driving.{DriverOf}}
-use Rattle.sci_drive.specs.Rounds.{GoRounds, GoesRound, HasPerformed, NoneNow, OneMore, Submits, most_pending, performed, with_submitted}
+use Rattle.sci_drive.specs.Rounds.{AreDrivenRounds, IsDrivenRound, HasPerformed, NoneNow, OneMore, Submits, most_pending, performed, with_submitted}
 
 -- the operations that deeds issue, in their order
 abbrev pub issued_by : List Deed → List Op
@@ -101,7 +101,7 @@ turn_keeps : (a : DriverOf) (round : Round) → Keeps a a (Turns round.progress 
 turn_keeps a round = record { script = refl; issuing = refl; issues = refl; keep = refl }
 
 pub round_keeps : {G : Type 0} (hears : G → List Call → G → Type 0) (deeds : List Deed) (g h : G) (a b : DriverOf) (x y : NodeOf) (round : Round)
-    → GoesRound {E = AllocError} hears deeds g h a b x y (Ok round) → Keeps a b deeds
+    → IsDrivenRound {E = AllocError} hears deeds g h a b x y (Ok round) → Keeps a b deeds
 round_keeps hears deeds g h a b x y round goes =
     let worked = goes.worked in
     let first = submits_keep a worked.driver x worked.node worked.asked worked.first worked.submits in
@@ -112,7 +112,7 @@ round_keeps hears deeds g h a b x y round goes =
 -- ---- many rounds
 
 pub rounds_keep : {G : Type 0} (hears : G → List Call → G → Type 0) (turns : ℕ) (finished : Bool) (restless : ℕ) (deeds : List Deed) (g h : G)
-    (a b : DriverOf) (x y : NodeOf) → GoRounds hears turns finished restless deeds g h a b x y → Keeps a b deeds
+    (a b : DriverOf) (x y : NodeOf) → AreDrivenRounds hears turns finished restless deeds g h a b x y → Keeps a b deeds
 rounds_keep hears zero finished restless deeds g h a b x y goes =
     subst (λ (d : DriverOf). Keeps a d deeds) goes.4 (subst (Keeps a a) (sym goes.2) (keeps_itself a))
 rounds_keep hears (suc turns) finished restless deeds g h a b x y goes =

@@ -92,7 +92,7 @@ turn_of (Err refused) = []
 -- A round by these deeds: what comes before the turn, and a turn from there. The gate is asked about the next operation at most
 -- once, and then each entry is reported to it, and the end exactly if it comes; it has no other call. If the turn isn't refused,
 -- the end has been reported exactly if the whole script is answered; if it is, it isn't reported now.
-pub record GoesRound {G E : Type 0} (hears : G → List Call → G → Type 0) (deeds : List Deed) (gate later : G) (old new : DriverOf) (before after : NodeOf)
+pub record IsDrivenRound {G E : Type 0} (hears : G → List Call → G → Type 0) (deeds : List Deed) (gate later : G) (old new : DriverOf) (before after : NodeOf)
     (result : Result Round E) : Type 0 where
   pub heard : IsHeard hears gate later old new before after
   pub node : NodeOf
@@ -114,11 +114,11 @@ HasDone does stopped deeds old new (Err refused) = (turning : _) × does old dee
 
 -- This many rounds by these deeds, one after another, with the gate's calls behind each, whether the driver has finished with
 -- the last one, and this many turns in a row at their end without an entry or a rest. It hasn't finished with any before the last.
-abbrev pub GoRounds : {G : Type 0} → (G → List Call → G → Type 0) → ℕ → Bool → ℕ → List Deed → G → G → DriverOf → DriverOf → NodeOf → NodeOf → Type 0
-GoRounds hears zero finished restless deeds gate later old new before after =
+abbrev pub AreDrivenRounds : {G : Type 0} → (G → List Call → G → Type 0) → ℕ → Bool → ℕ → List Deed → G → G → DriverOf → DriverOf → NodeOf → NodeOf → Type 0
+AreDrivenRounds hears zero finished restless deeds gate later old new before after =
     (finished ≡ false) × (restless ≡ 0) × (deeds ≡ []) × (gate ≡ later) × (old ≡ new) × (before ≡ after)
-GoRounds hears (suc turns) finished restless deeds gate later old new before after =
+AreDrivenRounds hears (suc turns) finished restless deeds gate later old new before after =
     (mid heard : _) × (driver : DriverOf) × (node : NodeOf) × (round : Round) × (row : ℕ) × (calls : List Call) × (first last : List Deed)
-    × (deeds ≡ first ++ last) × GoRounds hears turns false row first gate mid old driver before node
-    × GoesRound {E = AllocError} hears last mid heard driver new node after (Ok round)
+    × (deeds ≡ first ++ last) × AreDrivenRounds hears turns false row first gate mid old driver before node
+    × IsDrivenRound {E = AllocError} hears last mid heard driver new node after (Ok round)
     × hears heard calls later × AreBehind new round row restless calls finished

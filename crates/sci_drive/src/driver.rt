@@ -66,7 +66,7 @@ impl<'a> Driver<'a> {
     ghost use Rattle.sci_policy.specs.{Deeds.{Deed}, Rest.{MayIdle}, Turn.{is_idle}};
     ghost use Rattle.sci_words.specs.declared.limits.TheConstants.{MAX_OPERATIONS};
     ghost use Rattle.sci_drive.specs.{Calls.{Answered, Call, HasHeard}, Driving.{IsAnswered, IsDriven, IsInOrder, opening_driver}};
-    ghost use Rattle.sci_drive.specs.Rounds.{ArePerformed, GoesRound, HasDone, IsTried, Submits, most_pending, performed};
+    ghost use Rattle.sci_drive.specs.Rounds.{ArePerformed, IsDrivenRound, HasDone, IsTried, Submits, most_pending, performed};
 
     /// A driver that has submitted nothing yet. Requires that the script has at most 65,536 operations.
     pub fn new(script: &'a [Op], issuing: Issuing) -> Driver<'a>
@@ -112,7 +112,7 @@ impl<'a> Driver<'a> {
             length (W.node worker.old).log < length (W.node worker.new).log) }
         ensures none { IfOk result (λ round. round.answered ≡ false →
             (W.node worker.new).log ≡ (W.node worker.old).log) }
-        ensures goes { (deeds : List Deed) × GoesRound G.hears deeds gate.old gate.new
+        ensures goes { (deeds : List Deed) × IsDrivenRound G.hears deeds gate.old gate.new
             self.old self.new (W.node worker.old) (W.node worker.new) result
             × HasDone W.does W.stopped deeds worker.old worker.new result }
         ensures rest { IfOk result (λ round.

@@ -8,7 +8,7 @@ ghost use Rattle.sci_drive.specs.Calls.{AreCallsOf, Call, EndWithAllDone, Rest, 
 ghost use Rattle.sci_drive.specs.declared.driver.Issuing.TheVariants.{Ahead, InOrder};
 ghost use Rattle.sci_drive.specs.declared.running.TheConstants.{RESTLESS_TURNS};
 ghost use Rattle.sci_drive.specs.Driving.{DriverOf, HasSubmittedNothing, opening_driver};
-ghost use Rattle.sci_drive.specs.{Resting.{IsAsked, RestsInTime, in_a_row, is_rest_due}, Rounds.{GoRounds}};
+ghost use Rattle.sci_drive.specs.{Resting.{IsAsked, RestsInTime, in_a_row, is_rest_due}, Rounds.{AreDrivenRounds}};
 ghost use Rattle.sci_drive.specs.Script.{IsFrontOf, IsLogOf, IsWholeLogOf};
 
 use crate::driver::{Driver, Issuing, Round};
@@ -73,7 +73,7 @@ pub fn drive<W: Worker, G: Gate>(
         × RestsInTime ran.turns calls) }
     ensures rounds { IfOk result (λ ran. (restless : ℕ) × (deeds : List Deed) × (driver : DriverOf)
         × W.does worker.old deeds worker.new
-        × GoRounds G.hears ran.turns ran.finished restless deeds gate.old gate.new
+        × AreDrivenRounds G.hears ran.turns ran.finished restless deeds gate.old gate.new
         (opening_driver script.now Ahead) driver (W.node worker.old) (W.node worker.new)) }
     ensures stays { W.stays worker.old worker.new }
 {
@@ -135,7 +135,7 @@ impl<'a> Driver<'a> {
             × RestsInTime ran.turns calls) }
         ensures rounds { IfOk result (λ ran. (restless : ℕ) × (deeds : List Deed)
             × W.does worker.old deeds worker.new
-            × GoRounds G.hears ran.turns ran.finished restless deeds gate.old gate.new
+            × AreDrivenRounds G.hears ran.turns ran.finished restless deeds gate.old gate.new
             self.old self.new (W.node worker.old) (W.node worker.new)) }
         ensures script { self.new.script ≡ self.old.script }
         ensures issuing { self.new.issuing ≡ self.old.issuing }

@@ -14,7 +14,8 @@ use Rattle.sci_judge.specs.declared.witness.{Claim.{Claim}, Step.{Step, TheVaria
 use Rattle.sci_judge.specs.declared.witness.Witness.{Witness, TheVariants.{Unwritten, UnwrittenLast, Early, Circle, Round}}
 use Rattle.sci_judge.specs.Access.{AreKnown, found_by, is_making, is_writing, left_by}
 use Rattle.sci_judge.specs.Coherent.{IsCoherent, StandsBefore, reply_of}
-use Rattle.sci_judge.specs.Witness.{AreInTurn, AreWrittenOnce, ComesBefore, GoesOn, IsAt, IsCircle, IsPath, IsRound, IsUnwritten, IsWitness, Leads, writes}
+use Rattle.sci_judge.specs.Witness.{AreInTurn, AreWrittenOnce, ComesBefore, ExtendsClaim, IsAt, IsCircle, IsPath, IsRound, IsUnwritten, IsWitness, Leads}
+use Rattle.sci_judge.specs.Witness.{writes}
 use Rattle.sci_judge.proofs.Explained.{Explanation, end_of, entry_in, entry_leaves, entry_makes, in_order, is_line, placed_in, read_at, top_of, word_in}
 use Rattle.sci_judge.proofs.Explained.{written_at, written_once}
 
@@ -49,7 +50,7 @@ below e a b there here differ le at_a at_b = elim (cases_eq there here) [
 ]
 
 goes_on : (e : Explanation) → AreWrittenOnce e.accesses → (from : Option Claim) (word next there here : ℕ) (to : Claim) → IsShownSoFar e from → there ≤ here
-    → here ≤ top_of e → word_in e there ≡ word → word_in e here ≡ next → GoesOn from word next to → IsShown e to
+    → here ≤ top_of e → word_in e there ≡ word → word_in e here ≡ next → ExtendsClaim from word next to → IsShown e to
 goes_on e once None word next there here to shown le within at_word at_next goes =
     let less = below e word next there here goes.0 le at_word at_next in
     subst (IsShown e) (sym goes.1) (record {

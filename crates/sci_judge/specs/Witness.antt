@@ -30,26 +30,26 @@ ComesBefore timed earlier later y x = ((y.processor ≡ x.processor) × (earlier
 
 -- A claim says that all operations that leave one word stand before all that leave another. It goes on from a word to another
 -- one that comes behind it.
-abbrev pub GoesOn : Option Claim → (word next : ℕ) → Claim → Type 0
-GoesOn None word next to = (word ≢ next) × (to ≡ record { low = word; high = next })
-GoesOn (Some from) word next to = (word ≢ next) × (from.high ≡ word) × (to ≡ record { low = from.low; high = next })
+abbrev pub ExtendsClaim : Option Claim → (word next : ℕ) → Claim → Type 0
+ExtendsClaim None word next to = (word ≢ next) × (to ≡ record { low = word; high = next })
+ExtendsClaim (Some from) word next to = (word ≢ next) × (from.high ≡ word) × (to ≡ record { low = from.low; high = next })
 
 -- what a claim becomes by a step
 abbrev pub Leads : (timed : Bool) → List Access → (last : Option ℕ) → Step → Option Claim → Claim → Type 0
 Leads timed accesses last (Follows earlier later) from to =
     (y : Access) × (x : Access) × IsAt accesses earlier y × IsAt accesses later x × ComesBefore timed earlier later y x
-    × GoesOn from (left_by y.kind) (found_by x.kind) to
+    × ExtendsClaim from (left_by y.kind) (found_by x.kind) to
 Leads timed accesses last (Swaps place) from to =
-    (z : Access) × (read : ℕ) × (wrote : ℕ) × IsAt accesses place z × (z.kind ≡ Atomic read wrote) × GoesOn from read wrote to
+    (z : Access) × (read : ℕ) × (wrote : ℕ) × IsAt accesses place z × (z.kind ≡ Atomic read wrote) × ExtendsClaim from read wrote to
 Leads timed accesses last (Falls place) from to =
     (z : Access) × (read : ℕ) × (wrote : ℕ) × (claim : Claim) × IsAt accesses place z × (z.kind ≡ Atomic read wrote) × (from ≡ Some claim)
     × (claim.high ≡ wrote) × (wrote ≢ read) × (claim.low ≢ read) × (to ≡ record { low = claim.low; high = read })
 Leads timed accesses last (Rises place) from to =
     (z : Access) × (read : ℕ) × (wrote : ℕ) × (claim : Claim) × IsAt accesses place z × (z.kind ≡ Atomic read wrote) × (from ≡ Some claim)
     × (claim.low ≡ read) × (wrote ≢ read) × (claim.high ≢ wrote) × (to ≡ record { low = wrote; high = claim.high })
-Leads timed accesses last (Starts place) from to = (x : Access) × IsAt accesses place x × GoesOn from 0 (left_by x.kind) to
+Leads timed accesses last (Starts place) from to = (x : Access) × IsAt accesses place x × ExtendsClaim from 0 (left_by x.kind) to
 Leads timed accesses last (Ends place) from to =
-    (x : Access) × (word : ℕ) × IsAt accesses place x × (last ≡ Some word) × GoesOn from (left_by x.kind) word to
+    (x : Access) × (word : ℕ) × IsAt accesses place x × (last ≡ Some word) × ExtendsClaim from (left_by x.kind) word to
 
 -- steps lead from one claim to another
 abbrev pub IsPath : (timed : Bool) → List Access → (last : Option ℕ) → Option Claim → List Step → Claim → Type 0

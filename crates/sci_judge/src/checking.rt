@@ -2,7 +2,7 @@
 
 ghost use Rattle.std.specs.Prelude.{◌≡◌, true, false, IfOk, IfSome, None};
 ghost use Rattle.std.specs.{Bool.{OnTrue}, List.{list_any}};
-ghost use Rattle.sci_judge.specs.Witness.{AreWrittenOnce, GoesOn, IsPath, IsCircle, IsEarly, IsRound, IsUnwritten, IsWitness, Leads, writes as writes_word};
+ghost use Rattle.sci_judge.specs.Witness.{AreWrittenOnce, ExtendsClaim, IsPath, IsCircle, IsEarly, IsRound, IsUnwritten, IsWitness, Leads, writes as writes_word};
 
 use crate::access::{Access, Kind};
 use crate::site::Site;
@@ -13,7 +13,7 @@ use std::collections::BTreeSet;
 
 /// The claim that goes on from one word to another behind it, or None if the two don't fit.
 fn going_on(from: Option<Claim>, word: Word, next: Word) -> Option<Claim>
-    ensures { IfSome result (GoesOn from word next) }
+    ensures { IfSome result (ExtendsClaim from word next) }
 {
     if word == next {
         return None;

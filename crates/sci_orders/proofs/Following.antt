@@ -9,7 +9,7 @@ use Rattle.std.specs.Prelude.{IsSome, count_by, is_none, option_to_list, slice_g
 use Rattle.sci_words.specs.{Operation.{has_words}, declared.{event.Event.{Event}, limits.TheConstants.{WORDS_PER_LINE}, operation.Op.{Op}}}
 use Rattle.sci_history.specs.declared.entry.Entry.{Entry}
 use Rattle.sci_core.{proofs.Basics.Options.{found, same_some}, specs.{Size.{Size}, declared.pending.Pending.{Pending}}}
-use Rattle.sci_orders.proofs.{Changes.{rest_of, waiting_below, waiting_is}, Issuing.{Goes, IsFree, issue_goes, waiting_after}}
+use Rattle.sci_orders.proofs.{Changes.{rest_of, waiting_below, waiting_is}, Issuing.{MakesStep, IsFree, issue_goes, waiting_after}}
 use Rattle.sci_orders.proofs.{ScriptOrders.{after-append, after_same, allowed_more, done_more, few-append, issues-append}, Performing.{perform_goes}}
 use Rattle.sci_orders.proofs.{Places.{any_found, none_any}, Stands.{Stands, none_first, opening_stands, pending_of}, Turns.{both_tests, no_test, one_test}}
 use Rattle.sci_orders.specs.{Orders.{AreFew, IsScriptOf, issues_at}, Ways.{LeadsTo, event_at}}
@@ -61,7 +61,7 @@ may_if operations window p n free few =
 -- ---- a step of a position is an event of the memory
 
 pub record Steps (size : Size) (operations : Operations) (window : ℕ) (plain : Plain) (done : List Entry) (p q : Position) (e : Event) : Type 0 where
-  pub goes : Goes size operations plain done p q e
+  pub goes : MakesStep size operations plain done p q e
   pub few : AreFew window (waiting_at p) (e ∷ [])
 
 -- of an operation that isn't issued the event is its Issue, and else its Perform
@@ -271,7 +271,7 @@ pub record StepFor (size : Size) (operations : Operations) (window : ℕ) (plain
   pub place : ℕ
   pub below : place < length (own_of operations node)
   pub step : step_at operations window p node place ≡ Some position
-  pub goes : Goes size operations plain done p position e
+  pub goes : MakesStep size operations plain done p position e
 
 module _ (size : Size) (operations : Operations) (window : ℕ) (plain : Plain) (done : List Entry) (p : Position)
     (stands : Stands size operations plain done p) (known : IsScriptOf size operations) where
@@ -305,7 +305,7 @@ module _ (size : Size) (operations : Operations) (window : ℕ) (plain : Plain) 
         place = length (answers_of p n);
         below = next.below;
         step = step_issues n next.below free few;
-        goes = subst (λ (o : Op). Goes size operations plain done p (with_issued_at p n) (event.Issue n o)) next.is
+        goes = subst (λ (o : Op). MakesStep size operations plain done p (with_issued_at p n) (event.Issue n o)) next.is
             (issue_goes size operations plain done p n stands known next.below free);
       }
 
@@ -320,7 +320,7 @@ module _ (size : Size) (operations : Operations) (window : ℕ) (plain : Plain) 
         place = i;
         below = (let low = waiting_below p n i from.1 in let few = stands.fits.issued n in omega arith);
         step = step_performs n i from.1;
-        goes = subst (λ (k : ℕ). Goes size operations plain done p (with_performed_at (operation_at operations n i) p n i) (event.Perform n k)) from.2
+        goes = subst (λ (k : ℕ). MakesStep size operations plain done p (with_performed_at (operation_at operations n i) p n i) (event.Perform n k)) from.2
             (perform_goes size operations plain done p n i stands known from.1);
       }
 

@@ -24,7 +24,7 @@ waiting_after (event.Perform n line ∷ order) waiting = waiting_after order (on
 waiting_after (_ ∷ order) waiting = waiting_after order waiting
 
 -- an event of the memory that goes with a step from one position to another
-pub record Goes (size : Size) (operations : Operations) (plain : Plain) (done : List Entry) (p q : Position) (e : Event) : Type 0 where
+pub record MakesStep (size : Size) (operations : Operations) (plain : Plain) (done : List Entry) (p q : Position) (e : Event) : Type 0 where
   pub new : Plain
   pub steps : plain_stepping plain e ≡ Some new
   pub stands : Stands size operations new (done ++ option_to_list (plain_made plain e)) q
@@ -161,7 +161,7 @@ module _ (size : Size) (operations : Operations) (plain : Plain) (done : List En
         words = stands.words;
       }
 
-  pub issue_goes : Goes size operations plain done p (with_issued_at p n) (event.Issue n op)
+  pub issue_goes : MakesStep size operations plain done p (with_issued_at p n) (event.Issue n op)
   issue_goes =
       let e = event.Issue n op in
       let lt : n < plain.size.nodes = subst (λ (s : Size). n < s.nodes) (sym stands.size_is) is_node in

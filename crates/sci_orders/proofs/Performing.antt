@@ -9,7 +9,7 @@ use Rattle.sci_history.specs.{Memory.{stamped_at}, declared.entry.Entry.{Entry}}
 use Rattle.sci_core.{proofs.Basics.Options.{same_some}, specs.{Size.{Size}, declared.pending.Pending.{Pending}}}
 use Rattle.sci_orders.proofs.Changes.{list_below, performed_fits, performed_here, performed_length, performed_other, performed_rest, performed_waits}
 use Rattle.sci_orders.proofs.Changes.{reply_done, waiting_below}
-use Rattle.sci_orders.proofs.{Issuing.{Goes}, Plains.{memory_performs, plain_makes}, Ports.{perform_changes, performed_waits_here, performed_waits_other}}
+use Rattle.sci_orders.proofs.{Issuing.{MakesStep}, Plains.{memory_performs, plain_makes}, Ports.{perform_changes, performed_waits_here, performed_waits_other}}
 use Rattle.sci_orders.proofs.Stands.{IsAnswered, Stands, Waiter, pending_of}
 use Rattle.sci_orders.specs.{Orders.{HasEntry, IsScriptOf}, Plain.{Plain, Port, entry_at, plain_made, port_at, waits_at, with_performed}}
 use Rattle.sci_orders.specs.Positions.{Operations, Position, answer_at, answer_of, answers_of, operation_at, own_of, with_performed_at, word_place}
@@ -223,7 +223,7 @@ module _ (size : Size) (operations : Operations) (plain : Plain) (done : List En
         words = perform_words;
       }
 
-  pub perform_goes : Goes size operations plain done p (with_performed_at (operation_at operations n i) p n i)
+  pub perform_goes : MakesStep size operations plain done p (with_performed_at (operation_at operations n i) p n i)
       (event.Perform n (operation_at operations n i).line)
   perform_goes =
       let e = event.Perform n op.line in

@@ -8,7 +8,7 @@ use Rattle.std.proofs.lemmas.{Bool.{ne_eqb}, List.{append-nil, length-map, Eleme
 use Rattle.std.specs.{Prelude.{count_by, filter, is_some, option_map, unwrap_or}, List.{list_any, position_or_len, sum_by}}
 use Rattle.std.specs.{BTreeMap.{BTreeMap, IsOrdered, Updates, get, insert_entry, values}, Map.{keys_of, values_of}}
 use Rattle.std.specs.{Cmp.{IsTotalOrder}, Ordering.{eq_by_cmp}}
-use Rattle.sci_allowed.specs.{Outcome.{held_cmp, outcome_cmp, replied_cmp}, declared.outcome.{Held.{Held}, Outcome.{Outcome}, Replied.{Replied}}}
+use Rattle.sci_allowed.specs.{Outcome.{held_cmp, outcome_cmp, replied_cmp}, declared.outcome.{FinalWord.{FinalWord}, Outcome.{Outcome}, Replied.{Replied}}}
 use Rattle.sci_outcomes.specs.declared.{histogram.{Histogram.{Histogram}, Tally.{Tally}}, outcome.Sighting.{Sighting}}
 use Rattle.sci_outcomes.specs.Rows.{AreCrowded, HasCounted, has_outcome, outcomes_in, tally_by, unseen_of, with_run}
 use Rattle.sci_allowed.specs.declared.rows.AllowedRow.{AllowedRow}
@@ -21,8 +21,8 @@ replied_total = then_total (on_total (λ (r : Replied). r.node) nat_cmp_total)
     (then_total (on_total (λ (r : Replied). r.serial) nat_cmp_total) (on_total (λ (r : Replied). r.word) nat_cmp_total))
 
 held_total : IsTotalOrder held_cmp
-held_total = then_total (on_total (λ (h : Held). h.line) nat_cmp_total)
-    (then_total (on_total (λ (h : Held). h.word) nat_cmp_total) (on_total (λ (h : Held). h.value) nat_cmp_total))
+held_total = then_total (on_total (λ (h : FinalWord). h.line) nat_cmp_total)
+    (then_total (on_total (λ (h : FinalWord). h.word) nat_cmp_total) (on_total (λ (h : FinalWord). h.value) nat_cmp_total))
 
 pub outcome_total : IsTotalOrder outcome_cmp
 outcome_total = then_total (on_total (λ (o : Outcome). o.replies.items) (lists_total replied_total))

@@ -16,7 +16,7 @@ use Rattle.sci_orders.proofs.Places.{flat_more, gives_more}
 use Rattle.sci_orders.specs.{Orders.{IsEntryAt, IsOutcomeOf}, Positions.{Operations, Position, answer_at, answer_of, own_of}}
 use Rattle.sci_allowed.proofs.{Sameness.{same_shown}, SeenAlike.{makes_same}}
 use Rattle.sci_allowed.specs.Outcome.{IsPlaceWithin, held_in, replied_at, replies_at, replies_on, shown_at, shown_of}
-use Rattle.sci_allowed.specs.declared.{outcome.{Held.{Held}, Outcome.{Outcome}, Replied.{Replied}}, place.Place.{Place}}
+use Rattle.sci_allowed.specs.declared.{outcome.{FinalWord.{FinalWord}, Outcome.{Outcome}, Replied.{Replied}}, place.Place.{Place}}
 use Rattle.sci_outcomes.specs.{declared.outcome.Sighting.{Sighting}, Outcomes.{IsSeen, held_at, replied, replied_by, replies_in}}
 
 -- ---- lists
@@ -137,7 +137,7 @@ module _ (size : Size) (operations : Operations) (schedule : List Event) (p : Po
 
   held_same : (place : Place) → IsPlaceWithin size.lines place → held_at (last_of (run size schedule)) place ≡ held_in p place
   held_same place within =
-      ap (λ (word : ℕ). let h : Held = record { line = place.line; word = place.word; value = word } in h)
+      ap (λ (word : ℕ). let h : FinalWord = record { line = place.line; word = place.word; value = word } in h)
       (sym (is.words place.line place.word within.0 within.1))
 
   pub shown_is : (places : List Place) (sighting : Sighting) → All (IsPlaceWithin size.lines) places

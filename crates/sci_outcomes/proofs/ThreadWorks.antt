@@ -17,7 +17,7 @@ use Rattle.sci_drive.specs.{declared.driver.Issuing.{Issuing}, Calls.{Call}, Dri
 use Rattle.sci_orders.specs.Witness.{is_seen}
 use Rattle.sci_station.proofs.OwnEvents.{own_added, own_known}
 use Rattle.sci_station.specs.{Deeds.{IsDeed}, Posts.{post_of}, Station.{StationOf, node_in, schedule_in}}
-use Rattle.sci_threads.specs.Slices.{AreDrivenOpenly, GoSlices, hears_openly}
+use Rattle.sci_threads.specs.Slices.{AreDrivenOpenly, AreDrivenSlices, hears_openly}
 use Rattle.sci_turn.specs.Moves.{own_of}
 use Rattle.sci_outcomes.proofs.{NodeWorks.{IsDriven, driven, works_by}, TurnsAreQuiet.{turn_quiet, works, works-append}}
 use Rattle.sci_words.specs.declared.event.Event.TheVariants as event
@@ -25,7 +25,7 @@ use Rattle.sci_words.specs.declared.event.Event.TheVariants as event
 -- ---- slices
 
 slices_keep : (slices : List ℕ) (had has : Bool) (deeds : List Deed) (g h : Unit {0}) (a b : DriverOf) (x y : NodeOf)
-    → GoSlices hears_openly slices had has deeds g h a b x y → Keeps a b deeds
+    → AreDrivenSlices hears_openly slices had has deeds g h a b x y → Keeps a b deeds
 slices_keep [] had has deeds g h a b x y go = subst (λ (d : DriverOf). Keeps a d deeds) go.3 (subst (Keeps a a) (sym go.1) (keeps_itself a))
 slices_keep (turns ∷ slices) had has deeds g h a b x y go =
     let earlier = slices_keep slices had false go.4 g go.0 a go.1 x go.2 go.7 in

@@ -4,7 +4,7 @@ use Rattle.std.specs.List.{filter_map, flat_map}
 use Rattle.sci_words.specs.declared.{operation.Reply.{Reply, TheVariants.{Stored, Got}}, stamped.Stamped.{Stamped}}
 use Rattle.sci_history.specs.{declared.entry.Entry.{Entry}, Memory.{stamped_at}}
 use Rattle.sci_history.specs.Sequential.{IsSequentiallyConsistent, by_serial}
-use Rattle.sci_allowed.specs.declared.{outcome.{Held.{Held}, Replied.{Replied}}, place.Place.{Place}}
+use Rattle.sci_allowed.specs.declared.{outcome.{FinalWord.{FinalWord}, Replied.{Replied}}, place.Place.{Place}}
 use Rattle.sci_outcomes.specs.declared.outcome.Sighting.{Sighting}
 
 -- what an entry replied, if it is that of a load or a lock operation
@@ -20,7 +20,7 @@ abbrev pub replies_in : List (List Entry) → List Replied
 replies_in logs = flat_map (filter_map replied) logs
 
 -- what the word at a place holds
-abbrev pub held_at : List Stamped → Place → Held
+abbrev pub held_at : List Stamped → Place → FinalWord
 held_at last place = record { line = place.line; word = place.word; value = slice_index (stamped_at last place.line).line place.word }
 
 -- The outcome has what the loads and lock operations replied, by node and then by serial, and what the words at these places

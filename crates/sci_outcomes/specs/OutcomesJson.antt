@@ -3,7 +3,7 @@ use Rattle.std.specs.Prelude.{ℕ, ◌+◌, ◌%◌, ◌^◌, List, [], ◌++◌
 use Rattle.std.specs.List.{flat_map}
 use Rattle.json.specs.Token.{Token}
 use Rattle.sci_json.specs.Members.{array_member, number_member, object_line, object_of, text_member, truth_member, word_member}
-use Rattle.sci_allowed.specs.declared.{outcome.{Held.{Held}, Outcome.{Outcome}, Replied.{Replied}}, rows.AllowedRow.{AllowedRow}}
+use Rattle.sci_allowed.specs.declared.{outcome.{FinalWord.{FinalWord}, Outcome.{Outcome}, Replied.{Replied}}, rows.AllowedRow.{AllowedRow}}
 use Rattle.sci_outcomes.specs.declared.{histogram.Row.{Row}, said.Said.{Said}, trials.{Trials.{Trials}, Turns.{Turns, TheVariants.{Drawn, Threads}}}}
 use Rattle.sci_outcomes.specs.Said.{sample_word}
 
@@ -16,10 +16,10 @@ unfoldable pub replied_object : Replied → List Token
 replied_object replied = object_of (replied_members replied)
 
 -- what a word of memory holds
-unfoldable pub held_members : Held → List Token
+unfoldable pub held_members : FinalWord → List Token
 held_members held = number_member (codes "line") held.line ++ (number_member (codes "word") held.word ++ word_member (codes "value") held.value)
 
-unfoldable pub held_object : Held → List Token
+unfoldable pub held_object : FinalWord → List Token
 held_object held = object_of (held_members held)
 
 unfoldable pub outcome_members : Outcome → List Token

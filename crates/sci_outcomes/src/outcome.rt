@@ -6,7 +6,7 @@ ghost use Rattle.sci_core.specs.{Outcome.{logs_of}, Sharing.{last_of}};
 ghost use Rattle.sci_allowed.specs.Outcome.{IsPlaceWithin};
 ghost use Rattle.sci_outcomes.specs.Outcomes.{IsSeen, held_at, replied, replies_in};
 
-use sci_allowed::{Held, Outcome, Place, Replied};
+use sci_allowed::{FinalWord, Outcome, Place, Replied};
 use sci_core::Machine;
 use sci_history::{Entry, Last, Logs, OrderVerdict, sequential_order, serial_order_is_lawful};
 use sci_words::Reply;
@@ -59,13 +59,13 @@ fn replies_of(alloc: Global, logs: &Logs) -> Result<Vec<Replied>, AllocError>
 }
 
 /// What the words at these places hold.
-fn words_of(alloc: Global, places: &[Place], last: &Last) -> Result<Vec<Held>, AllocError>
+fn words_of(alloc: Global, places: &[Place], last: &Last) -> Result<Vec<FinalWord>, AllocError>
     requires { All (IsPlaceWithin (length last.now)) places.now }
     ensures { IfOk result (λ words. words.items ≡ map (held_at last.now) places.now) }
 {
     let mut words = Vec::with_capacity(alloc, places.len())?;
     for place in places {
-        words.push(Held {
+        words.push(FinalWord {
             line: place.line,
             word: place.word,
             value: last.get(place.line).line.word(place.word),

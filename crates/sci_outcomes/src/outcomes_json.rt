@@ -10,7 +10,7 @@ use crate::histogram::Row;
 use crate::said::Said;
 use crate::trials::{Trials, Turns};
 use json::Writer;
-use sci_allowed::{AllowedRow, Held, Outcome, Replied};
+use sci_allowed::{AllowedRow, FinalWord, Outcome, Replied};
 use sci_json::{into_line, write_number, write_text, write_truth, write_word};
 use std::alloc::{AllocError, Global};
 
@@ -55,7 +55,7 @@ fn write_all_replied(out: &mut Writer, replies: &[Replied]) -> Result<(), AllocE
 
 /// Writes what a word of memory holds.
 #[tactic(auto, unfolding(crate::specs::OutcomesJson::held_members))]
-fn write_held(out: &mut Writer, held: &Held) -> Result<(), AllocError>
+fn write_held(out: &mut Writer, held: &FinalWord) -> Result<(), AllocError>
     ensures { OnOk result (Adds out.old out.new (held_members held.now)) }
 {
     write_number(out, "line", u64::from(held.line))?;
@@ -65,7 +65,7 @@ fn write_held(out: &mut Writer, held: &Held) -> Result<(), AllocError>
 
 /// Writes the same as an object.
 #[tactic(auto, unfolding(crate::specs::OutcomesJson::held_object, sci_json::specs::Members::object_of))]
-fn write_held_object(out: &mut Writer, held: &Held) -> Result<(), AllocError>
+fn write_held_object(out: &mut Writer, held: &FinalWord) -> Result<(), AllocError>
     ensures { OnOk result (Adds out.old out.new (held_object held.now)) }
 {
     out.begin_object()?;
@@ -74,7 +74,7 @@ fn write_held_object(out: &mut Writer, held: &Held) -> Result<(), AllocError>
 }
 
 /// Writes the objects of what words of memory hold.
-fn write_all_held(out: &mut Writer, words: &[Held]) -> Result<(), AllocError>
+fn write_all_held(out: &mut Writer, words: &[FinalWord]) -> Result<(), AllocError>
     ensures { OnOk result (Adds out.old out.new (flat_map held_object words.now)) }
 {
     for held in words {
@@ -97,7 +97,7 @@ fn write_replies(out: &mut Writer, replies: &[Replied]) -> Result<(), AllocError
 
 /// Writes the array of what words of memory hold.
 #[tactic(auto, unfolding(sci_json::specs::Members::array_member))]
-fn write_words(out: &mut Writer, words: &[Held]) -> Result<(), AllocError>
+fn write_words(out: &mut Writer, words: &[FinalWord]) -> Result<(), AllocError>
     ensures { OnOk result (Adds out.old out.new
         (array_member (codes "words") (flat_map held_object words.now))) }
 {

@@ -7,7 +7,7 @@ ghost use Rattle.sci_outcomes.specs.RunAnswer.{IsLongRun, IsRunAnswer, IsRunRefu
 
 use sci_command::{Answer, Answered, Note, Outcome, Refusal, read_script};
 use sci_drive::Issuing;
-use sci_runs::{Plan, RunFault, run_script};
+use sci_runs::{RunFault, RunPlan, run_script};
 use sci_text::{Tap, TextFaultKind, schedule_text};
 use sci_words::MAX_TURNS;
 use std::alloc::Global;
@@ -63,7 +63,7 @@ pub fn run<R: Read>(alloc: Global, request: RunRequest, reader: &mut Tap<R>) -> 
         (IsRunRefusal (IsLongRun request)) result }
 {
     let script = read_script(alloc, reader)?;
-    let plan = Plan {
+    let plan = RunPlan {
         seed: request.seed,
         issuing: request.issuing,
         turns: request.turns.unwrap_or(u64::from(MAX_TURNS)),

@@ -13,7 +13,7 @@ use crate::histogram::Histogram;
 use crate::outcome::{Sighting, seen};
 use sci_allowed::{Place, written_places};
 use sci_drive::Issuing;
-use sci_runs::{Plan, RunFault, run_script};
+use sci_runs::{RunFault, RunPlan, run_script};
 use sci_text::Script;
 use sci_threads::{YieldingGate, run_to_machine};
 use sci_words::MAX_TURNS;
@@ -129,7 +129,7 @@ fn drawn_run(alloc: Global, litmus: Litmus<'_>, seed: u64) -> Result<Sighting, R
     ensures given_up { IfErr result (λ fault. fault ≡ TooMany →
         IsGivenUp litmus.entry.script.now (Drawn seed) litmus.entry.issuing) }
 {
-    let plan = Plan {
+    let plan = RunPlan {
         seed: Some(seed),
         issuing: litmus.issuing,
         turns: u64::from(MAX_TURNS),

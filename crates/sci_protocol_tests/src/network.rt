@@ -1,9 +1,9 @@
 //! What a network does between two events of a walk: it may keep the order of each lane, or not, or lose packets.
 
 use crate::walked::{Happening, Walked};
-use sci_chance::Random;
 use sci_core::LaneKind;
 use sci_packets::Packet;
+use sci_chance::Random;
 use sci_words::Event;
 use std::test::*;
 

@@ -7,7 +7,7 @@ use Rattle.sci_text.specs.declared.fault.{TextFault.{TextFault}, TextFaultKind.{
 use Rattle.sci_text.specs.declared.fault.TextFaultKind.TheVariants.{Syntax, Read, Write, Memory}
 use Rattle.sci_text.specs.declared.log_form.Form.{Form}
 use Rattle.sci_text.specs.FirstFault.{AreRead, HasNoFault, IsFirstFault, IsRefusal, IsRefusalOf, IsTold}
-use Rattle.sci_text.specs.LogFault.{BeginsFront, GoesOn, IsLogFault, LogLineFault, SizeFault, line_count}
+use Rattle.sci_text.specs.LogFault.{BeginsFront, HasMore, IsLogFault, LogLineFault, SizeFault, line_count}
 use Rattle.sci_text.specs.LogValue.{AreLogs, Front, IsForm, IsLogs, entry_count}
 use Rattle.sci_text.specs.Schedule.{ScheduleValue, IsSchedule, schedule_text}
 use Rattle.sci_text.specs.ScheduleFault.{BeginsSchedule, EventFault, IsScheduleFault}
@@ -143,7 +143,7 @@ of_line input line kind h last = elim last.reached [
   | inl s ↦ first_of_line MachineFault BeginsScript (λ s rest. 0 < length rest) (λ s. length s.operations + 1) OperationFault input line kind (h.0 input) h.2 s
   | inr rest ↦ elim rest [
     | inl s ↦ first_of_line MachineFault BeginsSchedule (λ s rest. 0 < length rest) (λ s. length s.events + 1) EventFault input line kind (h.0 input) h.3 s
-    | inr l ↦ first_of_line SizeFault BeginsFront GoesOn line_count LogLineFault input line kind (h.1 input) h.4 l
+    | inr l ↦ first_of_line SizeFault BeginsFront HasMore line_count LogLineFault input line kind (h.1 input) h.4 l
   ]
 ]
 

@@ -9,7 +9,8 @@ use Rattle.sci_policy.specs.{declared.progress.Progress.{Progress}, Deeds.{Deed,
 use Rattle.sci_policy.proofs.Deeds.{one_deed}
 use Rattle.sci_drive.specs.{declared.driver.Round.{Round}, Rounds.{HasDone}}
 use Rattle.sci_runs.specs.declared.fault.RunFault.{RunFault, TheVariants.{TooMany}}
-use Rattle.sci_runs.specs.{Deeds.{Does, Fills, FillsTurning, IsDeed, IsTurnDone, standing}, Goings.{Goes, GoesAt, Place, Stops, StopsAt, goes_itself, place}}
+use Rattle.sci_runs.specs.Deeds.{Does, Fills, FillsTurning, IsDeed, IsTurnDone, standing}
+use Rattle.sci_runs.specs.Goings.{DoesDeeds, DoesDeedsAt, Place, Stops, StopsAt, goes_itself, place}
 use Rattle.sci_runs.specs.Recorded.{KeepsLoss, RecorderOf, course_of}
 use Rattle.sci_words.specs.declared.event.Event.TheVariants as event
 
@@ -22,7 +23,7 @@ StaysLost x y = (fault : RunFault) → x.lost ≡ Some fault → y.lost ≡ Some
 -- what either does to a recorder that is issued or performed
 goes_working : (n : ℕ) (deeds : List Deed) (p : PolicyOf) (x y : RecorderOf) → StaysLost x y
     → ((fault : RunFault) → y.lost ≡ Some fault → y.schedule ≡ x.schedule) → (y.lost ≡ None → Does n deeds p (course_of x) p (course_of y))
-    → Goes n deeds p x p y
+    → DoesDeeds n deeds p x p y
 goes_working n deeds p x y keeps stands does = record {
   keeps = λ fault is. (keeps fault is, stands fault (keeps fault is));
   does = does;
@@ -41,7 +42,7 @@ goes_working n deeds p x y keeps stands does = record {
 pub issued : {T E : Type 0} (result : Result T E) (n : ℕ) (op : Op) (p : PolicyOf) (x y : RecorderOf) → StaysLost x y
     → ((fault : RunFault) → y.lost ≡ Some fault → y.schedule ≡ x.schedule) → IfOk result (λ _. stepping x.core (event.Issue n op) ≡ Some y.core)
     → IfOk result (λ _. y.lost ≡ None → y.schedule.events ≡ x.schedule.events ++ event.Issue n op ∷ [])
-    → IfOk result (λ _. (n ≡ n) × Goes n (Issues op ∷ []) p x p y)
+    → IfOk result (λ _. (n ≡ n) × DoesDeeds n (Issues op ∷ []) p x p y)
 issued (Ok serial) n op p x y keeps stands steps more = (
   refl,
   goes_working n (Issues op ∷ []) p x y keeps stands (λ none.
@@ -53,7 +54,7 @@ issued (Err fault) n op p x y keeps stands steps more = tt
 pub performed : (result : Option Entry) (n line : ℕ) (p : PolicyOf) (x y : RecorderOf) → StaysLost x y
     → ((fault : RunFault) → y.lost ≡ Some fault → y.schedule ≡ x.schedule) → IfSome result (λ _. stepping x.core (event.Perform n line) ≡ Some y.core)
     → IfSome result (λ _. y.lost ≡ None → y.schedule.events ≡ x.schedule.events ++ event.Perform n line ∷ [])
-    → IfSome result (λ entry. (n ≡ n) × Goes n (Performs line entry ∷ []) p x p y)
+    → IfSome result (λ entry. (n ≡ n) × DoesDeeds n (Performs line entry ∷ []) p x p y)
 performed (Some entry) n line p x y keeps stands steps more = (
   refl,
   goes_working n (Performs line entry ∷ []) p x y keeps stands (λ none.
@@ -63,12 +64,12 @@ performed (Some entry) n line p x y keeps stands steps more = (
 performed None n line p x y keeps stands steps more = tt
 
 -- and none
-pub idles : (n : ℕ) (p : PolicyOf) (x y : RecorderOf) → y ≡ x → (n ≡ n) × Goes n [] p x p y
-idles n p x y same = (refl, subst (Goes n [] p x p) (sym same) (goes_itself n p x))
+pub idles : (n : ℕ) (p : PolicyOf) (x y : RecorderOf) → y ≡ x → (n ≡ n) × DoesDeeds n [] p x p y
+idles n p x y same = (refl, subst (DoesDeeds n [] p x p) (sym same) (goes_itself n p x))
 
 -- a whole turn
 pub turns : (n : ℕ) (p q : PolicyOf) (x y : RecorderOf) (progress : Progress) → KeepsLoss x y → IsTurnDone n p (course_of x) q (course_of y) progress
-    → Goes n (Turns progress ∷ []) p x q y
+    → DoesDeeds n (Turns progress ∷ []) p x q y
 turns n p q x y progress keeps turn =
     let does = one_deed (IsDeed n) (Turns progress) (standing p (course_of x)) (standing q (course_of y)) turn in record {
       keeps = keeps;
@@ -79,14 +80,14 @@ turns n p q x y progress keeps turn =
 
 -- what a worker with a node, a policy and a recorder of its own has done in a round of node n, from this policy and recorder on
 abbrev HasDoneBy : {W : Type 0} → (W → ℕ) → (W → PolicyOf) → (W → RecorderOf) → ℕ → List Deed → PolicyOf → RecorderOf → W → Result Round AllocError → Type 0
-HasDoneBy node policy recorder n deeds p x new (Ok round) = (node new ≡ n) × Goes n deeds p x (policy new) (recorder new)
+HasDoneBy node policy recorder n deeds p x new (Ok round) = (node new ≡ n) × DoesDeeds n deeds p x (policy new) (recorder new)
 HasDoneBy node policy recorder n deeds p x new (Err refused) =
-    (mid : _) × ((node mid ≡ n) × Goes n deeds p x (policy mid) (recorder mid))
+    (mid : _) × ((node mid ≡ n) × DoesDeeds n deeds p x (policy mid) (recorder mid))
     × ((node new ≡ node mid) × Stops (node mid) (policy mid) (recorder mid) (policy new) (recorder new))
 
 pub at_node : {W : Type 0} (node : W → ℕ) (policy : W → PolicyOf) (recorder : W → RecorderOf) (n : ℕ) (deeds : List Deed) (p : PolicyOf) (x : RecorderOf)
     (new : W) (result : Result Round AllocError) → HasDoneBy node policy recorder n deeds p x new result
-    → HasDone (GoesAt n) (StopsAt n) deeds (place p x) (place (policy new) (recorder new)) result
+    → HasDone (DoesDeedsAt n) (StopsAt n) deeds (place p x) (place (policy new) (recorder new)) result
 at_node node policy recorder n deeds p x new (Ok round) did = did.1
 at_node node policy recorder n deeds p x new (Err refused) did =
     let mid = did.0 in (
@@ -98,7 +99,7 @@ at_node node policy recorder n deeds p x new (Err refused) did =
 -- ---- a schedule that is filled
 
 -- a round fills it by some of its deeds, or by all of them and the turn that is refused
-pub fills_round : (result : Result Round AllocError) (n : ℕ) (deeds : List Deed) (old new : Place) → HasDone (GoesAt n) (StopsAt n) deeds old new result
+pub fills_round : (result : Result Round AllocError) (n : ℕ) (deeds : List Deed) (old new : Place) → HasDone (DoesDeedsAt n) (StopsAt n) deeds old new result
     → old.recorder.lost ≡ None → new.recorder.lost ≡ Some TooMany → MAX_EVENTS ≤ length new.recorder.schedule.events
     → Fills n deeds old.policy (course_of old.recorder) ⊎ (IsErr result × FillsTurning n deeds old.policy (course_of old.recorder))
 fills_round (Ok round) n deeds old new goes none many full = inl (goes.fills none many full)

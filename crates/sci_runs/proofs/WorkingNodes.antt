@@ -13,7 +13,7 @@ use Rattle.sci_drive.specs.Driving.{DriverOf, HasSubmittedNothing, IsDriven, IsI
 use Rattle.sci_drive.proofs.{Drives.{opens}, InOrder.{opens_in_order}}
 use Rattle.sci_text.specs.Script.{operations_of}
 use Rattle.sci_drive.proofs.Fresh.{opened_fresh, sized_for}
-use Rattle.sci_runs.specs.{Deeds.{Does, Fills, FillsTurning}, Played.{Begins, FillsAt, GoesOpenly, IsRound, StaysBut}}
+use Rattle.sci_runs.specs.{Deeds.{Does, Fills, FillsTurning}, Played.{Begins, FillsAt, IsOpenRound, IsRound, StaysBut}}
 use Rattle.sci_runs.specs.Players.{AreAtWork, IsAtWork, TableOf, moment_of}
 use Rattle.sci_runs.specs.Recorded.{RecorderOf, SparesOthers, course_of, with_limit}
 
@@ -173,7 +173,7 @@ module _ {A : Type 0} (f : A → DriverOf) (g : A → PolicyOf) (script : Script
 
   -- and it is a round of the run
   pub round_is : view ≡ table → AreAtWork view → n < table.script.nodes → k ≡ n → player ≡ slice_index_or players k player → (new : A) (later : RecorderOf)
-      (round : Round) (deeds : List Deed) → GoesOpenly deeds (f player) (f new) (node_at recorder.core n) (node_at later.core n) (Ok round)
+      (round : Round) (deeds : List Deed) → IsOpenRound deeds (f player) (f new) (node_at recorder.core n) (node_at later.core n) (Ok round)
       → IsDriven (f new) (node_at later.core n) → Does n deeds (g player) (course_of recorder) (g new) (course_of later)
       → IsRound n (moment_of table) (moment_of (after new later))
   round_is is work lt same value new later round deeds goes driven does =
@@ -187,9 +187,9 @@ module _ {A : Type 0} (f : A → DriverOf) (g : A → PolicyOf) (script : Script
         round = round;
         deeds = deeds;
         goes = λ d.
-            subst (λ (driver : DriverOf). GoesOpenly deeds driver (slice_index_or (map f (set players k new)) n d) (node_at recorder.core n)
+            subst (λ (driver : DriverOf). IsOpenRound deeds driver (slice_index_or (map f (set players k new)) n d) (node_at recorder.core n)
             (node_at later.core n) (Ok round)) (sym (stands work some same value d))
-            (subst (λ (driver : DriverOf). GoesOpenly deeds (f player) driver (node_at recorder.core n) (node_at later.core n) (Ok round))
+            (subst (λ (driver : DriverOf). IsOpenRound deeds (f player) driver (node_at recorder.core n) (node_at later.core n) (Ok round))
             (sym (placed_here f players k n new d same within)) goes);
         does = subst (λ (policy : PolicyOf).
             Does n deeds policy (course_of recorder) (slice_index_or (map g (set players k new)) n opening_policy) (course_of later)) (sym was)
@@ -203,7 +203,7 @@ module _ {A : Type 0} (f : A → DriverOf) (g : A → PolicyOf) (script : Script
   -- and one that fills the schedule
   pub round_fills : view ≡ table → AreAtWork view → n < table.script.nodes → k ≡ n → player ≡ slice_index_or players k player → (new : A)
       (later : RecorderOf) (result : Result Round AllocError) (deeds : List Deed)
-      → GoesOpenly deeds (f player) (f new) (node_at recorder.core n) (node_at later.core n) result
+      → IsOpenRound deeds (f player) (f new) (node_at recorder.core n) (node_at later.core n) result
       → Fills n deeds (g player) (course_of recorder) ⊎ (IsErr result × FillsTurning n deeds (g player) (course_of recorder)) → FillsAt n (moment_of table)
   round_fills is work lt same value new later result deeds goes fills =
       let some = some_node is lt in
@@ -216,7 +216,7 @@ module _ {A : Type 0} (f : A → DriverOf) (g : A → PolicyOf) (script : Script
         result = result;
         deeds = deeds;
         goes = λ d.
-            subst (λ (driver : DriverOf). GoesOpenly deeds driver (f new) (node_at recorder.core n) (node_at later.core n) result)
+            subst (λ (driver : DriverOf). IsOpenRound deeds driver (f new) (node_at recorder.core n) (node_at later.core n) result)
             (sym (stands work some same value d)) goes;
         fills = subst (λ (policy : PolicyOf).
             Fills n deeds policy (course_of recorder) ⊎ (IsErr result × FillsTurning n deeds policy (course_of recorder))) (sym was) fills;

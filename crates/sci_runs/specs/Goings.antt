@@ -26,7 +26,7 @@ adds_then n m old mid new same one two = (
 
 -- What deeds of node n do between two moments of a recorder: an event that was lost stays lost, and then nothing more is
 -- recorded; if none was lost, they have made all events; and if one was, since there were too many, they have filled the schedule.
-pub record Goes (n : ℕ) (deeds : List Deed) (before : PolicyOf) (old : RecorderOf) (after : PolicyOf) (new : RecorderOf) : Type 0 where
+pub record DoesDeeds (n : ℕ) (deeds : List Deed) (before : PolicyOf) (old : RecorderOf) (after : PolicyOf) (new : RecorderOf) : Type 0 where
   pub keeps : KeepsLoss old new
   pub does : new.lost ≡ None → Does n deeds before (course_of old) after (course_of new)
   pub fills : old.lost ≡ None → new.lost ≡ Some TooMany → MAX_EVENTS ≤ length new.schedule.events → Fills n deeds before (course_of old)
@@ -45,8 +45,8 @@ pub record Place : Type 0 where
 abbrev pub place : PolicyOf → RecorderOf → Place
 place policy recorder = record { policy = policy; recorder = recorder }
 
-abbrev pub GoesAt : ℕ → Place → List Deed → Place → Type 0
-GoesAt n old deeds new = Goes n deeds old.policy old.recorder new.policy new.recorder
+abbrev pub DoesDeedsAt : ℕ → Place → List Deed → Place → Type 0
+DoesDeedsAt n old deeds new = DoesDeeds n deeds old.policy old.recorder new.policy new.recorder
 
 abbrev pub StopsAt : ℕ → Place → Place → Type 0
 StopsAt n old new = Stops n old.policy old.recorder new.policy new.recorder
@@ -56,7 +56,7 @@ pub lost_by : (lost later : Option RunFault) → ((fault : RunFault) → lost �
 lost_by None later keeps none = refl
 lost_by (Some fault) later keeps none = let gone = keeps fault refl in cc
 
-pub unlost : (n : ℕ) (deeds : List Deed) (p q : PolicyOf) (x y : RecorderOf) → Goes n deeds p x q y → y.lost ≡ None → x.lost ≡ None
+pub unlost : (n : ℕ) (deeds : List Deed) (p q : PolicyOf) (x y : RecorderOf) → DoesDeeds n deeds p x q y → y.lost ≡ None → x.lost ≡ None
 unlost n deeds p q x y goes none = lost_by x.lost y.lost (λ fault is. (goes.keeps fault is).0) none
 
 -- what fills the schedule does so behind other deeds
@@ -84,8 +84,8 @@ filled_before n p x deeds more one = record {
 }
 
 -- the schedule is filled before the second moment, or after it
-filled_by : (n : ℕ) (deeds more : List Deed) (p q r : PolicyOf) (x y z : RecorderOf) (lost : Option RunFault) → y.lost ≡ lost → Goes n deeds p x q y
-    → Goes n more q y r z → x.lost ≡ None → z.lost ≡ Some TooMany → MAX_EVENTS ≤ length z.schedule.events → Fills n (deeds ++ more) p (course_of x)
+filled_by : (n : ℕ) (deeds more : List Deed) (p q r : PolicyOf) (x y z : RecorderOf) (lost : Option RunFault) → y.lost ≡ lost → DoesDeeds n deeds p x q y
+    → DoesDeeds n more q y r z → x.lost ≡ None → z.lost ≡ Some TooMany → MAX_EVENTS ≤ length z.schedule.events → Fills n (deeds ++ more) p (course_of x)
 filled_by n deeds more p q r x y z None is one two none many full =
     filled_on n p q (course_of x) (course_of y) deeds more (one.does is) (two.fills is many full)
 filled_by n deeds more p q r x y z (Some fault) is one two none many full =
@@ -93,15 +93,15 @@ filled_by n deeds more p q r x y z (Some fault) is one two none many full =
     filled_before n p (course_of x) deeds more
     (one.fills none (is ∙ (sym kept.0 ∙ many)) (subst (λ (s : ScheduleValue). MAX_EVENTS ≤ length s.events) kept.1 full))
 
-pub goes_itself : (n : ℕ) (p : PolicyOf) (x : RecorderOf) → Goes n [] p x p x
+pub goes_itself : (n : ℕ) (p : PolicyOf) (x : RecorderOf) → DoesDeeds n [] p x p x
 goes_itself n p x = record {
   keeps = λ fault is. (is, refl);
   does = λ none. refl;
   fills = λ none many full. let other : None ≡ Some TooMany = sym none ∙ many in cc;
 }
 
-pub goes_on : (n : ℕ) (deeds more : List Deed) (p q r : PolicyOf) (x y z : RecorderOf) → Goes n deeds p x q y → Goes n more q y r z
-    → Goes n (deeds ++ more) p x r z
+pub goes_on : (n : ℕ) (deeds more : List Deed) (p q r : PolicyOf) (x y z : RecorderOf) → DoesDeeds n deeds p x q y → DoesDeeds n more q y r z
+    → DoesDeeds n (deeds ++ more) p x r z
 goes_on n deeds more p q r x y z one two = record {
   keeps = λ fault is. ((two.keeps fault (one.keeps fault is).0).0, (two.keeps fault (one.keeps fault is).0).1 ∙ (one.keeps fault is).1);
   does = λ none.

@@ -6,7 +6,7 @@ use Rattle.sci_text.specs.{Script.{ScriptValue}, Schedule.{ScheduleValue}}
 use Rattle.sci_core.specs.{Core.{Core, node_at, opening, run}, Node.{NodeOf}}
 use Rattle.sci_policy.specs.{Deeds.{Deed}, Policy.{PolicyOf, opening_policy}}
 use Rattle.sci_drive.specs.{declared.driver.{Issuing.{Issuing}, Round.{Round}}, Calls.{IsOpen}}
-use Rattle.sci_drive.specs.{Driving.{DriverOf, IsAnswered, IsDriven, opening_driver}, Rounds.{GoesRound}}
+use Rattle.sci_drive.specs.{Driving.{DriverOf, IsAnswered, IsDriven, opening_driver}, Rounds.{IsDrivenRound}}
 use Rattle.sci_text.specs.Script.{operations_of}
 use Rattle.sci_drive.specs.ScriptLogs.{size_for}
 use Rattle.sci_runs.specs.{declared.order.Order.{Order}, Deeds.{Does, Fills, FillsTurning}, Recorded.{Course, raised, with_limit}}
@@ -35,8 +35,8 @@ abbrev pub StaysBut : {A : Type 0} → ℕ → List A → List A → Type 0
 StaysBut n old new = (m : ℕ) (d : _) → m ≢ n → slice_index_or new m d ≡ slice_index_or old m d
 
 -- a round of a driver whose gate allows all that it is asked about
-abbrev pub GoesOpenly : List Deed → DriverOf → DriverOf → NodeOf → NodeOf → Result Round AllocError → Type 0
-GoesOpenly deeds old new before after result = GoesRound (λ (first : Unit {0}) calls last. All IsOpen calls) deeds tt tt old new before after result
+abbrev pub IsOpenRound : List Deed → DriverOf → DriverOf → NodeOf → NodeOf → Result Round AllocError → Type 0
+IsOpenRound deeds old new before after result = IsDrivenRound (λ (first : Unit {0}) calls last. All IsOpen calls) deeds tt tt old new before after result
 
 -- A round of node n by these deeds: it submits the next operation if it can, performs what it can, and takes one turn. It is
 -- never told to wait. At its end the driver has driven the node as far as it has come.
@@ -44,7 +44,7 @@ pub record IsRound (n : ℕ) (old new : Moment) : Type 0 where
   pub some : n < old.core.size.nodes
   pub round : Round
   pub deeds : List Deed
-  pub goes : (d : DriverOf) → GoesOpenly deeds (driver_at old n d) (driver_at new n d) (node_at old.core n) (node_at new.core n) (Ok round)
+  pub goes : (d : DriverOf) → IsOpenRound deeds (driver_at old n d) (driver_at new n d) (node_at old.core n) (node_at new.core n) (Ok round)
   pub does : Does n deeds (policy_at old n) (course_at old) (policy_at new n) (course_at new)
   pub driven : (d : DriverOf) → IsDriven (driver_at new n d) (node_at new.core n)
   pub many : length new.drivers ≡ length old.drivers
@@ -69,7 +69,7 @@ pub record FillsAt (n : ℕ) (moment : Moment) : Type 0 where
   pub node : NodeOf
   pub result : Result Round AllocError
   pub deeds : List Deed
-  pub goes : (d : DriverOf) → GoesOpenly deeds (driver_at moment n d) driver (node_at moment.core n) node result
+  pub goes : (d : DriverOf) → IsOpenRound deeds (driver_at moment n d) driver (node_at moment.core n) node result
   pub fills : Fills n deeds (policy_at moment n) (course_at moment) ⊎ (IsErr result × FillsTurning n deeds (policy_at moment n) (course_at moment))
 
 -- the schedule has no room for fewer than this many rounds and what comes then

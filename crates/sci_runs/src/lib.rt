@@ -12,4 +12,4 @@ mod table;
 mod turn;
 
 pub use fault::RunFault;
-pub use running::{Plan, Run, run_script};
+pub use running::{Run, RunPlan, run_script};

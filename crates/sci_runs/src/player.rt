@@ -59,7 +59,7 @@ impl<'a> Player<'a> {
     ghost use Rattle.sci_drive.specs.Driving.{IsDriven, IsInOrder};
     ghost use Rattle.sci_policy.specs.Deeds.{Deed};
     ghost use Rattle.sci_drive.specs.Rounds.{HasDone};
-    ghost use Rattle.sci_runs.specs.{Goings.{GoesAt, StopsAt, place}, Played.{GoesOpenly}, Recorded.{SparesOthers}};
+    ghost use Rattle.sci_runs.specs.{Goings.{DoesDeedsAt, StopsAt, place}, Played.{IsOpenRound}, Recorded.{SparesOthers}};
 
     /// Does a round at a node. Requires that there is such a node, and that this player has driven it. Refused where an
     /// event is lost, and the recorder has the reason.
@@ -70,9 +70,9 @@ impl<'a> Player<'a> {
         ensures order { IsInOrder self.old.driver (node_at recorder.old.core node) →
             IsInOrder self.new.driver (node_at recorder.new.core node) }
         ensures script { self.new.driver.script ≡ self.old.driver.script }
-        ensures goes { (deeds : List Deed) × GoesOpenly deeds self.old.driver self.new.driver
+        ensures goes { (deeds : List Deed) × IsOpenRound deeds self.old.driver self.new.driver
             (node_at recorder.old.core node) (node_at recorder.new.core node) result
-            × HasDone (GoesAt node) (StopsAt node) deeds
+            × HasDone (DoesDeedsAt node) (StopsAt node) deeds
             (place self.old.policy recorder.old) (place self.new.policy recorder.new) result }
         ensures spares { SparesOthers node recorder.old.core recorder.new.core }
     {

@@ -18,7 +18,7 @@ use std::alloc::Global;
 
 /// How a script is run.
 #[derive(Clone, Copy)]
-pub struct Plan {
+pub struct RunPlan {
     /// What the order of turns is drawn from. Without it the nodes take a turn each in a circle.
     pub seed: Option<u64>,
     /// When the operations of a node are submitted.
@@ -50,7 +50,7 @@ pub struct Run {
 /// circle it is one turn of each node.
 ///
 /// The same script and plan give the same run. Refused if memory is, or if there are more than 500,000 events.
-pub fn run_script(alloc: Global, script: &Script, plan: Plan) -> Result<Run, RunFault>
+pub fn run_script(alloc: Global, script: &Script, plan: RunPlan) -> Result<Run, RunFault>
     ensures run { IfOk result (λ run. IsRunOf script.now plan.issuing run.done run.schedule) }
     ensures played { IfOk result (λ run.
         IsPlayed script.now plan.issuing plan.seed run.turns run.done run.schedule) }

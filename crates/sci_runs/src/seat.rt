@@ -22,7 +22,7 @@ impl<'a> Worker for Seat<'a> {
     ghost use Rattle.std.specs.Prelude.{◌≡◌, ℕ};
     ghost use Rattle.sci_core.specs.Core.{node_at};
     ghost use Rattle.std.proofs.Common.{refl, subst, ◌∙◌};
-    ghost use Rattle.sci_runs.specs.{Goings.{Goes, Stops, goes_itself, goes_on}, Recorded.{SparesOthers}};
+    ghost use Rattle.sci_runs.specs.{Goings.{DoesDeeds, Stops, goes_itself, goes_on}, Recorded.{SparesOthers}};
 
     ghost node = { λ seat. node_at seat.recorder.now.core seat.node };
 
@@ -32,7 +32,7 @@ impl<'a> Worker for Seat<'a> {
         × SparesOthers old.node old.recorder.now.core new.recorder.now.core };
 
     ghost does = { λ old deeds new. (new.node ≡ old.node)
-        × Goes old.node deeds old.policy.now old.recorder.now new.policy.now new.recorder.now };
+        × DoesDeeds old.node deeds old.policy.now old.recorder.now new.policy.now new.recorder.now };
 
     ghost stopped = { λ old new. (new.node ≡ old.node)
         × Stops old.node old.policy.now old.recorder.now new.policy.now new.recorder.now };
@@ -72,7 +72,7 @@ impl<'a> Worker for Seat<'a> {
       second.0 ∙ first.0,
       goes_on x.node deeds more x.policy.now y.policy.now z.policy.now x.recorder.now
           y.recorder.now z.recorder.now first.1
-          (subst (λ (n : ℕ). Goes n more y.policy.now y.recorder.now
+          (subst (λ (n : ℕ). DoesDeeds n more y.policy.now y.recorder.now
           z.policy.now z.recorder.now) first.0 second.1),
     ) };
 }

@@ -44,7 +44,7 @@ no_line_fault says fits is_full one x h k room Memory f = f
 -- ---- lists of lines
 
 -- the long list goes on from the short one with the line at the front of these bytes
-pub record GoesOnWith {X : Type 0} (line_of : X → List ℕ) (long short : List X) (rest : List ℕ) : Type 0 where
+pub record ContinuesWith {X : Type 0} (line_of : X → List ℕ) (long short : List X) (rest : List ℕ) : Type 0 where
   pub next : X
   pub more : List X
   pub tail : List ℕ
@@ -55,7 +55,7 @@ pub record GoesOnWith {X : Type 0} (line_of : X → List ℕ) (long short : List
 pub meet_lists : {X : Type 0} (line_of : X → List ℕ) (fits : X → Type 0)
     → ((x y : X) (r t : List ℕ) → fits x → fits y → line_of x ++ r ≡ line_of y ++ t → (x ≡ y) × (r ≡ t)) → (xs ys : List X) (r t : List ℕ)
     → AllByRecursion fits xs → AllByRecursion fits ys → flat_map line_of xs ++ r ≡ flat_map line_of ys ++ t
-    → ((xs ≡ ys) × (r ≡ t)) ⊎ (GoesOnWith line_of ys xs r ⊎ GoesOnWith line_of xs ys t)
+    → ((xs ≡ ys) × (r ≡ t)) ⊎ (ContinuesWith line_of ys xs r ⊎ ContinuesWith line_of xs ys t)
 meet_lists line_of fits same [] [] r t a b e = inl (refl, e)
 meet_lists line_of fits same [] (y ∷ ys) r t a b e =
     inr (inl (record { next = y; more = ys; tail = flat_map line_of ys ++ t; parts = refl; left = e ∙ append_assoc (line_of y) (flat_map line_of ys) t }))
@@ -88,12 +88,12 @@ meet_lists line_of fits same (x ∷ xs) (y ∷ ys) r t a b e =
 -- ---- the first faulty line
 
 -- what stands behind the value has no fault, and something does
-pub record GoesRight {V : Type 0} (fault : V → List ℕ → TextFaultKind → Type 0) (v : V) (rest : List ℕ) : Type 0 where
+pub record IsFaultless {V : Type 0} (fault : V → List ℕ → TextFaultKind → Type 0) (v : V) (rest : List ℕ) : Type 0 where
   pub some : 0 < length rest
   pub right : (kind : TextFaultKind) → fault v rest kind → ⊥
 
 abbrev pub Meets : {V : Type 0} → (V → List ℕ → TextFaultKind → Type 0) → V → V → List ℕ → List ℕ → Type 0
-Meets fault v w r t = ((v ≡ w) × (r ≡ t)) ⊎ (GoesRight fault v r ⊎ GoesRight fault w t)
+Meets fault v w r t = ((v ≡ w) × (r ≡ t)) ⊎ (IsFaultless fault v r ⊎ IsFaultless fault w t)
 
 -- What a kind of text shows of its lines: the opening has one fault, and none before right lines; a line has one fault;
 -- and of two values at the front of the same bytes one goes on from the other, if they aren't the same.

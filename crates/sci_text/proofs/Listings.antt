@@ -9,7 +9,7 @@ use Rattle.sci_text.specs.FirstFault.{Says, LineFault, IsFirstFault, IsToldAt, I
 use denote.Ref.{Bor}
 use Rattle.sci_text.specs.{declared.script.PushFault.{PushFault}, Reading.{Gives, IsUnsaid, read_of}}
 use Rattle.sci_text.specs.{Script.{machine_line, Refusal, kind_of}, ScriptFault.{MachineFault}}
-use Rattle.sci_text.proofs.FirstFaults.{SaysOne, one_line_fault, no_line_fault, GoesOnWith, meet_lists, GoesRight, Meets, IsGrammar, one_first_fault}
+use Rattle.sci_text.proofs.FirstFaults.{SaysOne, one_line_fault, no_line_fault, ContinuesWith, meet_lists, IsFaultless, Meets, IsGrammar, one_first_fault}
 use Rattle.sci_text.proofs.FirstFaults.{no_first_fault, line_fault_is, told_at, read_as}
 use Rattle.sci_text.proofs.Lines.{Line, same_line, one_line, said_fault, refused_fault}
 use Rattle.sci_text.proofs.ScriptReads.{Size, machine_format, is_size, limits_fit}
@@ -87,8 +87,8 @@ module _ {V X : Type 0} (G : Listing V X) where
   one : (v : V) (bytes : List ℕ) → G.IsGood v → SaysOne (λ x. Says bytes (G.line.print x)) (G.Within (G.size v))
   one v bytes good = one_line G.line (G.Within (G.size v)) (G.is_full v) (G.fits v good) bytes
 
-  goes_right : (v w : V) (rest : List ℕ) → G.IsGood v → G.IsGood w → G.size v ≡ G.size w → GoesOnWith G.line.print (G.items v) (G.items w) rest
-      → GoesRight fault w rest
+  goes_right : (v w : V) (rest : List ℕ) → G.IsGood v → G.IsGood w → G.size v ≡ G.size w → ContinuesWith G.line.print (G.items v) (G.items w) rest
+      → IsFaultless fault w rest
   goes_right v w rest good other same n =
       let x = n.next in
       let within : G.Within (G.size v) x = in_back (G.Within (G.size v)) (G.items w) x n.more (rw n.parts at (G.each v good)) in

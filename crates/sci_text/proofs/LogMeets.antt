@@ -12,7 +12,7 @@ use Rattle.sci_text.specs.LogValue.{StampedFits, EntryFits, Front, front_of, IsF
 use Rattle.sci_text.specs.LogReading.{BeginsLast, last_line_read, entry_line_read}
 use Rattle.sci_text.specs.LogFault.{SaysLast, SaysEntry, IsEntryPlace, LogLine, SaysNext, NextFits, HasNoRoomFor, LogLineFault}
 use Rattle.sci_text.specs.Reading.{fitting}
-use Rattle.sci_text.proofs.FirstFaults.{GoesRight, SaysOne, no_line_fault}
+use Rattle.sci_text.proofs.FirstFaults.{IsFaultless, SaysOne, no_line_fault}
 use Rattle.sci_text.proofs.LogReads.{LastSaid, last_line_again, EntrySaid, EntryReads, entry_line_again}
 use Rattle.sci_text.proofs.LogFaults.{fits_reads, entry_not_last}
 use Rattle.sci_text.proofs.LogFronts.{GoodLast, last_begins, entry_nonempty, node_below}
@@ -244,7 +244,7 @@ room_for own f x y old logs e more good other low parts =
 entry_goes_right : OwnEntries → (f : Form) (last : List Stamped) (old logs : List (List Entry)) (rest tail : List ℕ) (e : Entry) (more : List Entry)
     → IsFront (front_of f last old) → IsFront (front_of f last logs)
     → flat_map same_log logs ≡ flat_map same_log old ++ e ∷ more → rest ≡ flat_map entry_line (e ∷ more) ++ tail
-    → GoesRight LogLineFault (front_of f last old) rest
+    → IsFaultless LogLineFault (front_of f last old) rest
 entry_goes_right own f last old logs rest tail e more good other parts left =
     let fits = (all_back (EntryFits f (length last)) (flat_map same_log old) (e ∷ more)
     (subst (AllByRecursion (EntryFits f (length last))) parts (all_in (EntryFits f (length last)) logs other.entries))).0 in
@@ -271,7 +271,7 @@ room_of None n m few lt = tt
 room_of (Some lines) n m few lt = omega arith
 
 last_goes_right : (f : Form) (x y : List Stamped) (old logs : List (List Entry)) (rest : List ℕ) → IsFront (front_of f y logs)
-    → NextLast 0 x y (entry_lines old ++ rest) → GoesRight LogLineFault (front_of f x old) rest
+    → NextLast 0 x y (entry_lines old ++ rest) → IsFaultless LogLineFault (front_of f x old) rest
 last_goes_right f x y old logs rest other next =
     let s = next.stamped in
     let front : flat_map entry_line (flat_map same_log old) ++ rest ≡ last_line (0 + length x) s ++ next.tail =
@@ -297,12 +297,12 @@ pub record SameFront (x y : List Stamped) (old logs : List (List Entry)) (r t : 
   pub rest : r ≡ t
 
 abbrev pub MeetsFront : Form → List Stamped → List Stamped → List (List Entry) → List (List Entry) → List ℕ → List ℕ → Type 0
-MeetsFront f x y old logs r t = SameFront x y old logs r t ⊎ (GoesRight LogLineFault (front_of f x old) r ⊎ GoesRight LogLineFault (front_of f y logs) t)
+MeetsFront f x y old logs r t = SameFront x y old logs r t ⊎ (IsFaultless LogLineFault (front_of f x old) r ⊎ IsFaultless LogLineFault (front_of f y logs) t)
 
 longer : OwnEntries → (f : Form) (last : List Stamped) (long short : List (List Entry)) (after rest : List ℕ) (more : List Entry)
     → IsFront (front_of f last long) → IsFront (front_of f last short)
     → flat_map same_log long ≡ flat_map same_log short ++ more → rest ≡ flat_map entry_line more ++ after
-    → ((flat_map same_log long ≡ flat_map same_log short) × (after ≡ rest)) ⊎ GoesRight LogLineFault (front_of f last short) rest
+    → ((flat_map same_log long ≡ flat_map same_log short) × (after ≡ rest)) ⊎ IsFaultless LogLineFault (front_of f last short) rest
 longer own f last long short after rest [] good other parts left = inl (parts ∙ append-nil (flat_map same_log short), sym left)
 longer own f last long short after rest (e ∷ more) good other parts left = inr (entry_goes_right own f last short long rest after e more other good parts left)
 

@@ -7,8 +7,8 @@ use Rattle.sci_history.specs.declared.entry.Entry.{Entry}
 use Rattle.sci_text.specs.declared.{log_form.Form.{Form}, fault.{TextFault.{TextFault}, TextFaultKind.{TextFaultKind}}}
 use Rattle.sci_text.specs.FirstFault.{IsRefusal, GivesOnly, HasNoFault}
 use Rattle.sci_text.specs.LogValue.{Front, front_of, front_text, IsFront, HasAllLines, IsLogs}
-use Rattle.sci_text.specs.LogFault.{BeginsFront, GoesOn, line_count, SaysNext, NextFits, HasNoRoomFor, LogLineFault, SizeFault, IsLogFault}
-use Rattle.sci_text.proofs.FirstFaults.{GoesRight, Meets, IsGrammar, one_line_fault, one_first_fault, no_first_fault, read_as}
+use Rattle.sci_text.specs.LogFault.{BeginsFront, HasMore, line_count, SaysNext, NextFits, HasNoRoomFor, LogLineFault, SizeFault, IsLogFault}
+use Rattle.sci_text.proofs.FirstFaults.{IsFaultless, Meets, IsGrammar, one_line_fault, one_first_fault, no_first_fault, read_as}
 use Rattle.sci_text.proofs.{LogUnique.{OnePartition}, LogMeets.{OwnEntries, meet_fronts, one_log_line}}
 use Rattle.sci_text.proofs.LogForms.{one_size_fault, size_right, same_forms, whole_first}
 
@@ -36,7 +36,7 @@ log_meets one own input v w r t f g =
           )
       | inr goes ↦
           elim goes [
-            | inl right ↦ inr (inl (subst (λ (h : Form). GoesRight LogLineFault (front_of h v.last v.logs) r) (sym same.0) right))
+            | inl right ↦ inr (inl (subst (λ (h : Form). IsFaultless LogLineFault (front_of h v.last v.logs) r) (sym same.0) right))
             | inr right ↦ inr (inr right)
           ]
     ]
@@ -80,12 +80,12 @@ one_log one own input n m a b x y h k =
 
 pub one_log_fault : OnePartition → OwnEntries → (input : List ℕ) (l m : ℕ) (k j : TextFaultKind) → IsLogFault input l k → IsLogFault input m j
     → (l ≡ m) × (k ≡ j)
-one_log_fault one own input l m k j f g = one_first_fault SizeFault BeginsFront GoesOn line_count LogLineFault (grammar one own) input l m k j f g
+one_log_fault one own input l m k j f g = one_first_fault SizeFault BeginsFront HasMore line_count LogLineFault (grammar one own) input l m k j f g
 
 pub no_log_fault : OnePartition → OwnEntries → (input : List ℕ) (nodes : ℕ) (logs : List (List Entry)) (last : List Stamped) (line : ℕ) (kind : TextFaultKind)
     → IsLogs input nodes logs last → IsLogFault input line kind → ⊥
 no_log_fault one own input nodes logs last line kind h fault =
-    no_first_fault SizeFault BeginsFront GoesOn line_count LogLineFault (grammar one own) input (front_of h.0 last logs) (whole_text input nodes logs last h)
+    no_first_fault SizeFault BeginsFront HasMore line_count LogLineFault (grammar one own) input (front_of h.0 last logs) (whole_text input nodes logs last h)
     (ended h.0 last h.1.whole) line kind fault
   where
     ended : (f : Form) (last : List Stamped) → HasAllLines f.lines (length last) → (0 < length {A = ℕ} []) ⊎ (HasAllLines f.lines (length last) → ⊥) → ⊥

@@ -69,12 +69,12 @@ pub record BeginsFront (input : List ℕ) (front : Front) (rest : List ℕ) : Ty
   pub first : front.form.lines ≡ None → BeginsLog input → ⊥
 
 -- there is more, or `last` lines are missing
-abbrev pub GoesOn : Front → List ℕ → Type 0
-GoesOn front rest = (0 < length rest) ⊎ (HasAllLines front.form.lines (length front.last) → ⊥)
+abbrev pub HasMore : Front → List ℕ → Type 0
+HasMore front rest = (0 < length rest) ⊎ (HasAllLines front.form.lines (length front.last) → ⊥)
 
 abbrev pub line_count : Front → ℕ
 line_count front = first_lines front.form.lines + length front.last + entry_count front.logs
 
 -- the first line of a log that has a fault, and the fault
 abbrev pub IsLogFault : List ℕ → ℕ → TextFaultKind → Type 0
-IsLogFault input line kind = IsFirstFault SizeFault BeginsFront GoesOn line_count LogLineFault input line kind
+IsLogFault input line kind = IsFirstFault SizeFault BeginsFront HasMore line_count LogLineFault input line kind

@@ -12,9 +12,9 @@ use Rattle.sci_lanes.specs.{Ends.{EndOf}, Gathering.{IsLedTo, IsStateOf}, Shown.
 use Rattle.sci_drive.specs.{declared.driver.Issuing.{Issuing}, Calls.{AreCalls, Call}, Driving.{DriverOf, opening_driver}}
 use Rattle.sci_drive.proofs.GateCalls.{calls_of, told_once}
 use Rattle.sci_station.specs.Station.{StationOf, end_in, opening_station}
-use Rattle.sci_threads.specs.{declared.share.Share.{Share}, Slices.{AreDrivenThrough, GoSlices, IsDrivenThrough, IsStationOf}}
+use Rattle.sci_threads.specs.{declared.share.Share.{Share}, Slices.{AreDrivenThrough, AreDrivenSlices, IsDrivenThrough, IsStationOf}}
 use Rattle.sci_text.specs.Script.{operations_of}
-use Rattle.sci_threads.specs.Shares.{AllGoOn, AreLedTo, AreWell, GoesOn, HasEnded, IsOpened, IsWell, TakesTurns, own_of}
+use Rattle.sci_threads.specs.Shares.{AllGoOn, AreLedTo, AreWell, IsLaterShare, HasEnded, IsOpened, IsWell, TakesTurns, own_of}
 use Rattle.sci_threads.proofs.RunStations.{led_by, opened, opened_at, opened_long, own_is}
 
 same_ok : {E : Type 0} (r : Result Bool E) (x y : Bool) → r ≡ Ok x → r ≡ Ok y → x ≡ y
@@ -42,7 +42,7 @@ all_said (share ∷ shares) all k lt = get_or-map (λ s. said s.finished) (share
 
 module _ {G : Type 0} (hears : G → List Call → G → Type 0) (issuing : Issuing) (operations : ℕ → List Op) (turns : ℕ) where
   -- a share that was opened, went on and has ended has driven its station through
-  driven_by : (old new : Share G) (finished : Bool) → IsOpened issuing operations turns old → old.station.end.part.node.log ≡ [] → GoesOn hears old new
+  driven_by : (old new : Share G) (finished : Bool) → IsOpened issuing operations turns old → old.station.end.part.node.log ≡ [] → IsLaterShare hears old new
       → IsWell new.driver new.station.end new.finished → HasEnded new → new.finished ≡ Ok finished
       → IsDrivenThrough hears turns issuing (operations (me_of old.station.end.part)) old.gate old.station new.station finished
   driven_by old new finished opened empty gone well ended is =
@@ -62,7 +62,7 @@ module _ {G : Type 0} (hears : G → List Call → G → Type 0) (issuing : Issu
         driver = new.driver;
         slices = took.slices;
         deeds = took.deeds;
-        gone = subst (λ (d : DriverOf). GoSlices hears took.slices false finished took.deeds old.gate new.gate d new.driver x y) opened.driver took.gone;
+        gone = subst (λ (d : DriverOf). AreDrivenSlices hears took.slices false finished took.deeds old.gate new.gate d new.driver x y) opened.driver took.gone;
         does = took.does;
         few = omega arith;
         calls = calls;

@@ -10,14 +10,14 @@ use Rattle.sci_history.specs.Sequential.{IsInProgramOrder}
 use Rattle.sci_core.specs.Node.{NodeOf}
 use Rattle.sci_lanes.specs.{Ends.{EndOf}, Shown.{me_of}}
 use Rattle.sci_drive.specs.{declared.driver.Issuing.{Issuing, TheVariants.{InOrder}}, Calls.{AllDone, Call, EndWithAllDone, IsHeard}}
-use Rattle.sci_drive.specs.{Driving.{DriverOf, IsInOrder}, Rounds.{GoRounds}, Script.{IsFrontOf, IsLogOf, IsWholeLogOf}}
+use Rattle.sci_drive.specs.{Driving.{DriverOf, IsInOrder}, Rounds.{AreDrivenRounds}, Script.{IsFrontOf, IsLogOf, IsWholeLogOf}}
 use Rattle.sci_drive.proofs.{Drives.{log_of, whole_of}, GateCalls.{calls_on, no_calls}}
 use Rattle.sci_policy.specs.Deeds.{Deed}
 use Rattle.sci_policy.proofs.Deeds.{deeds_on}
 use Rattle.sci_station.specs.{Deeds.{Does, IsDeed}, Ends.{IsSameEnd}, Station.{StationOf}}
 use Rattle.sci_station.proofs.StillEnds.{same_itself, same_then}
-use Rattle.sci_threads.specs.{declared.share.Share.{Share}, Slices.{GoSlices}}
-use Rattle.sci_threads.specs.Shares.{AllGoOn, AreWell, GoesOn, HasEnded, HasAtMost, HaveFewer, IsOpened, IsWell, TakesTurns}
+use Rattle.sci_threads.specs.{declared.share.Share.{Share}, Slices.{AreDrivenSlices}}
+use Rattle.sci_threads.specs.Shares.{AllGoOn, AreWell, IsLaterShare, HasEnded, HasAtMost, HaveFewer, IsOpened, IsWell, TakesTurns}
 
 -- The log of the end's node is of the operations that stand under its number, and whole if it has finished. If they were
 -- issued in order, it stands in their order and has the first ones of them.
@@ -49,15 +49,15 @@ unended (Err e) left more = absurd (more tt)
 module _ {G : Type 0} (hears : G → List Call → G → Type 0) where
   -- slices, and then further ones
   pub slices_on : (first second : List ℕ) (p q r : Bool) (deeds more : List Deed) (g h k : G) (a b c : DriverOf) (x y z : NodeOf)
-      → GoSlices hears first p q deeds g h a b x y → GoSlices hears second q r more h k b c y z
-      → GoSlices hears (second ++ first) p r (deeds ++ more) g k a c x z
+      → AreDrivenSlices hears first p q deeds g h a b x y → AreDrivenSlices hears second q r more h k b c y z
+      → AreDrivenSlices hears (second ++ first) p r (deeds ++ more) g k a c x z
   slices_on first [] p q r deeds more g h k a b c x y z was is =
       let all : deeds ++ more ≡ deeds = ap (λ (ds : List Deed). deeds ++ ds) is.1 ∙ append-nil deeds in
-      subst (λ (ds : List Deed). GoSlices hears first p r ds g k a c x z) (sym all)
-      (subst (λ (f : Bool). GoSlices hears first p f deeds g k a c x z) is.0
-      (subst (λ (m : G). GoSlices hears first p q deeds g m a c x z) is.2
-      (subst (λ (d : DriverOf). GoSlices hears first p q deeds g h a d x z) is.3
-      (subst (λ (n : NodeOf). GoSlices hears first p q deeds g h a b x n) is.4 was))))
+      subst (λ (ds : List Deed). AreDrivenSlices hears first p r ds g k a c x z) (sym all)
+      (subst (λ (f : Bool). AreDrivenSlices hears first p f deeds g k a c x z) is.0
+      (subst (λ (m : G). AreDrivenSlices hears first p q deeds g m a c x z) is.2
+      (subst (λ (d : DriverOf). AreDrivenSlices hears first p q deeds g h a d x z) is.3
+      (subst (λ (n : NodeOf). AreDrivenSlices hears first p q deeds g h a b x n) is.4 was))))
   slices_on first (turns ∷ second) p q r deeds more g h k a b c x y z was is = (
     is.0,
     is.1,
@@ -72,7 +72,7 @@ module _ {G : Type 0} (hears : G → List Call → G → Type 0) where
 
   -- one slice
   pub one_slice : (turns restless : ℕ) (has : Bool) (deeds : List Deed) (g h : G) (a b : DriverOf) (x y : NodeOf)
-      → GoRounds hears turns has restless deeds g h a b x y → GoSlices hears (turns ∷ []) false has deeds g h a b x y
+      → AreDrivenRounds hears turns has restless deeds g h a b x y → AreDrivenSlices hears (turns ∷ []) false has deeds g h a b x y
   one_slice turns restless has deeds g h a b x y is = (g, a, x, restless, [], deeds, refl, (refl, refl, refl, refl, refl), is)
 
 -- ---- shares
@@ -114,7 +114,7 @@ ends_behind first second ends = (first ++ ends.0, ap (λ (calls : List Call). fi
 
 module _ {G : Type 0} (hears : G → List Call → G → Type 0) (hears_nothing : (g : G) → hears g [] g) (hears_on : (g h k : G) (calls more : List Call)
     → hears g calls h → hears h more k → hears g (calls ++ more) k) where
-  pub stays : (share : Share G) → GoesOn hears share share
+  pub stays : (share : Share G) → IsLaterShare hears share share
   stays share = record {
     same = same_itself share.station.end;
     script = refl;
@@ -131,7 +131,7 @@ module _ {G : Type 0} (hears : G → List Call → G → Type 0) (hears_nothing 
     ended = λ h. h;
   }
 
-  pub then_on : (x y z : Share G) → GoesOn hears x y → GoesOn hears y z → GoesOn hears x z
+  pub then_on : (x y z : Share G) → IsLaterShare hears x y → IsLaterShare hears y z → IsLaterShare hears x z
   then_on x y z a b = record {
     same = same_then x.station.end y.station.end z.station.end a.same b.same;
     script = b.script ∙ a.script;
@@ -175,7 +175,7 @@ module _ {G : Type 0} (hears : G → List Call → G → Type 0) (hears_nothing 
   all_stay old k d lt = stays (slice_index_or old k d)
 
   -- one of them goes on
-  pub one_on : (old shares : List (Share G)) (n : ℕ) (now new : Share G) → n < length shares → GoesOn hears (slice_index_or shares n now) new
+  pub one_on : (old shares : List (Share G)) (n : ℕ) (now new : Share G) → n < length shares → IsLaterShare hears (slice_index_or shares n now) new
       → AllGoOn hears old shares → AllGoOn hears old (slice_set shares n new)
   one_on old shares n now new lt goes all k d inside = elim (cases_eq k n) [
     | inl same ↦
@@ -185,11 +185,11 @@ module _ {G : Type 0} (hears : G → List Call → G → Type 0) (hears_nothing 
         let mid : Share G = slice_index_or shares k d in
         let it : slice_index_or shares k d ≡ slice_index_or shares n now =
         ap (λ (j : ℕ). slice_index_or shares j d) same ∙ any_other shares n d now lt in
-        let on : GoesOn hears mid new = subst (λ (s : Share G). GoesOn hears s new) (sym it) goes in
-        subst (λ (s : Share G). GoesOn hears was s) (sym here) (then_on was mid new (all k d inside) on)
+        let on : IsLaterShare hears mid new = subst (λ (s : Share G). IsLaterShare hears s new) (sym it) goes in
+        subst (λ (s : Share G). IsLaterShare hears was s) (sym here) (then_on was mid new (all k d inside) on)
     | inr other ↦
         let was : Share G = slice_index_or old k d in
-        subst (λ (s : Share G). GoesOn hears was s) (sym (get_or-set_other shares n k new d other)) (all k d inside)
+        subst (λ (s : Share G). IsLaterShare hears was s) (sym (get_or-set_other shares n k new d other)) (all k d inside)
   ]
 
   -- all go on, and then again
@@ -205,9 +205,9 @@ module _ {G : Type 0} (hears : G → List Call → G → Type 0) where
       → (heard : IsHeard hears old.gate gate old.driver driver old.station.end.part.node station.end.part.node)
       → (finished ≡ true → EndWithAllDone heard.calls)
       → Does deeds old.station station
-      → GoRounds hears turns finished restless deeds old.gate gate old.driver driver old.station.end.part.node station.end.part.node
+      → AreDrivenRounds hears turns finished restless deeds old.gate gate old.driver driver old.station.end.part.node station.end.part.node
       → turns + left ≡ old.left → (HasEnded old → ⊥)
-      → GoesOn hears old (record { station = station; driver = driver; gate = gate; left = left; finished = Ok finished })
+      → IsLaterShare hears old (record { station = station; driver = driver; gate = gate; left = left; finished = Ok finished })
   went_on old station driver gate turns restless left finished deeds same script order heard all_done does rounds fewer more = record {
     same = same;
     script = script;
@@ -234,7 +234,7 @@ module _ {G : Type 0} (hears : G → List Call → G → Type 0) where
       → IsSameEnd old.station.end station.end → driver.script ≡ old.driver.script
       → (IsInOrder old.driver old.station.end.part.node → IsInOrder driver station.end.part.node)
       → IsHeard hears old.gate gate old.driver driver old.station.end.part.node station.end.part.node
-      → GoesOn hears old (record { station = station; driver = driver; gate = gate; left = old.left; finished = Err refused })
+      → IsLaterShare hears old (record { station = station; driver = driver; gate = gate; left = old.left; finished = Err refused })
   was_refused old station driver gate refused same script order heard = record {
     same = same;
     script = script;
@@ -247,7 +247,7 @@ module _ {G : Type 0} (hears : G → List Call → G → Type 0) where
   }
 
   -- a share that goes on and has fewer turns left
-  pub now_fewer : (most less : ℕ) (old new : Share G) → most ≤ less + 1 → GoesOn hears old new → HasEnded new ⊎ (new.left < old.left) → HasAtMost most old
+  pub now_fewer : (most less : ℕ) (old new : Share G) → most ≤ less + 1 → IsLaterShare hears old new → HasEnded new ⊎ (new.left < old.left) → HasAtMost most old
       → HasAtMost less new
   now_fewer most less old new more gone (inl ended) few = inl ended
   now_fewer most less old new more gone (inr fewer) (inl ended) = inl (gone.ended ended)
@@ -260,13 +260,13 @@ module _ {G : Type 0} (hears : G → List Call → G → Type 0) where
       now_fewer most less (slice_index_or old k d) (slice_index_or new k d) more (gone k d within) (fewer k d within) (few k d within)
 
   -- one of the shares takes a turn, and has ended or has fewer turns left than at first
-  pub one_fewer : (old now new : Share G) → GoesOn hears old now → HasEnded new ⊎ (new.left + 1 ≤ now.left) → HasEnded new ⊎ (new.left < old.left)
+  pub one_fewer : (old now new : Share G) → IsLaterShare hears old now → HasEnded new ⊎ (new.left + 1 ≤ now.left) → HasEnded new ⊎ (new.left < old.left)
   one_fewer old now new gone (inl ended) = inl ended
   one_fewer old now new gone (inr fewer) = inr (let left = gone.left in omega arith)
 
   -- what a share has done that was opened, went on and is well
-  pub has_run : (issuing : Issuing) (operations : ℕ → List Op) (turns : ℕ) (old new : Share G) → IsOpened issuing operations turns old → GoesOn hears old new
-      → IsWell new.driver new.station.end new.finished → HasRun issuing operations new.station.end new.finished
+  pub has_run : (issuing : Issuing) (operations : ℕ → List Op) (turns : ℕ) (old new : Share G) → IsOpened issuing operations turns old
+      → IsLaterShare hears old new → IsWell new.driver new.station.end new.finished → HasRun issuing operations new.station.end new.finished
   has_run issuing operations turns old new opened gone well =
       let node = new.station.end.part.node in
       let mine : me_of new.station.end.part ≡ me_of old.station.end.part = gone.same.node.me in

@@ -7,11 +7,12 @@ use Rattle.sci_policy.specs.Deeds.{Deed}
 use Rattle.sci_drive.specs.{declared.driver.Issuing.{Issuing}, Calls.{AllowAll, Call}, Driving.{DriverOf}}
 use Rattle.sci_drive.proofs.HeardAs.{rounds_as}
 use Rattle.sci_station.specs.Station.{StationOf}
-use Rattle.sci_threads.specs.Slices.{AreDrivenOpenly, AreDrivenThrough, GoSlices, IsDrivenThrough, hears_openly}
+use Rattle.sci_threads.specs.Slices.{AreDrivenOpenly, AreDrivenThrough, AreDrivenSlices, IsDrivenThrough, hears_openly}
 
 module _ {G : Type 0} (hears : G → List Call → G → Type 0) (allows : (g h : G) (calls : List Call) → hears g calls h → AllowAll calls) where
   slices_openly : (slices : List ℕ) (had has : Bool) (deeds : List Deed) (gate later : G) (old new : DriverOf) (before after : NodeOf)
-      → GoSlices hears slices had has deeds gate later old new before after → GoSlices hears_openly slices had has deeds tt tt old new before after
+      → AreDrivenSlices hears slices had has deeds gate later old new before after
+      → AreDrivenSlices hears_openly slices had has deeds tt tt old new before after
   slices_openly [] had has deeds gate later old new before after go = (go.0, go.1, ap (λ g. tt) go.2, go.3, go.4)
   slices_openly (turns ∷ slices) had has deeds gate later old new before after go = (
     tt,

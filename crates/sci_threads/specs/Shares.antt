@@ -9,7 +9,7 @@ use Rattle.sci_drive.specs.declared.driver.Issuing.{Issuing, TheVariants.{InOrde
 use Rattle.sci_drive.specs.{Calls.{Call, EndWithAllDone, IsHeard}, Driving.{DriverOf, IsDriven, IsInOrder, opening_driver}}
 use Rattle.sci_policy.specs.Deeds.{Deed}
 use Rattle.sci_station.specs.{Deeds.{Does}, Ends.{IsSameEnd}}
-use Rattle.sci_threads.specs.{declared.share.Share.{Share}, Slices.{GoSlices}}
+use Rattle.sci_threads.specs.{declared.share.Share.{Share}, Slices.{AreDrivenSlices}}
 
 -- Logs and last contents of the state where one schedule leads a machine of this size. Each of its events is enabled when it
 -- comes, and each log has the entries that its node's own events make.
@@ -52,11 +52,11 @@ pub record TakesTurns {G : Type 0} (hears : G → List Call → G → Type 0) (o
   pub fewer : sum slices + new.left ≡ old.left
   pub deeds : List Deed
   pub does : Does deeds old.station new.station
-  pub gone : GoSlices hears slices had has deeds old.gate new.gate old.driver new.driver old.station.end.part.node new.station.end.part.node
+  pub gone : AreDrivenSlices hears slices had has deeds old.gate new.gate old.driver new.driver old.station.end.part.node new.station.end.part.node
 
 -- The same share, later. Its gate has had some calls. If it has finished since, the last of them was answered that all are done. Unless it
 -- was refused, its driver went on.
-pub record GoesOn {G : Type 0} (hears : G → List Call → G → Type 0) (old new : Share G) : Type 0 where
+pub record IsLaterShare {G : Type 0} (hears : G → List Call → G → Type 0) (old new : Share G) : Type 0 where
   pub same : IsSameEnd old.station.end new.station.end
   pub script : new.driver.script ≡ old.driver.script
   pub order : IsInOrder old.driver old.station.end.part.node → IsInOrder new.driver new.station.end.part.node
@@ -72,7 +72,7 @@ AreWell shares = All (λ share. IsWell share.driver share.station.end share.fini
 
 -- each share goes on from what it was
 abbrev pub AllGoOn : {G : Type 0} → (G → List Call → G → Type 0) → List (Share G) → List (Share G) → Type 0
-AllGoOn hears old new = (k : ℕ) (d : _) → k < length old → GoesOn hears (slice_index_or old k d) (slice_index_or new k d)
+AllGoOn hears old new = (k : ℕ) (d : _) → k < length old → IsLaterShare hears (slice_index_or old k d) (slice_index_or new k d)
 
 -- each share has ended, or has fewer turns left than it had
 abbrev pub HaveFewer : {G : Type 0} → List (Share G) → List (Share G) → Type 0

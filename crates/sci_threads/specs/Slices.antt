@@ -6,18 +6,19 @@ use Rattle.sci_core.specs.{Core.{Core, node_at}, Node.{NodeOf}}
 use Rattle.sci_lanes.specs.Shown.{IsSeen, opening_part}
 use Rattle.sci_policy.specs.Deeds.{Deed}
 use Rattle.sci_drive.specs.{declared.driver.Issuing.{Issuing}, Calls.{AllowAll, AreCallsOf, Call, EndWithAllDone, times_done}}
-use Rattle.sci_drive.specs.{Driving.{DriverOf, IsAnswered, opening_driver}, Rounds.{GoRounds}}
+use Rattle.sci_drive.specs.{Driving.{DriverOf, IsAnswered, opening_driver}, Rounds.{AreDrivenRounds}}
 use Rattle.sci_station.specs.{Deeds.{Does}, Station.{StationOf, node_in, opening_station}}
 
 -- Slices of this many turns each by these deeds, the last one first, and whether the driver had finished before them and has
 -- behind them. Each goes on where the one before it ended, which hasn't finished, but counts its turns in a row without an entry
 -- or a rest from 0.
-abbrev pub GoSlices : {G : Type 0} → (G → List Call → G → Type 0) → List ℕ → Bool → Bool → List Deed → G → G → DriverOf → DriverOf → NodeOf → NodeOf → Type 0
-GoSlices hears [] had has deeds gate later old new before after = (had ≡ has) × (deeds ≡ []) × (gate ≡ later) × (old ≡ new) × (before ≡ after)
-GoSlices hears (turns ∷ slices) had has deeds gate later old new before after =
+abbrev pub AreDrivenSlices : {G : Type 0} → (G → List Call → G → Type 0) → List ℕ → Bool → Bool → List Deed → G → G → DriverOf
+    → DriverOf → NodeOf → NodeOf → Type 0
+AreDrivenSlices hears [] had has deeds gate later old new before after = (had ≡ has) × (deeds ≡ []) × (gate ≡ later) × (old ≡ new) × (before ≡ after)
+AreDrivenSlices hears (turns ∷ slices) had has deeds gate later old new before after =
     (mid : _) × (driver : DriverOf) × (node : NodeOf) × (restless : ℕ) × (first last : List Deed)
-    × (deeds ≡ first ++ last) × GoSlices hears slices had false first gate mid old driver before node
-    × GoRounds hears turns has restless last mid later driver new node after
+    × (deeds ≡ first ++ last) × AreDrivenSlices hears slices had false first gate mid old driver before node
+    × AreDrivenRounds hears turns has restless last mid later driver new node after
 
 -- The driver has come to the end of its script. Among these calls of its gate it has said so once, and the last was answered that all are
 -- done.
@@ -35,7 +36,7 @@ pub record IsDrivenThrough {G : Type 0} (hears : G → List Call → G → Type 
   pub driver : DriverOf
   pub slices : List ℕ
   pub deeds : List Deed
-  pub gone : GoSlices hears slices false finished deeds gate later (opening_driver operations issuing) driver (node_in old) (node_in new)
+  pub gone : AreDrivenSlices hears slices false finished deeds gate later (opening_driver operations issuing) driver (node_in old) (node_in new)
   pub does : Does deeds old new
   pub few : sum slices ≤ turns
   pub calls : List Call

@@ -11,4 +11,4 @@ mod start;
 pub use gate::YieldingGate;
 pub use laws::new_stations_are_fresh;
 pub use running::{run_in_order, run_nodes, run_plan, run_to_machine};
-pub use shares::Plan;
+pub use shares::ThreadPlan;

@@ -13,7 +13,7 @@ ghost use Rattle.sci_text.specs.Script.{operations_of};
 ghost use Rattle.sci_drive.specs.ScriptLogs.{size_for};
 ghost use Rattle.sci_threads.specs.{Shares.{own_of}, Slices.{AreDrivenThrough}};
 
-use crate::shares::{Plan, gathered, run_all, shares};
+use crate::shares::{ThreadPlan, gathered, run_all, shares};
 use sci_core::Machine;
 use sci_drive::{Gate, Issuing};
 use sci_history::{Last, Logs};
@@ -46,7 +46,7 @@ pub fn run_plan<R: Threads + Sync, G: Gate + Send + Drop>(
     alloc: Global,
     extent: Extent,
     gates: Vec<G>,
-    plan: Plan<'_>,
+    plan: ThreadPlan<'_>,
 ) -> Result<(Machine, bool), AllocError>
     requires gates { length gates.items ≡ extent.nodes }
     requires lists { length plan.operations.now ≡ extent.nodes }
@@ -98,7 +98,7 @@ pub fn run_to_machine<R: Threads + Sync, G: Gate + Send + Drop>(
         (λ node. operations_of node script.now.operations) gates.items ran.0 led.schedule ran.1) }
 {
     let operations = operations_by_node(alloc, script)?;
-    let plan = Plan {
+    let plan = ThreadPlan {
         operations: &operations,
         issuing,
         turns,

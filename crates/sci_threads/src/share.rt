@@ -1,7 +1,7 @@
 //! A node's share of a run.
 
 ghost use Rattle.std.specs.Prelude.{◌≡◌, ◌+◌, ◌≤◌, ◌⊎◌, ◌↔◌, true};
-ghost use Rattle.sci_threads.specs.Shares.{GoesOn, HasEnded, IsWell};
+ghost use Rattle.sci_threads.specs.Shares.{IsLaterShare, HasEnded, IsWell};
 
 use crate::start::Start;
 use sci_drive::{Driver, Gate};
@@ -44,7 +44,7 @@ impl<'a, G: Gate> Share<'a, G> {
     pub(crate) fn go_on(&mut self, turns: u32)
         requires well { IsWell self.old.driver self.old.station.end self.old.finished }
         ensures well { IsWell self.new.driver self.new.station.end self.new.finished }
-        ensures gone { GoesOn G.hears self.old self.new }
+        ensures gone { IsLaterShare G.hears self.old self.new }
         ensures fewer { HasEnded self.new ⊎ (self.new.left + turns ≤ self.old.left) }
     {
         if self.has_ended() {
@@ -65,7 +65,7 @@ impl<'a, G: Gate> Share<'a, G> {
     pub(crate) fn run(&mut self, start: &Start)
         requires well { IsWell self.old.driver self.old.station.end self.old.finished }
         ensures well { IsWell self.new.driver self.new.station.end self.new.finished }
-        ensures gone { GoesOn G.hears self.old self.new }
+        ensures gone { IsLaterShare G.hears self.old self.new }
     {
         start.begin();
         for look in 0..u32::MAX {

@@ -6,7 +6,7 @@ ghost use Rattle.sci_words.specs.declared.limits.TheConstants.{MAX_OPERATIONS};
 ghost use Rattle.sci_drive.specs.Driving.{HasSubmittedNothing};
 ghost use Rattle.sci_station.specs.Station.{node_in};
 ghost use Rattle.sci_lanes.specs.Shown.{me_of};
-ghost use Rattle.sci_threads.specs.Shares.{AllGoOn, AreWell, GoesOn, HasAtMost, HasEnded, HaveFewer, IsOpened, IsWell};
+ghost use Rattle.sci_threads.specs.Shares.{AllGoOn, AreWell, IsLaterShare, HasAtMost, HasEnded, HaveFewer, IsOpened, IsWell};
 ghost use Rattle.sci_text.specs.Script.{operations_of};
 ghost use Rattle.sci_threads.specs.Shares.{own_of};
 
@@ -21,7 +21,7 @@ use std::thread::Threads;
 
 /// What the nodes of a run do: the operations of each, when they are submitted, and how many turns each may take.
 #[derive(Clone, Copy)]
-pub struct Plan<'a> {
+pub struct ThreadPlan<'a> {
     /// The operations of each node, at most 65,536, in their order.
     pub operations: &'a [Vec<Op>],
     pub issuing: Issuing,
@@ -80,7 +80,7 @@ pub(crate) fn run_all<R: Threads + Sync, G: Gate + Send>(
     let start = Start::new(shares.len());
     let run = |_place: usize, share: &mut Share<'_, G>|
         requires { IsWell share.now.driver share.now.station.end share.now.finished }
-        ensures { GoesOn G.hears share.entry.now share.exit.now
+        ensures { IsLaterShare G.hears share.entry.now share.exit.now
             × IsWell share.exit.now.driver share.exit.now.station.end share.exit.now.finished }
     { share.run(&start) };
     thread::for_each_mut(rt, shares, MAX_NODES as usize, &run);
@@ -124,7 +124,7 @@ pub(crate) fn shares<'a, G: Drop>(
     alloc: Global,
     stations: Vec<Station>,
     gates: Vec<G>,
-    plan: Plan<'a>,
+    plan: ThreadPlan<'a>,
 ) -> Result<Vec<Share<'a, G>>, AllocError>
     requires gates { length gates.items ≡ length stations.items }
     requires known { All

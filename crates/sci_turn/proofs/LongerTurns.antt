@@ -7,7 +7,7 @@ use Rattle.sci_core.specs.Core.{Core, node_of, stepping}
 use Rattle.sci_policy.specs.{declared.progress.Progress.{Progress}, Policy.{PolicyOf, next_policy}}
 use Rattle.sci_policy.specs.Turn.{Counts, IsTurnEvent}
 use Rattle.sci_turn.specs.Posts.{IsFurther, IsSamePost, IsStill, OthersLead, PostOf, node_in}
-use Rattle.sci_turn.specs.{Moves.{GoesOn, HasEnded, HasMoved, IsOwn, Leads, Stage, own_of}, Whole.{Makes, MakesNone}}
+use Rattle.sci_turn.specs.{Moves.{ContinuesTurn, HasEnded, HasMoved, IsOwn, Leads, Stage, own_of}, Whole.{Makes, MakesNone}}
 use Rattle.sci_turn.proofs.Stills.{further_itself, further_then, same_itself, same_then}
 
 -- the report of a turn with one event more
@@ -82,7 +82,7 @@ moved_more first before after start mid new told tells e moved same steps own fu
           (counts (own_of start.me moved.more) moved.counts);
     }
 
-pub goes_still : (old new : Stage) → MakesNone old new → GoesOn old new
+pub goes_still : (old new : Stage) → MakesNone old new → ContinuesTurn old new
 goes_still old new none = record {
   same = none.still.same;
   ready = ap (λ (p : Progress). p.ready) none.report;
@@ -91,14 +91,14 @@ goes_still old new none = record {
       (moved_still before old.policy start old.post new.post old.report none.still moved));
 }
 
-pub goes_then : (old mid new : Stage) → GoesOn old mid → GoesOn mid new → GoesOn old new
+pub goes_then : (old mid new : Stage) → ContinuesTurn old mid → ContinuesTurn mid new → ContinuesTurn old new
 goes_then old mid new one two = record {
   same = same_then old.post mid.post new.post one.same two.same;
   ready = two.ready ∙ one.ready;
   turn = λ before start moved. two.turn before start (one.turn before start moved);
 }
 
-pub goes_made : (e : Event) (old new : Stage) → IsTurnEvent old.post.me e → Makes e old new → CountsOne e old.report new.report → GoesOn old new
+pub goes_made : (e : Event) (old new : Stage) → IsTurnEvent old.post.me e → Makes e old new → CountsOne e old.report new.report → ContinuesTurn old new
 goes_made e old new own made counts =
     let mid = made.made.mid in
     let still = made.made.still in

@@ -88,7 +88,7 @@ abbrev pub HasCome : PolicyOf → PostOf → Stage → Type 0
 HasCome before start now = HasMoved before start now.policy now.post now.report
 
 -- whatever turn came so far goes on by it
-pub record GoesOn (old new : Stage) : Type 0 where
+pub record ContinuesTurn (old new : Stage) : Type 0 where
   pub same : IsSamePost old.post new.post
   pub ready : new.report.ready ≡ old.report.ready
   pub turn : (before : PolicyOf) (start : PostOf) → HasCome before start old → HasCome before start new

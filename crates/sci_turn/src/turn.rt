@@ -5,7 +5,7 @@ ghost use Rattle.sci_core.specs.{declared.lane.LaneKind.TheVariants.{Answers, Re
 ghost use Rattle.sci_words.specs.declared.event.Event.TheVariants.{Ask};
 ghost use Rattle.sci_policy.specs.{Policy.{PolicyOf}, Rest.{MayIdle}};
 ghost use Rattle.sci_policy.specs.{Turn.{Counts, MayPerform, is_idle}, Worker.{HasSameWork, IsNodeTurn}};
-ghost use Rattle.sci_turn.specs.{Posts.{IsStill, node_in, nodes_in}, Moves.{EndsTurn, GoesOn, IsAsked, IsTurn, stage}};
+ghost use Rattle.sci_turn.specs.{Posts.{IsStill, node_in, nodes_in}, Moves.{EndsTurn, ContinuesTurn, IsAsked, IsTurn, stage}};
 ghost use Rattle.sci_turn.specs.Idle.{IsIdleTurn, WasHeldUp};
 ghost use Rattle.sci_turn.specs.Whole.{Accepts, AcceptsAll, AcceptsFrom, AsksSome, FindsNoAnswer, FindsNoRequest, IsWholeTurn, Replies, Takes, TakesAll, TakesFrom};
 
@@ -47,7 +47,7 @@ pub fn take_turn<P: Post>(
 
 /// The answer that waits goes out, if one does and its lane has room.
 fn reply<P: Post>(post: &mut P, progress: &mut Progress) -> Result<(), P::Stop>
-    ensures goes { (policy : PolicyOf) → GoesOn
+    ensures goes { (policy : PolicyOf) → ContinuesTurn
         (stage policy (P.post post.old) progress.old) (stage policy (P.post post.new) progress.new) }
     ensures replies { IsOk result → (policy : PolicyOf) → Replies
         (stage policy (P.post post.old) progress.old) (stage policy (P.post post.new) progress.new) }
@@ -70,7 +70,7 @@ fn reply<P: Post>(post: &mut P, progress: &mut Progress) -> Result<(), P::Stop>
 
 /// Up to four answers from each node are accepted.
 fn accept_all<P: Post>(post: &mut P, progress: &mut Progress) -> Result<(), P::Stop>
-    ensures goes { (policy : PolicyOf) → GoesOn
+    ensures goes { (policy : PolicyOf) → ContinuesTurn
         (stage policy (P.post post.old) progress.old) (stage policy (P.post post.new) progress.new) }
     ensures accepts { IsOk result → (policy : PolicyOf) → AcceptsAll
         (stage policy (P.post post.old) progress.old) (stage policy (P.post post.new) progress.new) }
@@ -90,7 +90,7 @@ fn accept_all<P: Post>(post: &mut P, progress: &mut Progress) -> Result<(), P::S
 /// Up to four answers from a node are accepted.
 fn accept_from<P: Post>(post: &mut P, progress: &mut Progress, from: u8) -> Result<(), P::Stop>
     requires { from < nodes_in (P.post post.old) }
-    ensures goes { (policy : PolicyOf) → GoesOn
+    ensures goes { (policy : PolicyOf) → ContinuesTurn
         (stage policy (P.post post.old) progress.old) (stage policy (P.post post.new) progress.new) }
     ensures accepts { IsOk result → (policy : PolicyOf) → AcceptsFrom from
         (stage policy (P.post post.old) progress.old) (stage policy (P.post post.new) progress.new) }
@@ -108,7 +108,7 @@ fn accept_from<P: Post>(post: &mut P, progress: &mut Progress, from: u8) -> Resu
 /// The oldest answer from a node is accepted. False if none has come.
 fn accept<P: Post>(post: &mut P, progress: &mut Progress, from: u8) -> Result<bool, P::Stop>
     requires { from < nodes_in (P.post post.old) }
-    ensures goes { (policy : PolicyOf) → GoesOn
+    ensures goes { (policy : PolicyOf) → ContinuesTurn
         (stage policy (P.post post.old) progress.old) (stage policy (P.post post.new) progress.new) }
     ensures accepts { IfOk result (λ accepted. accepted ≡ true → (policy : PolicyOf) → Accepts from
         (stage policy (P.post post.old) progress.old) (stage policy (P.post post.new) progress.new)) }
@@ -129,7 +129,7 @@ fn accept<P: Post>(post: &mut P, progress: &mut Progress, from: u8) -> Result<bo
 fn accept_seen<P: Post>(post: &mut P, progress: &mut Progress, from: u8) -> Result<(), P::Stop>
     requires from { from < nodes_in (P.post post.old) }
     requires sees { P.sees post.old Answers from }
-    ensures goes { (policy : PolicyOf) → GoesOn
+    ensures goes { (policy : PolicyOf) → ContinuesTurn
         (stage policy (P.post post.old) progress.old) (stage policy (P.post post.new) progress.new) }
     ensures accepts { IsOk result → (policy : PolicyOf) → Accepts from
         (stage policy (P.post post.old) progress.old) (stage policy (P.post post.new) progress.new) }
@@ -152,7 +152,7 @@ fn take_all<P: Post>(
     policy: &mut Policy,
     progress: &mut Progress,
 ) -> Result<(), P::Stop>
-    ensures goes { GoesOn (stage policy.old (P.post post.old) progress.old)
+    ensures goes { ContinuesTurn (stage policy.old (P.post post.old) progress.old)
         (stage policy.new (P.post post.new) progress.new) }
     ensures takes { IsOk result → TakesAll (stage policy.old (P.post post.old) progress.old)
         (stage policy.new (P.post post.new) progress.new) }
@@ -186,7 +186,7 @@ fn take_from<P: Post>(
     from: u8,
 ) -> Result<(), P::Stop>
     requires { from < nodes_in (P.post post.old) }
-    ensures goes { GoesOn (stage policy.old (P.post post.old) progress.old)
+    ensures goes { ContinuesTurn (stage policy.old (P.post post.old) progress.old)
         (stage policy.new (P.post post.new) progress.new) }
     ensures takes { IsOk result → TakesFrom from (stage policy.old (P.post post.old) progress.old)
         (stage policy.new (P.post post.new) progress.new) }
@@ -210,7 +210,7 @@ fn take<P: Post>(
     from: u8,
 ) -> Result<bool, P::Stop>
     requires { from < nodes_in (P.post post.old) }
-    ensures goes { GoesOn (stage policy.old (P.post post.old) progress.old)
+    ensures goes { ContinuesTurn (stage policy.old (P.post post.old) progress.old)
         (stage policy.new (P.post post.new) progress.new) }
     ensures takes { IfOk result (λ taken. taken ≡ true → Takes from
         (stage policy.old (P.post post.old) progress.old) (stage policy.new (P.post post.new) progress.new)) }
@@ -240,7 +240,7 @@ fn take_seen<P: Post>(
     requires from { from < nodes_in (P.post post.old) }
     requires free { (node_in (P.post post.old)).waiting ≡ None }
     requires sees { P.sees post.old Requests from }
-    ensures goes { GoesOn (stage policy.old (P.post post.old) progress.old)
+    ensures goes { ContinuesTurn (stage policy.old (P.post post.old) progress.old)
         (stage policy.new (P.post post.new) progress.new) }
     ensures takes { IfOk result (λ taken. taken ≡ true → Takes from
         (stage policy.old (P.post post.old) progress.old) (stage policy.new (P.post post.new) progress.new)) }

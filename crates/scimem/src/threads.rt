@@ -8,7 +8,7 @@ ghost use Rattle.scimem.specs.ThreadsAnswer.{IsThreadsAnswer};
 use sci_command::{Answer, Answered, Outcome, read_script};
 use sci_drive::Issuing;
 use sci_text::{Tap, logs_text, operations_by_node};
-use sci_threads::{Plan, YieldingGate, run_plan};
+use sci_threads::{ThreadPlan, YieldingGate, run_plan};
 use std::alloc::Global;
 use std::io::Read;
 use std::sync::atomic::AtomicU64;
@@ -36,7 +36,7 @@ pub fn threads<T: Threads + Sync, R: Read>(
     drop(script);
     let done = AtomicU64::new(0);
     let gates = YieldingGate::for_nodes(alloc, extent.nodes, &done)?;
-    let plan = Plan {
+    let plan = ThreadPlan {
         operations: &operations,
         issuing: Issuing::Ahead,
         turns,

@@ -15,11 +15,11 @@ use sci_command::texts_of;
 use sci_drive::Issuing;
 use sci_options::{Given, OptionName, read_words};
 use sci_outcomes::{OutcomesRequest, RunRequest, Turns};
+use sci_walks::Walk;
 use sci_reports::{NodeOrder, OrderRequest};
 use sci_statistics::StatsRequest;
 use sci_text::whole_number;
 use sci_traces::TraceRequest;
-use sci_walks::Walk;
 use std::alloc::Global;
 
 /// What the program is asked to do.

@@ -2,7 +2,7 @@ use Rattle.std.proofs.{Common.{◌≡◌, true, List, sym, ap, subst, ◌∙◌}
 use Rattle.std.specs.Prelude.{Result, Ok, Err, IfOk}
 use Rattle.sci_words.specs.declared.operation.Op.{Op}
 use Rattle.sci_drive.specs.{Calls.{AreCalls, EndWithAllDone, times_done}, Driving.{DriverOf, opening_driver}}
-use Rattle.sci_drive.specs.{Resting.{RestsInTime}, Rounds.{GoRounds}, Script.{IsLogOf, IsWholeLogOf}}
+use Rattle.sci_drive.specs.{Resting.{RestsInTime}, Rounds.{AreDrivenRounds}, Script.{IsLogOf, IsWholeLogOf}}
 use Rattle.sci_drive.specs.declared.driver.Issuing.TheVariants.{Ahead}
 use Rattle.sci_drive.proofs.{GateCalls.{calls_of, told_once}, Drives.{log_of, whole_of}}
 use Rattle.sci_drive.proofs.running.drive.Goals as goal
@@ -53,7 +53,7 @@ returns-clause-rounds g c =
       rounds.1,
       c.go_on.new.self,
       rounds.2,
-      subst (λ (d : DriverOf). GoRounds g.G.Gate.hears ran.turns ran.finished rounds.0 rounds.1 gate c.go_on.new.gate d c.go_on.new.self start node)
+      subst (λ (d : DriverOf). AreDrivenRounds g.G.Gate.hears ran.turns ran.finished rounds.0 rounds.1 gate c.go_on.new.gate d c.go_on.new.self start node)
           c.new-driver.ensures rounds.3,
     ))
     c.go_on.ensures.rounds

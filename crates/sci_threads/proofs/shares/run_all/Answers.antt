@@ -1,15 +1,15 @@
 use Rattle.std.proofs.Common.{◌≡◌, List, subst}
 use Rattle.std.specs.Prelude.{slice_index_or}
 use Rattle.sci_drive.specs.Calls.{Call}
-use Rattle.sci_threads.specs.{declared.share.Share.{Share}, Shares.{GoesOn}}
+use Rattle.sci_threads.specs.{declared.share.Share.{Share}, Shares.{IsLaterShare}}
 use Rattle.sci_threads.proofs.Going.{all_on}
 use Rattle.sci_threads.proofs.shares.run_all.Goals as goal
 
 -- a share goes on from what was lent to what was left
-went_between : {G : Type 0} (hears : G → List Call → G → Type 0) (lent left old new : Share G) → lent ≡ old → left ≡ new → GoesOn hears lent left
-    → GoesOn hears old new
+went_between : {G : Type 0} (hears : G → List Call → G → Type 0) (lent left old new : Share G) → lent ≡ old → left ≡ new → IsLaterShare hears lent left
+    → IsLaterShare hears old new
 went_between hears lent left old new first last on =
-    subst (λ (s : Share _). GoesOn hears s new) first (subst (λ (s : Share _). GoesOn hears lent s) last on)
+    subst (λ (s : Share _). IsLaterShare hears s new) first (subst (λ (s : Share _). IsLaterShare hears lent s) last on)
 
 pub returns-clause-gone : goal.returns-clause-gone
 returns-clause-gone g c =

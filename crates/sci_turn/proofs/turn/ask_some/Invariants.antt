@@ -1,10 +1,10 @@
-use Rattle.sci_turn.specs.{Moves.{GoesOn, stage}, Whole.{Asks, AsksNoMore}}
+use Rattle.sci_turn.specs.{Moves.{ContinuesTurn, stage}, Whole.{Asks, AsksNoMore}}
 use Rattle.sci_turn.proofs.Steps.{HasMade}
 use Rattle.sci_turn.proofs.turn.ask_some.Given as goal
 
 abbrev pub invariant-loop-cell : goal.invariant-loop-cell
 invariant-loop-cell g l = record {
-  goes : GoesOn (stage l.fn.policy (g.P.Post.post l.fn.post) l.fn.progress) (stage l.policy (g.P.Post.post l.post) l.progress);
+  goes : ContinuesTurn (stage l.fn.policy (g.P.Post.post l.fn.post) l.fn.progress) (stage l.policy (g.P.Post.post l.post) l.progress);
   stays : g.P.Post.stays l.fn.post l.post;
   made : HasMade l._cell Asks AsksNoMore (stage l.fn.policy (g.P.Post.post l.fn.post) l.fn.progress) (stage l.policy (g.P.Post.post l.post) l.progress);
 }

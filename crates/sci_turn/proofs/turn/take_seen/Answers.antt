@@ -2,7 +2,7 @@ use Rattle.std.proofs.Common.{◌≡◌, ℕ, refl, sym, ap, subst, ◌∙◌, r
 use Rattle.sci_cache.specs.Cache.{letter_of}
 use Rattle.sci_core.specs.Node.{NodeOf}
 use Rattle.sci_policy.specs.{Policy.{decided}, Turn.{IsTurnEvent, decided_event}}
-use Rattle.sci_turn.specs.{Posts.{node_in}, Moves.{GoesOn, stage}, Whole.{Makes}}
+use Rattle.sci_turn.specs.{Posts.{node_in}, Moves.{ContinuesTurn, stage}, Whole.{Makes}}
 use Rattle.sci_turn.proofs.{AtPosts.{may_take}, TurnEvents.{makes_taken, take_is_own, takes_by}, Moments.{taken_event}}
 use Rattle.sci_turn.proofs.{LongerTurns.{goes_made, goes_still, goes_then}, Steps.{none_at, none_itself}, turn.take_seen.Goals.{After-reply}}
 use Rattle.sci_turn.proofs.turn.take_seen.Goals as goal
@@ -32,7 +32,7 @@ taken g c =
     (c.in_ok-take.ensures.taken request c.front-request.ensures) c.served.ensures c.count.ensures.more
 
 -- and its answer sent
-served : (g : _) (c : After-reply g) → GoesOn (stage c.args.policy.now (g.P.Post.post c.args.post.now) c.args.progress.now)
+served : (g : _) (c : After-reply g) → ContinuesTurn (stage c.args.policy.now (g.P.Post.post c.args.post.now) c.args.progress.now)
     (stage c.served.new.self (g.P.Post.post c.reply.new.post) c.reply.new.progress)
 served g c =
     goes_then _ _ _

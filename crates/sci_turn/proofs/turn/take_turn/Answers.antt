@@ -2,7 +2,7 @@ use Rattle.std.proofs.Common.{◌≡◌, ◌≤◌, [], None, refl, sym, ap, sub
 use Rattle.sci_policy.specs.{declared.progress.Progress.{Progress}, Policy.{PolicyOf, turned}}
 use Rattle.sci_policy.specs.{Turn.{Counts, MayPerform}, Worker.{HasSameWork, IsNodeTurn}}
 use Rattle.sci_policy.proofs.Telling.{idle_tells}
-use Rattle.sci_turn.specs.{Posts.{IsPost, PostOf, node_in, nodes_in}, Moves.{GoesOn, HasEnded, HasMoved, IsTurn, Stage, stage}}
+use Rattle.sci_turn.specs.{Posts.{IsPost, PostOf, node_in, nodes_in}, Moves.{ContinuesTurn, HasEnded, HasMoved, IsTurn, Stage, stage}}
 use Rattle.sci_turn.specs.Whole.{Replies, no_progress}
 use Rattle.sci_turn.proofs.{Idling.{may_idle}, LongerTurns.{ends_there, goes_then, turn_begins}, Wholes.{idles, nothing_yet}}
 use Rattle.sci_turn.proofs.Working.{node_turn, post_after, turn_work}
@@ -17,7 +17,7 @@ record Came (before : PolicyOf) (old : PostOf) (after : PolicyOf) (new : PostOf)
   work : HasSameWork (node_in old) (node_in new)
 
 came : (before begun after : PolicyOf) (old new : PostOf) (told tells : Progress) → begun ≡ turned before → Counts [] told → told.ready ≡ None → IsPost old
-    → GoesOn (stage begun old told) (stage after new tells) → Came before old after new tells
+    → ContinuesTurn (stage begun old told) (stage after new tells) → Came before old after new tells
 came before begun after old new told tells begins nothing none here goes =
     let turn : IsTurn before old after new tells =
     subst (λ (p : PolicyOf). HasEnded p old after new tells) begins
@@ -42,7 +42,7 @@ accepted g c = let p = c.begin_turn.new.self in
     (goes_then _ _ _ (c.reply.ensures.goes p) (c.accept_all.ensures.goes p))
 
 -- the steps before the policy is asked
-taken_goes : (g : _) (c : After-take_all g) → GoesOn (stage c.begin_turn.new.self (g.P.Post.post c.args.post.now) c.args.progress.now)
+taken_goes : (g : _) (c : After-take_all g) → ContinuesTurn (stage c.begin_turn.new.self (g.P.Post.post c.args.post.now) c.args.progress.now)
     (stage c.take_all.new.policy (g.P.Post.post c.take_all.new.post) c.take_all.new.progress)
 taken_goes g c = let p = c.begin_turn.new.self in
     goes_then _ _ _ (goes_then _ _ _ (c.reply.ensures.goes p) (c.accept_all.ensures.goes p)) c.take_all.ensures.goes

@@ -2,7 +2,7 @@ use Rattle.std.proofs.{Common.{◌≡◌, List, ℕ, [], ◌∷◌, ◌++◌, ap
 use Rattle.sci_packets.specs.declared.packet.Packet.{Packet}
 use Rattle.sci_cache.specs.Cache.{letter_of}
 use Rattle.sci_command.specs.PacketLine.{packet_line}
-use Rattle.sci_charts.specs.declared.{arrows.ArrowKind.{ArrowKind}, deed.Mark.{Mark, TheVariants.{Sent}}}
+use Rattle.sci_charts.specs.declared.{arrows.ArrowKind.{ArrowKind}, mark.Mark.{Mark, TheVariants.{Sent}}}
 use Rattle.sci_charts.specs.{declared.elements.Way.{Way}, Drawing.{letter_in}, Elements.{arrow_element}}
 use Rattle.sci_charts.specs.Rows.{IsSent, ShowsPacket, kind_class}
 use Rattle.sci_charts.proofs.rows.Rows.push_sent.Goals as goal

@@ -4,7 +4,7 @@ use Rattle.std.proofs.lemmas.List.{append-nil}
 use Rattle.std.specs.{Prelude.{◌↔◌, IfOk, IsErr, Ok, Err, Result}, declared.alloc.AllocError.{AllocError}}
 use Rattle.sci_policy.specs.{declared.progress.Progress.{Progress}, Deeds.{Deed, Turns}, Worker.{IsNodeTurn}}
 use Rattle.sci_drive.specs.{declared.driver.Round.{Round}, Calls.{Call, Done, HasHeard, end_told}, Driving.{DriverOf, IsAnswered, IsDriven, IsInOrder}}
-use Rattle.sci_drive.specs.Rounds.{GoesRound, HasDone, HasPerformed, performed, turn_of}
+use Rattle.sci_drive.specs.Rounds.{IsDrivenRound, HasDone, HasPerformed, performed, turn_of}
 use Rattle.sci_drive.proofs.{Drives.{tells, turns}, GateCalls.{done_call, no_calls}, InOrder.{tells_in_order, turns_in_order}}
 use Rattle.sci_drive.proofs.{DriverRounds.{goes, has_performed}, driver.Driver.round.Goals.{After-turn}}
 use Rattle.sci_drive.proofs.driver.Driver.round.Goals as goal
@@ -39,7 +39,7 @@ gone : (g : _) (c : After-turn g) (later : g.row.G.Denot) (done : Bool) (result 
     (g.W.Worker.node c.perform-answered.new.worker) (g.W.Worker.node c.turn.new.self) (end_told c.perform-answered.new.self.was_done done)
     → IfOk result (λ round. (done ≡ true) ↔ IsAnswered c.perform-answered.new.self)
     → (IsErr result → done ≡ c.perform-answered.new.self.was_done)
-    → GoesRound g.G.Gate.hears (before g c ++ turn_of result) c.args.gate.now later c.args.self.now (record c.perform-answered.new.self { was_done = done })
+    → IsDrivenRound g.G.Gate.hears (before g c ++ turn_of result) c.args.gate.now later c.args.self.now (record c.perform-answered.new.self { was_done = done })
     (g.W.Worker.node c.args.worker.now) (g.W.Worker.node c.turn.new.self) result
 gone g c later done result turn ending answered stopped =
     let submits = c.submit.ensures.submits in
@@ -128,7 +128,8 @@ returns-then-not-self-clause-goes g c =
     (end_told done true)) (sym not_yet) (c.done.ensures, done_call was (record was { was_done = true }) old node refl not_yet refl c.turn.ensures.work.log)
     in (
       deeds,
-      subst (λ (d : DriverOf). GoesRound g.G.Gate.hears deeds c.args.gate.now c.done.new.self c.args.self.now (record d { was_done = true }) start node result)
+      subst (λ (d : DriverOf).
+          IsDrivenRound g.G.Gate.hears deeds c.args.gate.now c.done.new.self c.args.self.now (record d { was_done = true }) start node result)
           (sym c.self.view_is)
           (gone g at c.done.new.self true result c.in_ok-progress.ensures.turn ending (λ _. c.is_answered.ensures.0 cc, λ _. refl)
           (λ err. absurd (cc))),

@@ -8,8 +8,8 @@ ghost use Rattle.sci_text.specs.{declared.fault.TextFaultKind.TheVariants.{Memor
 ghost use Rattle.sci_walks.specs.{RandomAnswer.{IsWalked}, Walking.{IsDrawn, IsFirstFound, IsFound, IsNext, looked_for, moved_to}};
 
 use sci_cache::Held;
-use sci_chance::{Random, any_kind, any_line, any_operation};
 use sci_core::{LaneKind, Machine, Node, node_of};
+use sci_chance::{Random, any_kind, any_line, any_operation};
 use sci_statistics::applied;
 use sci_text::{Schedule, TextFault, TextFaultKind};
 use sci_words::{AskKind, Event, Extent, MAX_OPERATIONS};
