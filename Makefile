@@ -5,7 +5,7 @@ NEED_RT = command -v rt > /dev/null || { echo "rt is missing: put the bin folder
 NEED_CARGO = command -v cargo > /dev/null || { echo "cargo is missing: install Rust 1.88 or later (rustup.rs) to build the plain program of bench/"; exit 1; }
 
 # The programs, and what they are built of.
-PROGRAMS = crates/scimem/out/scimem crates/sciview/out/sciview crates/sci_circle/out/sci_circle
+PROGRAMS = crates/scimem/out/scimem crates/sciview/out/sciview crates/sci_station_timer/out/sci_station_timer
 SOURCES = crates.txt HANDLES $(shell find crates -name out -prune -o -path '*_tests' -prune -o \( -name '*.rt' -o -name '*.antt' \) -print)
 
 .PHONY: try run test check cosim bindings fmt bench calls growth instructions fuzz soak faults adversaries install build dist dist-twice library install-library plants cases examples charts pages clean
@@ -158,14 +158,14 @@ growth: build
 
 # Builds the programs, and the plain program of bench/ by cargo; checks that they write the same bytes, and prints what each
 # takes: make bench RUNS=9 SUBJECTS="oracle replay". It isn't part of the gate.
-bench: build crates/sci_circle/out/sci_circle
+bench: build crates/sci_station_timer/out/sci_station_timer
 	@$(NEED_CARGO)
 	@cd bench && cargo build --release --offline --quiet
 	@scripts/measure/bench.py $(or $(RUNS),9) $(SUBJECTS)
 
 # Builds the same programs, and prints how many instructions each takes for an operation, as valgrind counts them. It isn't part
 # of the gate.
-instructions: build crates/sci_circle/out/sci_circle
+instructions: build crates/sci_station_timer/out/sci_station_timer
 	@$(NEED_CARGO)
 	@cd bench && cargo build --release --offline --quiet
 	@scripts/measure/instructions.py

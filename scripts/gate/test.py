@@ -58,7 +58,7 @@ def mark_built():
     """Gives the programs the time of now, so that make knows that they are built of the sources as they are: those that an
     earlier run built have its time. Copies of them are put into out/bin, as make does."""
     os.makedirs(f"{TOP}/out/bin", exist_ok=True)
-    for name in ("scimem", "sciview", "sci_circle"):
+    for name in ("scimem", "sciview", "sci_station_timer"):
         os.utime(f"{TOP}/crates/{name}/out/{name}")
         shutil.copy2(f"{TOP}/crates/{name}/out/{name}", f"{TOP}/out/bin/{name}")
 

@@ -181,7 +181,7 @@ def circle_times(words, path):
 
 def measure_circle(room, runs):
     """The processor time of an operation with all stations in one thread. Both programs have to take as many rounds."""
-    print("| nanoseconds an operation, median / best | sci_circle | plain | quotient | rounds |")
+    print("| nanoseconds an operation, median / best | sci_station_timer | plain | quotient | rounds |")
     print("|" + "---|" * 5, flush=True)
     wrong, means = 0, []
     for name, path in workloads(room, (1, 4, 16)):

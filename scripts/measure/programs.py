@@ -4,7 +4,7 @@ import os
 import subprocess
 
 TOP = os.path.dirname(os.path.dirname(os.path.dirname(os.path.abspath(__file__))))
-SCIMEM, SCIVIEW, CIRCLE = (f"{TOP}/crates/{it}/out/{it}" for it in ("scimem", "sciview", "sci_circle"))
+SCIMEM, SCIVIEW, CIRCLE = (f"{TOP}/crates/{it}/out/{it}" for it in ("scimem", "sciview", "sci_station_timer"))
 PLAIN = f"{TOP}/bench/target/release/plain"
 INPUTS = f"{TOP}/scripts/make/inputs.py"
 WORKLOADS = ("private", "spread", "mixed", "reads", "migratory", "hammer")

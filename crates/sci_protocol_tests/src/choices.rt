@@ -4,7 +4,7 @@ use crate::walked::{LIMIT, Walked};
 use sci_cache::Held;
 use sci_core::LaneKind;
 use sci_packets::Body;
-use sci_chance::{Random, any_kind, any_line, any_operation};
+use sci_random::{Random, any_kind, any_line, any_operation};
 use sci_words::{AskKind, Event, Op};
 
 /// A node, and those after it in a circle: the one at this place of the circle.

@@ -3,7 +3,7 @@
 use crate::walked::{Happening, Walked};
 use sci_core::LaneKind;
 use sci_packets::Packet;
-use sci_chance::Random;
+use sci_random::Random;
 use sci_words::Event;
 use std::test::*;
 

@@ -10,7 +10,7 @@ use sci_cache::Held;
 use sci_core::LaneKind;
 use sci_history::{OrderVerdict, sequential_order};
 use sci_home::HomeState;
-use sci_chance::Random;
+use sci_random::Random;
 use sci_text::{Tap, read_logs};
 use sci_words::Extent;
 use std::alloc::Global;

@@ -6,7 +6,7 @@ use crate::given;
 use crate::locked::Locked;
 use crate::nodes::Nodes;
 use crate::running::Running;
-use sci_chance::Random;
+use sci_random::Random;
 use sci_words::{Act, LockOp, Op};
 use std::alloc::{AllocError, Global};
 use std::sync::Wait;

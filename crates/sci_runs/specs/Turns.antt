@@ -1,6 +1,6 @@
 -- In which order nodes take their turns.
 use Rattle.std.specs.Prelude.{◌<◌, ◌≤◌, ◌==◌, ◌+◌, ◌*◌, ℕ, zero, suc, List, [], ◌∷◌, ◌++◌, Option, Some, None, count_by, length, nat_lt, if◌then◌else◌}
-use Rattle.sci_chance.specs.Drawing.{after, drawn, seeded}
+use Rattle.sci_random.specs.Drawing.{after, drawn, seeded}
 use Rattle.sci_words.specs.declared.limits.TheConstants.{MAX_EVENTS}
 use Rattle.sci_text.specs.Script.{ScriptValue}
 use Rattle.sci_drive.specs.ScriptLogs.{size_for}

@@ -3,7 +3,7 @@
 ghost use Rattle.std.specs.Prelude.{◌≡◌, ◌<◌};
 ghost use Rattle.sci_runs.specs.Turns.{first_order, next_node, next_order};
 
-use sci_chance::Random;
+use sci_random::Random;
 
 /// In which order the nodes of a run take their turns.
 #[derive(Drop)]

@@ -1,6 +1,6 @@
 //! What is drawn, and how often.
 
-use sci_chance::{Random, any_kind, any_line, any_operation};
+use sci_random::{Random, any_kind, any_line, any_operation};
 use sci_words::AskKind;
 use std::test::*;
 

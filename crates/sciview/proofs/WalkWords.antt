@@ -1,7 +1,7 @@
 -- The words of a walk, from those of its numbers.
 use Rattle.std.proofs.Common.{◌≡◌, ◌↔◌, ◌<◌, ◌^◌, ℕ, arith, length, get_or, IfSome, List, [], ◌∷◌, map, Option, Some, sym, ap, ◌∙◌, refl, subst}
 use Rattle.sci_text.specs.Number.{number}
-use Rattle.sci_walks.specs.declared.random.Walk.{Walk}
+use Rattle.sci_random_schedules.specs.declared.random.Walk.{Walk}
 use Rattle.sciview.specs.Choice.{FitsWalk, walk_words}
 
 five : {X : Type 0} (f : X → List ℕ) (words : List X) (d : X) → length words ≡ 5

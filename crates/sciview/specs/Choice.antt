@@ -11,7 +11,7 @@ use Rattle.sci_options.specs.declared.setting.{OptionRow.{OptionRow}, Setting.{S
 use Rattle.sci_charts.specs.declared.charting.TextLines.{TextLines}
 use Rattle.sci_drive.specs.declared.driver.Issuing.{Issuing, TheVariants.{Ahead, InOrder}}
 use Rattle.sci_reports.specs.declared.ordering.NodeOrder.{NodeOrder, TheVariants.{Logged, BySerial}}
-use Rattle.sci_walks.specs.declared.random.Walk.{Walk}
+use Rattle.sci_random_schedules.specs.declared.random.Walk.{Walk}
 use Rattle.sci_outcomes.specs.declared.outcomes_report.TheConstants.{MAX_RUNS}
 use Rattle.sci_outcomes.specs.declared.trials.Turns.{Turns, TheVariants.{Drawn, Threads}}
 use Rattle.sciview.specs.declared.choice.{Choice.{Choice}, Command.{Command}, Names.{Names}}

@@ -14,7 +14,7 @@ use Rattle.sci_pages.specs.PageAnswer.{IsPageAnswer}
 use Rattle.sci_reports.specs.{CheckAnswer.{IsCheckAnswer}, ExplainAnswer.{IsExplainAnswer}, OrderAnswer.{IsOrderAnswer}}
 use Rattle.sci_traces.specs.{ListsAnswer.{IsListsAnswer}, PacketsAnswer.{IsPacketsAnswer}, TraceAnswer.{IsTraceAnswer}}
 use Rattle.sci_outcomes.specs.{OutcomesAnswer.{IsOutcomesAnswer}, RunAnswer.{IsRunAnswer}}
-use Rattle.sci_walks.specs.RandomAnswer.{IsRandomAnswer}
+use Rattle.sci_random_schedules.specs.RandomAnswer.{IsRandomAnswer}
 use Rattle.sci_statistics.specs.{StatsAnswer.{IsStatsAnswer}, TransitionsAnswer.{IsTransitionsAnswer}}
 use Rattle.sci_statistics.specs.declared.coverage.Coverage.{Coverage}
 use Rattle.sciview.specs.declared.choice.Command.TheVariants as commands

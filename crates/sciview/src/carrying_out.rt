@@ -13,7 +13,7 @@ use sci_charts::chart;
 use sci_command::{Ended, Outcome, parted, show, write_answer};
 use sci_outcomes::{outcomes_of, run};
 use sci_pages::page;
-use sci_walks::random_schedule;
+use sci_random_schedules::random_schedule;
 use sci_reports::{check, explain, order};
 use sci_statistics::{Coverage, stats, transitions};
 use sci_text::Tap;

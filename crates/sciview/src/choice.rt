@@ -4,7 +4,7 @@ ghost use Rattle.std.specs.Prelude.{◌≡◌, ◌↔◌, ℕ, IfSome, IsTrue, L
 ghost use Rattle.sciview.specs.declared.choice.Command.{Command};
 ghost use Rattle.sciview.specs.Choice.{Asks, Chooses, ChoosesOf, FitsWalk, IsHelp, Named, asked_events, asked_issuing, asked_order, asked_turns};
 ghost use Rattle.sciview.specs.Choice.{AreFiles, IsChosenBy, command_of, IsNamed, no_names, reads_several, shown_in, shown_names, stats_command, walk_words};
-ghost use Rattle.sci_walks.specs.declared.random.Walk.{Walk};
+ghost use Rattle.sci_random_schedules.specs.declared.random.Walk.{Walk};
 
 use crate::complaint::{Complaint, Problem};
 use crate::verb::Verb;
@@ -15,7 +15,7 @@ use sci_command::texts_of;
 use sci_drive::Issuing;
 use sci_options::{Given, OptionName, read_words};
 use sci_outcomes::{OutcomesRequest, RunRequest, Turns};
-use sci_walks::Walk;
+use sci_random_schedules::Walk;
 use sci_reports::{NodeOrder, OrderRequest};
 use sci_statistics::StatsRequest;
 use sci_text::whole_number;

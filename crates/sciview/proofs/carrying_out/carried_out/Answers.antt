@@ -14,7 +14,7 @@ use Rattle.sci_reports.specs.{CheckAnswer.{IsCheckAnswer, IsLastFault}, ExplainA
 use Rattle.sci_reports.specs.OrderAnswer.{IsOrderAnswer}
 use Rattle.sci_traces.specs.{ListsAnswer.{IsListsAnswer}, PacketsAnswer.{IsPacketsAnswer}, TraceAnswer.{IsTraceAnswer}}
 use Rattle.sci_outcomes.specs.{OutcomesAnswer.{IsOutcomesAnswer, IsOutcomesRefusal}, RunAnswer.{IsLongRun, IsRunAnswer, IsRunRefusal}}
-use Rattle.sci_walks.specs.RandomAnswer.{IsRandomAnswer, IsWalkFault}
+use Rattle.sci_random_schedules.specs.RandomAnswer.{IsRandomAnswer, IsWalkFault}
 use Rattle.sci_statistics.specs.{StatsAnswer.{IsStatsAnswer, IsStatsFault}, TransitionsAnswer.{IsTransitionsAnswer}}
 use Rattle.sciview.specs.{Choice.{shown_names}, CommandAnswer.{help_for}}
 use Rattle.sciview.proofs.carrying_out.carried_out.Goals as goal
