@@ -23,9 +23,6 @@ contains_any outcomes shown has =
     let at = map_contains shown_of outcomes shown has in
     (at.1.0, at.0, at.1.1, at.1.2, at.2)
 
-any_contains : (outcomes : List Outcome) (shown : Shown) → Any (λ o. shown_of o ≡ shown) outcomes → Contains (map shown_of outcomes) shown
-any_contains outcomes shown (k, o, below, here, is) = subst (Contains (map shown_of outcomes)) is (contains_map shown_of outcomes o (k, below, here))
-
 -- what is seen of a run is seen of a standing where runs end
 pub seen_at_end : (litmus : Litmus) (window : ℕ) (standings : List Standing) → IsLitmus litmus
     → HaveRuns (size_for litmus.script) (shares_of litmus.script) window (map position_of standings) → (shown : Shown)

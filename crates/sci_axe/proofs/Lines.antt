@@ -58,41 +58,6 @@ append_one : (xs : List ℕ) (b : ℕ) (ys : List ℕ) → (xs ++ b ∷ []) ++ y
 append_one [] b ys = refl
 append_one (x ∷ xs) b ys = ap (λ (zs : List ℕ). x ∷ zs) (append_one xs b ys)
 
-pub within_none : (bytes : List ℕ) → IsWithin bytes 0
-within_none bytes = refl
-
-pub within_more : (bytes : List ℕ) (place : ℕ) → place < length bytes → (get_or bytes place 0 ≡ 10 → ⊥) → IsWithin bytes place → IsWithin bytes (place + 1)
-within_more bytes place lt not_ before =
-    let b = get_or bytes place 0 in
-    let one : suc place ≡ place + 1 = omega arith in
-    let cut : drop place bytes ≡ b ∷ drop (place + 1) bytes = drop-cons bytes place 0 lt ∙ ap (λ (k : ℕ). b ∷ drop k bytes) one in
-    let split : line_split (drop place bytes) ≡ (b ∷ (line_split (drop (place + 1) bytes)).0, (line_split (drop (place + 1) bytes)).1) =
-    ap line_split cut ∙ split_more b (drop (place + 1) bytes) not_ in
-    before
-    ∙ (ap (λ (p : List ℕ × List ℕ). (take place bytes ++ p.0, p.1)) split
-    ∙ ap (λ (xs : List ℕ). (xs, (line_split (drop (place + 1) bytes)).1))
-    (sym (append_one (take place bytes) b (line_split (drop (place + 1) bytes)).0)
-    ∙ ap (λ (xs : List ℕ). xs ++ (line_split (drop (place + 1) bytes)).0) (sym (take_more bytes place 0 lt))))
-
-pub within_end : (bytes : List ℕ) (place : ℕ) → place < length bytes → get_or bytes place 0 ≡ 10 → IsWithin bytes place
-    → line_split bytes ≡ (take place bytes, drop (place + 1) bytes)
-within_end bytes place lt is before =
-    let b = get_or bytes place 0 in
-    let one : suc place ≡ place + 1 = omega arith in
-    let cut : drop place bytes ≡ b ∷ drop (place + 1) bytes = drop-cons bytes place 0 lt ∙ ap (λ (k : ℕ). b ∷ drop k bytes) one in
-    let split : line_split (drop place bytes) ≡ ([], drop (place + 1) bytes) = ap line_split cut ∙ split_end b (drop (place + 1) bytes) is in
-    before
-    ∙ (ap (λ (p : List ℕ × List ℕ). (take place bytes ++ p.0, p.1)) split
-    ∙ ap (λ (xs : List ℕ). (xs, drop (place + 1) bytes)) (append-nil (take place bytes)))
-
-pub within_all : (bytes : List ℕ) (place : ℕ) → place ≡ length bytes → IsWithin bytes place → line_split bytes ≡ (bytes, [])
-within_all bytes place is before =
-    let over : drop place bytes ≡ [] = ap (λ (k : ℕ). drop k bytes) is ∙ drop_all bytes in
-    let whole : take place bytes ≡ bytes = ap (λ (k : ℕ). take k bytes) is ∙ take_all bytes in
-    before
-    ∙ (ap (λ (p : List ℕ × List ℕ). (take place bytes ++ p.0, p.1)) (ap line_split over ∙ split_none)
-    ∙ ap (λ (xs : List ℕ). (xs, [])) (append-nil (take place bytes) ∙ whole))
-
 -- ---- what lines say
 
 pub said_push : (said : List Said) (number : ℕ) (bytes rest : List ℕ) (next : Said) → AreSaid said number bytes rest → 0 < length rest
@@ -153,18 +118,6 @@ agrees_same : (f g : LastWords) (next : Said) → ((at : ℕ) → f at ≡ g at)
 agrees_same f g Nothing same agrees = tt
 agrees_same f g (Did access) same agrees = tt
 agrees_same f g (Ended last) same agrees = subst (λ (known : Option ℕ). is_free_for known last.word ≡ true) (same last.address) agrees
-
--- a line is wrong by what is known, however that is told
-pub wrong_same : (f g : LastWords) (number : ℕ) (bytes : List ℕ) (kind : TextFaultKind) → ((at : ℕ) → f at ≡ g at) → IsWrong f number bytes kind
-    → IsWrong g number bytes kind
-wrong_same f g number bytes Syntax same wrong = wrong
-wrong_same f g number bytes Range same (inl off) = inl off
-wrong_same f g number bytes Range same (inr other) =
-    inr (other.0, other.1, subst (λ (known : Option ℕ). is_free_for known other.0.word ≡ false) (same other.0.address) other.2)
-wrong_same f g number bytes TooMany same wrong = wrong
-wrong_same f g number bytes Read same wrong = wrong
-wrong_same f g number bytes Write same wrong = wrong
-wrong_same f g number bytes Memory same wrong = wrong
 
 -- what is read so far
 pub record IsReadTo (bytes rest : List ℕ) (number : ℕ) (accesses : List Access) (known : LastWords) : Type 0 where

@@ -125,12 +125,3 @@ pub dead_beside : (known : Option (List ℕ)) (unread : Bool) (replayed : Result
     → refusal ≡ refusal_of (answer_in replayed) → (dead : Option DeadEvents) → dead ≡ dead_in replayed → AreDeadBeside known unread refusal dead
 dead_beside known unread (Ok answered) are refusal r dead d = rw (r, d) are
 dead_beside known unread (Err why) are refusal r dead d = rw r d
-
--- the events that aren't enabled of a schedule that was read
-pub dead_as_read : (known : Option (List ℕ)) (unread : Bool) (s : ScheduleValue) → IsSchedule s → IsReadAs known unread (λ input. input ≡ schedule_text s)
-    → (extent : Extent) (events : List Event) (dead : Option DeadEvents) → extent.nodes ≡ s.nodes → extent.lines ≡ s.lines → extent.slots ≡ s.slots
-    → events ≡ s.events → dead ≡ summary (dead_events (opening (size_of extent MAX_OPERATIONS)) 0 events)
-    → IsReadAs known unread (λ bytes. AreDeadIn bytes dead)
-dead_as_read known unread s good read extent events dead nodes lines slots are is =
-    let dead_is : dead ≡ dead_of s = rw (nodes, lines, slots, are) at is in
-    (read.0, (read.1.0, read.1.1, record { schedule = s; good = good; read = read.1.2; are = dead_is }))

@@ -19,29 +19,6 @@ dead_events_more core place (x ∷ events) e =
     (dead_at (suc place + length events) (obstacle_if_dead (run_from (step core x) events) e)))
     ∙ ap (λ (at : ℕ). (here ++ dead_events (step core x) (suc place) events) ++ dead_at at (obstacle_if_dead (run_from core (x ∷ events)) e)) (omega arith)
 
--- nothing stands in the way of the next
-pub summary_same : (known : List (ℕ × Obstacle)) (dead : Option DeadEvents) (place : ℕ) (obstacle : Option Obstacle) → obstacle ≡ None → dead ≡ summary known
-    → dead ≡ summary (known ++ dead_at place obstacle)
-summary_same known dead place obstacle none is = rw none (is ∙ ap summary (sym (append-nil known)))
-
--- it is the first
-pub summary_first : (known : List (ℕ × Obstacle)) (dead : Option DeadEvents) (place : ℕ) (obstacle : Option Obstacle) (o : Obstacle) → obstacle ≡ Some o
-    → dead ≡ None → dead ≡ summary known
-    → Some (record { count = 1; place = place; obstacle = o }) ≡ summary (known ++ dead_at place obstacle)
-summary_first [] dead place obstacle o some none is = rw some refl
-summary_first (first ∷ more) dead place obstacle o some none is = absurd (cc)
-
--- it is one more
-pub summary_more : (known : List (ℕ × Obstacle)) (dead : Option DeadEvents) (d : DeadEvents) (place : ℕ) (obstacle : Option Obstacle) (o : Obstacle)
-    → obstacle ≡ Some o → dead ≡ Some d → dead ≡ summary known
-    → Some (record { count = d.count + 1; place = d.place; obstacle = d.obstacle }) ≡ summary (known ++ dead_at place obstacle)
-summary_more [] dead d place obstacle o some is known = absurd (cc)
-summary_more (first ∷ more) dead d place obstacle o some is known =
-    let d_is : d ≡ record { count = suc (length more); place = first.0; obstacle = first.1 } = ap (λ (o : Option DeadEvents). unwrap_or o d) (sym is ∙ known) in
-    let one_more : length (more ++ (place, o) ∷ []) ≡ length more + 1 = length-append more ((place, o) ∷ []) in
-    let count : suc (length more) + 1 ≡ suc (length (more ++ (place, o) ∷ [])) = omega arith in
-    rw (some, d_is) (ap (λ (n : ℕ). Some (record { count = n; place = first.0; obstacle = first.1 })) count)
-
 -- of one event more of a list
 pub dead_events_of_more : (core : Core) (events : List Event) (i : ℕ) (d : Event) → i < length events
     → dead_events core 0 (take (i + 1) events)

@@ -6,18 +6,12 @@ use Rattle.sci_words.specs.declared.stamped.Stamped.{Stamped}
 use Rattle.sci_packets.specs.declared.body.Body.TheVariants.{Wback, Fdata}
 use Rattle.sci_home.specs.{declared.state.HomeState.{HomeState}, Serving.{current_of}}
 use Rattle.sci_history.specs.Seen.{IsAmong}
-use Rattle.sci_cache.specs.State.{CacheState, Joining, FreshJoining, Below, Rolling, contents_of}
-use Rattle.sci_cache.specs.{Cache.{line_of}, Member.{contents_held, is_fresh}}
+use Rattle.sci_cache.specs.State.{CacheState, FreshJoining, Below, Rolling, contents_of}
+use Rattle.sci_cache.specs.{Cache.{line_of}, Kinds.{joins}, Member.{contents_held, is_fresh}}
 use Rattle.sci_core.specs.{Core.{Core, node_at}, Sharing.{packets_of, answer_to, settled_at, home_at, last_at}, SharingList.{IsSharingList}}
 use Rattle.sci_home.specs.declared.state.HomeState.TheVariants as at
 
 -- ---- members
-
--- a member that comes: it isn't yet the head
-abbrev pub comes : CacheState → Bool
-comes (Joining p sent) = true
-comes (FreshJoining p sent c) = true
-comes _ = false
 
 -- a member that follows another
 abbrev pub follows : CacheState → Bool
@@ -61,7 +55,7 @@ HasAuthorities core line nodes (at.Gone p) = HasOneAuthority core line nodes
 
 -- before the authority stand only members that come, and after it only members that follow
 pub record StandInOrder (core : Core) (line : ℕ) (nodes : List ℕ) : Type 0 where
-  pub coming : (before after : List ℕ) (a : ℕ) → IsSplit core line nodes before a after → AllByRecursion (λ n. comes (settled_at core line n) ≡ true) before
+  pub coming : (before after : List ℕ) (a : ℕ) → IsSplit core line nodes before a after → AllByRecursion (λ n. joins (settled_at core line n) ≡ true) before
   pub following : (before after : List ℕ) (a : ℕ) → IsSplit core line nodes before a after → AllByRecursion (λ n. follows (settled_at core line n) ≡ true) after
 
 -- One stamped line: the contents of the authority, of every node after it, of a home that has them, of every Fdata under

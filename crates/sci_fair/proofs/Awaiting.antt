@@ -53,9 +53,6 @@ open_cread : (work : Option Bool) (s : CacheState) (m : ℕ) → is_open_head wo
     → IfSome (serving s m Cread) (λ (served : CacheState × Body). (rank work served.0 == rank work s) ≡ false)
 open_cread work s m opened = search rules
 
-pub open_waits : (work : Option Bool) (s : CacheState) → is_open_head work s ≡ true → waits s ≡ false
-open_waits work s opened = search rules
-
 pub awaiting_waits : (s : CacheState) → awaits_home s ≡ true → waits s ≡ true
 awaiting_waits s awaits = search rules
 

@@ -35,9 +35,6 @@ module _ (policy : PolicyOf) (node : NodeOf) where
   abbrev joining : Bool
   joining = some_line node (λ line. joins (state_on node line))
 
-  after_performs : Option Want
-  after_performs = option_or (purge_wanted policy node) (option_or (send_wanted node) (option_or (due_wanted policy node) (operation_wanted node)))
-
   performs_first : (o : Option ℕ) → oldest node (λ line. is_some (node_performing node line)) ≡ o → PerformsNot (wanted policy node)
       → perform_wanted node ≡ None
   performs_first None is other = ap (option_map Perform) is

@@ -127,9 +127,6 @@ sent_least n line old new last held good some free ahead inside sends lower =
 
 -- ---- the Cread
 
-sent_unless : (s : CacheState) (a : ℕ) → joins_before s a ≡ true → must_send s ≡ false → waits s ≡ true
-sent_unless s a is none = search rules
-
 joins_any : (s : CacheState) (a : ℕ) → joins_before s a ≡ true → joins s ≡ true
 joins_any s a is = search rules
 

@@ -127,9 +127,6 @@ pub fresh_asks : (work : Option Bool) (s : CacheState) (k : AskKind) → has_fre
     → IfSome (asking s k) (λ (asked : Asked). (rank work asked.next == rank work s) ≡ true → has_fresh_next asked.next ≡ false)
 fresh_asks work s k is = search rules
 
-abbrev pub not_shared : Class
-not_shared = record { test = λ work s. has_fresh_next s; value = false; accepts = fresh_accepts; serves = fresh_serves; asks = fresh_asks }
-
 -- a line that joins a list, or leaves one and has to tell so, goes on to, and no other begins to
 abbrev pub is_needy : CacheState → Bool
 is_needy (Telling r w sent) = true

@@ -110,9 +110,6 @@ owns_owned s is = search rules
 pub returning_goes : (s : CacheState) → awaits_home s ≡ true → owns s ≡ true → goes_home s ≡ true
 returning_goes s awaits is = search rules
 
-pub lone_owns : (s : CacheState) → is_lone s ≡ true → owns s ≡ true
-lone_owns s is = search rules
-
 pub kept_owned : (s : CacheState) → owned s ≡ true → may_keep s ≡ true → owns s ≡ true
 kept_owned s is may = search rules
 
@@ -146,12 +143,6 @@ cread_is : (b : Body) → is_cread b ≡ true → b ≡ Cread
 cread_is b is = search rules
 
 -- ---- one event
-
-take_ask : (e : Event) → is_taking e ≡ true → is_ask e ≡ true → ⊥
-take_ask e one two = search rules
-
-take_accept : (e : Event) → is_taking e ≡ true → is_accept e ≡ true → ⊥
-take_accept e one two = search rules
 
 accept_ask : (e : Event) → is_accept e ≡ true → is_ask e ≡ true → ⊥
 accept_ask e one two = search rules

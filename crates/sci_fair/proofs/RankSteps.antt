@@ -34,9 +34,6 @@ pub record LevelKept (before after : List Bool) (old new : NodeOf) : Type 0 wher
   pub work : (line : ℕ) → pending_on new line ≡ pending_on old line
   pub level : (line : ℕ) → never_rises (has before line) (has after line) (work_on old line) (state_on old line) (state_on new line) ≡ true
 
-kept_itself : (used : List Bool) (node : NodeOf) → LevelKept used used node node
-kept_itself used node = record { work = λ line. refl; level = λ line. same_state (has used line) (work_on node line) (state_on node line) }
-
 -- one line gets another state
 line_kept : (used : List Bool) (node : NodeOf) (line : ℕ) (new : LineState)
     → never_rises (has used line) (has used line) (work_on node line) (state_on node line) new.state ≡ true → (k : ℕ)

@@ -148,12 +148,6 @@ rises sites place past each k lt =
 
 -- ---- all entries
 
-pub all_versions : (sites : List SiteVersions) (accesses : List Access) (used : List ℕ) (logs : List (List Entry)) (is : AreLogged sites accesses used logs)
-    → AreAllUsed sites used → HaveVersions sites is.entries
-all_versions sites accesses used logs is all = λ line d lt.
-    is.versions line d lt
-    ∙ take_all (get_or used line 0) (get_or sites line d).versions.items (let same = all line d lt in omega arith)
-
 entries_within : (addresses : List ℕ) (lines : ℕ) → length addresses ≤ lines → (done : List Entry) (xs : List Access) (es : List Entry)
     → AreEntriesOf addresses done xs es → AllByRecursion (IsWithin lines) es
 entries_within addresses lines le done [] [] h = tt

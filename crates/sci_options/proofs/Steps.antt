@@ -59,15 +59,6 @@ only_one options word more read setting count is reads other n begins =
     let there : Some (setting, count) ≡ Some (other, n) = sym is ∙ (reads other n).1 begins in
     (sym (ap (setting_in setting) there), sym (ap count_in there))
 
--- words are over
-pub taken_nothing : (options : List OptionRow) (given : Given) (words : List (List ℕ)) → words ≡ [] → Takes options given given words (Ok 0)
-taken_nothing options given words none = (
-  λ some. let long = ap (λ (ws : List (List ℕ)). length ws) none in absurd (omega arith),
-  omega arith,
-  λ once. once,
-  λ settings alone. (λ gives. gives, λ gives. gives),
-)
-
 -- a word that stands alone
 pub taken_alone : (options : List OptionRow) (before after : Given) (word : List ℕ) (more : List (List ℕ)) → begins_option word ≡ false
     → after.settings.items ≡ before.settings.items → texts after.alone.items ≡ texts before.alone.items ++ (word ∷ [])
@@ -146,20 +137,6 @@ again_taken options before after word more read setting count is reads given set
 pub record IsReadTo (options : List OptionRow) (words : List (List ℕ)) (given : Given) (rest : List (List ℕ)) : Type 0 where
   pub once : IsOnce given
   pub same : (settings : List Setting) (alone : List (List ℕ)) → IsGiven options words settings alone ↔ GivesFrom options given rest settings alone
-
-pub nothing_read : (options : List OptionRow) (words : List (List ℕ)) (given : Given) → given.settings.items ≡ [] → texts given.alone.items ≡ []
-    → IsReadTo options words given words
-nothing_read options words given settings_none alone_none = record {
-  once = λ name. subst (λ (s : List Setting). times_given name s ≤ 1) (sym settings_none) (omega arith);
-  same = λ settings alone. (
-    λ gives.
-        subst (λ (s : List Setting). GivenFrom options s (texts given.alone.items) words settings alone) (sym settings_none)
-        (subst (λ (a : List (List ℕ)). GivenFrom options [] a words settings alone) (sym alone_none) gives),
-    λ gives.
-        subst (λ (a : List (List ℕ)). GivenFrom options [] a words settings alone) alone_none
-        (subst (λ (s : List Setting). GivenFrom options s (texts given.alone.items) words settings alone) settings_none gives),
-  );
-}
 
 pub more_read : (options : List OptionRow) (words : List (List ℕ)) (before after : Given) (rest : List (List ℕ)) (count : ℕ) (left : List (List ℕ))
     → IsReadTo options words before rest → Takes options before after rest (Ok count) → drop count rest ≡ left → IsReadTo options words after left

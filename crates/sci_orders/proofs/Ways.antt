@@ -85,10 +85,6 @@ levels_more {Z = Z} lines operations window count old new first second is added 
     ∙ sym (append_assoc (levels_of old) (map position_of first.items ∷ []) (map position_of second.items ∷ []))) in
     subst (AreLevels lines operations window) (sym joined) most
 
--- none is a level before the first
-pub no_levels : (lines : ℕ) (operations : Operations) (window : ℕ) → AreLevels lines operations window []
-no_levels lines operations window k below = absurd (omega arith)
-
 -- ---- what stands at a place
 
 pub item_at : {X : Type 0} (xs : List X) (i j : ℕ) (item d : X) → i < length xs → j ≡ i → item ≡ get_or xs i item → get_or xs j d ≡ item

@@ -14,16 +14,6 @@ use Rattle.sci_pages.specs.PageAnswer.{AreDataFor, IsBigPage, IsFaultFor, IsPage
 
 -- ---- why a text has no data, or no page
 
--- there was no memory
-pub refused_memory : (is_first : List ℕ → ℕ → TextFaultKind → Type 0) (input : List ℕ) (fault : TextFault) → fault.line ≡ 0 → fault.kind ≡ Memory
-    → IsRefusal is_first input fault
-refused_memory is_first input fault line kind = subst (λ (k : TextFaultKind). IsRefusalOf is_first k input fault.line) (sym kind) line
-
-pub unasked_data : (request : ChartRequest) (input : List ℕ) (fault : TextFault) → IsUnasked request.line input fault
-    → IsWithoutData Schedule request input fault
-unasked_data request input fault (inl first) = inl first
-unasked_data request input fault (inr lacks) = inr (inl lacks)
-
 same_fault : (kind : TextFaultKind) (input : List ℕ) (line : ℕ) → IsRefusalOf (IsFaultFor (kind_of input)) kind input line
     → IsRefusalOf IsPagedFault kind input line
 same_fault Syntax input line is = is
@@ -32,18 +22,6 @@ same_fault TooMany input line is = is
 same_fault Read input line is = is
 same_fault Write input line is = is
 same_fault Memory input line is = is
-
-without_data : (request : ChartRequest) (title : Option (List ℕ)) (input : List ℕ) (fault : TextFault) → IsWithoutData (kind_of input) request input fault
-    → IsWithoutPage request title input fault
-without_data request title input fault (inl first) = inl (same_fault fault.kind input fault.line first)
-without_data request title input fault (inr (inl lacks)) = inr (inl lacks)
-without_data request title input fault (inr (inr many)) = inr (inr (many.0, many.1, inl many.2))
-
--- a text without data has no page
-pub dataless : (request : ChartRequest) (title : Option (List ℕ)) (input : List ℕ) (fault : TextFault) (kind : PageKind) → kind ≡ kind_of input
-    → IsWithoutData kind request input fault → IsWithoutPage request title input fault
-dataless request title input fault kind is none =
-    without_data request title input fault (subst (λ (k : PageKind). IsWithoutData k request input fault) is none)
 
 -- ---- a page that is made
 
@@ -54,12 +32,6 @@ module _ (request : ChartRequest) (title : Option (List ℕ)) (input : List ℕ)
 
   as_said : text ≡ page_text (kind_of input) title body
   as_said = written ∙ ap (λ (k : PageKind). page_text k title body) is
-
-  pub page_made : length text ≤ MAX_PAGE_BYTES → IsPageOf request title input text
-  page_made short = record { body = body; are_data = here; written = as_said; short = short }
-
-  pub page_big : MAX_PAGE_BYTES < length text → IsBigPage request title input
-  page_big big = record { body = body; are_data = here; big = subst (λ (t : List ℕ). MAX_PAGE_BYTES < length t) as_said big }
 
 -- ---- what is told of an input
 

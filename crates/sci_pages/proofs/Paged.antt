@@ -55,29 +55,6 @@ pub record IsPagedTo (front : List ℕ) (request : ChartRequest) (all : List Pla
   pub ends : (rest : List ℕ) → AreParts (left_of request core number left) rest → AreParts all (parts ++ rest)
   pub counted : length all ≡ count + length (left_of request core number left)
 
--- none yet
-pub paged_first : (front : List ℕ) (request : ChartRequest) (core : Core) (number : ℕ) (events : List Event)
-    → IsPagedTo front request (left_of request core number events) front core number events 0
-paged_first front request core number events = record {
-  parts = [];
-  written = sym (append-nil front);
-  ends = λ (rest : List ℕ) parts. parts;
-  counted = omega arith;
-}
-
--- an event that isn't asked for
-pub paged_past : (front : List ℕ) (request : ChartRequest) (all : List Place) (text : List ℕ) (core : Core) (number : ℕ) (events : List Event) (k : ℕ)
-    (d : Event) (count : ℕ) → k < length events → is_shown request (place_of core number (get_or events k d)) ≡ false
-    → IsPagedTo front request all text core number (drop k events) count
-    → IsPagedTo front request all text (step core (get_or events k d)) (number + 1) (drop (k + 1) events) count
-paged_past front request all text core number events k d count lt hidden was =
-    let same = first_left request core number events k d false lt hidden in record {
-      parts = was.parts;
-      written = was.written;
-      ends = λ (rest : List ℕ) parts. was.ends rest (subst (λ (ps : List Place). AreParts ps rest) (sym same) parts);
-      counted = was.counted ∙ ap (λ (ps : List Place). count + length ps) same;
-    }
-
 -- one event more
 pub paged_more : (front : List ℕ) (request : ChartRequest) (all : List Place) (text new : List ℕ) (core : Core) (number : ℕ) (events : List Event) (k : ℕ)
     (d : Event) (count : ℕ) (first : List ℕ) → k < length events → is_shown request (place_of core number (get_or events k d)) ≡ true
@@ -108,11 +85,3 @@ paged_all front request all text core number events k count past was =
       omega (arith, counted),
       was.written,
     )
-
--- one event more than these
-pub paged_over : (front : List ℕ) (request : ChartRequest) (all : List Place) (text : List ℕ) (core : Core) (number : ℕ) (events : List Event) (k : ℕ)
-    (d : Event) (count : ℕ) → k < length events → is_shown request (place_of core number (get_or events k d)) ≡ true
-    → IsPagedTo front request all text core number (drop k events) count → count < length all
-paged_over front request all text core number events k d count lt shown was =
-    let long = ap (λ (ps : List Place). length ps) (first_left request core number events k d true lt shown) in
-    let counted = was.counted in omega (arith, counted, long)

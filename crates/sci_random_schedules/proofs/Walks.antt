@@ -59,10 +59,3 @@ pub within_of : (schedule : ScheduleValue) (here size : Size) (event : Event) �
 within_of schedule here size event nodes lines same within =
     subst (λ (k : ℕ). IsEventWithin k schedule.lines event) (sym nodes)
     (subst (λ (k : ℕ). IsEventWithin size.nodes k event) (sym lines) (subst (λ (s : Size). IsEventWithin s.nodes s.lines event) same within))
-
-pub walks_on : (share : ℕ) (first here next : Core) (begun state later : List ℕ) (events : List Event) (event : Event) → next ≡ step here event
-    → ((more : List Event) → Walks share here state more → Walks share first begun (events ++ more)) → IsNext share here state event later
-    → (more : List Event) → Walks share next later more → Walks share first begun ((events ++ event ∷ []) ++ more)
-walks_on share first here next begun state later events event is so_far drawn more rest =
-    subst (λ (es : List Event). Walks share first begun es) (sym (append_assoc events (event ∷ []) more))
-    (so_far (event ∷ more) (later, drawn, subst (λ (c : Core). Walks share c later more) is rest))

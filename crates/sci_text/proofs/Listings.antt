@@ -50,20 +50,6 @@ module _ {V X : Type 0} (G : Listing V X) where
   pub line_shrinks : (x : X) (bytes rest : List ℕ) → bytes ≡ G.line.print x ++ rest → length rest < length bytes
   line_shrinks x bytes rest parts = omega (arith, ap length parts, length-append (G.line.print x) rest, G.line.nonempty x)
 
-  -- a faulty line behind the text of a value is the first
-  pub line_told : (v : V) (input rest : List ℕ) (kind : TextFaultKind) (line : ℕ) (told : TextFault) → begins input v rest → 0 < length rest
-      → line ≡ length (G.items v) + 2
-      → IsToldAt line kind told → (kind ≡ Memory) ⊎ fault v rest kind → IsRefusal is_first input told
-  line_told v input rest kind line told right some place at faulty =
-      told_at is_first kind input told line at (elim faulty [
-        | inl memory ↦ inl memory
-        | inr wrong ↦
-            inr (
-              line_fault_is (λ x. Says rest (G.line.print x)) (G.Within (G.size v)) (G.is_full v) kind wrong,
-              inr (record { before = v; rest = rest; right = right; more = some; place = omega arith; wrong = wrong }),
-            )
-      ])
-
   pub line_unsaid : (v : V) (bytes : List ℕ) (read : Option (Option X × Bor (List ℕ))) → G.IsGood v → Gives read_of read (G.line.read bytes)
       → (kind : TextFaultKind) → IsUnsaid bytes (option_map read_of read) kind → fault v bytes kind
   line_unsaid v bytes read good gives = said_fault G.line (G.Within (G.size v)) (G.is_full v) (G.fits v good) bytes read gives

@@ -25,11 +25,6 @@ use Rattle.sci_threads.specs.Shares.{AreLedTo, own_of}
 
 -- ---- sizes
 
--- what leads the one leads the other
-pub led_for : (extent : Extent) (script : ScriptValue) (core : Core) → extent.nodes ≡ script.nodes → extent.lines ≡ script.lines
-    → extent.slots ≡ script.slots → IsLedTo (size_of extent MAX_OPERATIONS) core → IsLedTo (size_for script) core
-led_for extent script core nodes lines slots = subst (λ (z : Size). IsLedTo z core) (sized_for extent script nodes lines slots)
-
 -- ---- lists
 
 -- what holds of each element holds of the one that stands at a place

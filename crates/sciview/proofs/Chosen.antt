@@ -84,14 +84,6 @@ IsAsked verb given asked = (command : Command) (named : Named)
     → (option_map shown_in asked ≡ Some (command, named)) ↔ Asks verb given.settings.items (texts given.alone.items) command named
 
 module _ (verb : Verb) (words : List (List ℕ)) where
-  pub help_chosen : (choice : Choice) → IsHelp words → shown_in choice ≡ (commands.Help (Some verb), no_names) → IsChosenBy (ChoosesOf verb words) (Ok choice)
-  help_chosen choice help shown command named = (
-    λ chosen. elim chosen [
-      | inl here ↦ shown ∙ ap (λ (c : Command). (c, no_names)) (sym here.1) ∙ ap (λ (f : Named). (command, f)) (sym here.2)
-      | inr there ↦ absurd (there.0 help)
-    ],
-    λ same. let whole = sym shown ∙ same in inl (help, sym (ap (λ p. p.0) whole), sym (ap (λ p. p.1) whole)),
-  )
 
   pub none_read : (wrong : Wrong) (complaint : Complaint) → ¬ (IsHelp words) → IsReading (options_of verb) words (Err wrong)
       → is_refused complaint ≡ lacks_memory wrong → IsChosenBy (ChoosesOf verb words) (Err complaint)
@@ -165,24 +157,11 @@ no_verb verb word words rest option a b =
     let plain = ap begins_option same ∙ verbs_begin verb in
     absurd (cc)
 
-help_is_no_verb : (verb : Verb) (words rest : List (List ℕ)) → IsHelp words → words ≡ verb_word verb ∷ rest → ⊥
-help_is_no_verb verb words rest (inl is) at = no_verb verb (codes "--help") words rest refl is at
-help_is_no_verb verb words rest (inr is) at = no_verb verb (codes "-h") words rest refl is at
-
 version_is_no_help : (words : List (List ℕ)) → words ≡ codes "--version" ∷ [] → ¬ (IsHelp words)
 version_is_no_help words is (inl help) = let same : codes "--version" ≡ codes "--help" = ap head (sym is ∙ help) in absurd (cc)
 version_is_no_help words is (inr help) = let same : codes "--version" ≡ codes "-h" = ap head (sym is ∙ help) in absurd (cc)
 
 module _ (words : List (List ℕ)) where
-  pub all_help : (choice : Choice) → IsHelp words → shown_in choice ≡ (commands.Help None, no_names) → IsChosenBy (Chooses words) (Ok choice)
-  all_help choice help shown command named = (
-    λ chosen. elim chosen [
-      | inl here ↦ shown ∙ ap (λ (c : Command). (c, no_names)) (sym here.1) ∙ ap (λ (f : Named). (command, f)) (sym here.2)
-      | inr (inl version) ↦ absurd (version_is_no_help words version.0 help)
-      | inr (inr there) ↦ absurd (help_is_no_verb there.0 words there.1 help there.2)
-    ],
-    λ same. let whole = sym shown ∙ same in inl (help, sym (ap (λ p. p.0) whole), sym (ap (λ p. p.1) whole)),
-  )
 
   pub version : (choice : Choice) → words ≡ codes "--version" ∷ [] → shown_in choice ≡ (commands.Version, no_names) → IsChosenBy (Chooses words) (Ok choice)
   version choice is shown command named = (

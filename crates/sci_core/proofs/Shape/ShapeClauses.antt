@@ -8,9 +8,9 @@ use Rattle.sci_words.specs.{declared.stamped.Stamped.{Stamped}, Stamped.{zero_st
 use Rattle.sci_packets.specs.{declared.body.Body.{Body}, Table.{is_request}}
 use Rattle.sci_home.specs.{declared.state.HomeState.{HomeState}, Serving.{current_of}}
 use Rattle.sci_cache.specs.State.{CacheState, Asking, Joining, FreshJoining, Returning, Rolling, Telling, contents_of}
-use Rattle.sci_cache.specs.{Accepting.{accepting}, Member.{link_of}, Cache.{Letter, line_of}}
+use Rattle.sci_cache.specs.{Accepting.{accepting}, Kinds.{joins}, Member.{link_of}, Cache.{Letter, line_of}}
 use Rattle.sci_core.specs.Core.{Core, node_at}
-use Rattle.sci_core.specs.Shape.{comes, follows, state_at, IsAuthority, IsSplit, HasOneAuthority, HasAuthorities, HaveContents, is_home_fresh, IsGoneStale}
+use Rattle.sci_core.specs.Shape.{follows, state_at, IsAuthority, IsSplit, HasOneAuthority, HasAuthorities, HaveContents, is_home_fresh, IsGoneStale}
 use Rattle.sci_core.specs.Shape.{HasShape}
 use Rattle.sci_core.specs.Sharing.{packets_of, answer_in, settled_at, all_settled, home_at, first_authority, last_at}
 use Rattle.sci_core.specs.{Sharing.{answer_to as told}, Tidy.{IsSentIn, HasItsPackets, IsTidy, IsAccepted}}
@@ -50,7 +50,7 @@ pub record Follower (state : CacheState) : Type 0 where
 -- what a role says of a state
 abbrev pub Standing : Option Role → CacheState → Type 0
 Standing None state = Unit {0}
-Standing (Some Coming) state = comes state ≡ true
+Standing (Some Coming) state = joins state ≡ true
 Standing (Some Leading) state = Leader state
 Standing (Some Following) state = Follower state
 
@@ -281,7 +281,7 @@ split_parts core line home c ns before a after is split =
     (subst (IsLed (view_of core line) c (is_home_fresh home)) split.whole (split_led core line home c ns a split.authority is))
 
 all_coming : (core : Core) (line : ℕ) (ns : List ℕ) → AllByRecursion (λ n. role_in (view_of core line) n ≡ Some Coming) ns
-    → AllByRecursion (λ n. comes (settled_at core line n) ≡ true) ns
+    → AllByRecursion (λ n. joins (settled_at core line n) ≡ true) ns
 all_coming core line [] all = tt
 all_coming core line (n ∷ ns) all = (stands_as (settled_at core line n) (Some Coming) all.0, all_coming core line ns all.1)
 
