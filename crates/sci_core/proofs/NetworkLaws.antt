@@ -1,5 +1,5 @@
 -- The laws of a network that keeps no order.
-use Rattle.std.proofs.Common.{◌≡◌, ℕ, ◌<◌, ◌≤◌, ◌==◌, ◌&&◌, Bool, true, false, List, [], ◌∷◌, ◌++◌, length, filter, drop, set, cond}
+use Rattle.std.proofs.Common.{◌≡◌, ℕ, ◌<◌, ◌≤◌, ◌==◌, ◌&&◌, Bool, true, false, List, [], ◌∷◌, ◌++◌, length, filter, drop, set, cond, arith}
 use Rattle.std.proofs.Common.{Some, None, zero, suc, refl, sym, ap, subst, ◌∙◌}
 use Rattle.std.proofs.lemmas.{Bool.{eq-eqb}, List.{get_or-set_same}, List.Elements.{All-head, All-tail, All-weaker}}
 use Rattle.std.proofs.Math.Seq.{drop-append_seam, take-append_seam}
@@ -24,13 +24,7 @@ use Rattle.sci_words.specs.declared.event.Event.TheVariants as event
 
 -- where moves lead is reachable
 pub moves_reachable : (size : Size) (moves : List Move) → IsSize size → IsReachable (moved_from (opening size) moves)
-moves_reachable size moves sizes =
-    let same = (moves_well (opening size) moves (opened size sizes)).same in
-    record {
-      size = subst IsSize (sym same) sizes;
-      moves = moves;
-      leads = subst (λ (s : Size). moved_from (opening s) moves ≡ moved_from (opening size) moves) (sym same) refl;
-    }
+moves_reachable size moves sizes = grind (arith, moves_well, opened)
 
 -- ---- any packet of a lane may be the next
 
@@ -40,10 +34,7 @@ brought_at before rest letter = rw (drop-append_seam before (letter ∷ rest), t
 fronted : (core : Core) (kind : LaneKind) (from n : ℕ) (before rest : List Letter) (letter : Letter) → IsWellFormed core → from < core.size.nodes
     → n < core.size.nodes → lane_of core kind from n ≡ before ++ letter ∷ rest
     → lane_of (overtaken core (lane_place core.size.nodes kind from n) (length before)) kind from n ≡ letter ∷ (before ++ rest)
-fronted core kind from n before rest letter well f lt here =
-    let place = lane_place core.size.nodes kind from n in
-    get_or-set_same core.lanes place (brought (length before) (lane_at core place)) [] (lane_below core kind from n well f lt)
-    ∙ (ap (brought (length before)) here ∙ brought_at before rest letter)
+fronted core kind from n before rest letter well f lt here = grind (arith, get_or-set_same, lane_below, brought_at)
 
 pub accepts_any : (core : Core) (from n : ℕ) (before rest : List Letter) (letter : Letter) → IsReachable core → from < core.size.nodes → n < core.size.nodes
     → lane_of core Answers from n ≡ before ++ letter ∷ rest → IsSome (node_accepting (node_at core n) letter)

@@ -29,9 +29,7 @@ use Rattle.sci_core.proofs.History.ScheduleHistories.{IsKnown, RunLogged, entrie
 -- what holds where moves lead, and of their entries, holds of a schedule, whose events are moves
 by_moves : (P : Core → List Entry → Type 0) (size : Size) (schedule : List Event)
     → P (moved_from (opening size) (map Happens schedule)) (entries_by (opening size) (map Happens schedule)) → P (run size schedule) (done size schedule)
-by_moves P size schedule holds =
-    subst (λ (es : List Entry). P (run size schedule) es) (entries_happen (opening size) schedule)
-    (subst (λ (core : Core). P core (entries_by (opening size) (map Happens schedule))) (moved_happens (opening size) schedule) holds)
+by_moves P size schedule holds = grind (arith, entries_happen, moved_happens)
 
 -- a line's shape where moves lead, and its history
 record Traced (size : Size) (moves : List Move) (line : ℕ) : Type 0 where
@@ -159,9 +157,7 @@ reached_log core reached node = any_log core (reachable core reached) node
 -- and its entries on a line are the line's history
 pub reached_history : (core : Core) (reached : IsReached core) (line : ℕ) → line < core.size.lines
     → IsHistory (filter (is_on_line line) (entries_by (opening core.size) reached.moves)) zero_stamped (last_at core line)
-reached_history core reached line inside =
-    subst (λ (x : Core). IsHistory (filter (is_on_line line) (entries_by (opening core.size) reached.moves)) zero_stamped (last_at x line)) reached.leads
-    (moves_history core.size reached.moves line (is_size core.size reached.size) inside)
+reached_history core reached line inside = grind (arith, moves_history, is_size)
 
 pub last_within : (core : Core) (line : ℕ) → line < core.size.lines → stamped_at (last_of core) line ≡ last_at core line
 last_within core line inside = get_or-map-range_with_len (last_at core) 0 core.size.lines line line zero_stamped inside (omega arith)
@@ -183,9 +179,7 @@ schedule_line size schedule line sizes =
 
 line_history : (core : Core) (reached : IsReachable core) (line : ℕ)
     → IsHistory (filter (is_on_line line) (entries_of core reached)) zero_stamped (stamped_at (last_of core) line)
-line_history core reached line =
-    subst (λ (x : Core). IsHistory (filter (is_on_line line) (entries_of core reached)) zero_stamped (stamped_at (last_of x) line)) reached.leads
-    (moves_line core.size reached.moves line reached.size)
+line_history core reached line = grind (arith, moves_line)
 
 line_logged : (core : Core) (reached : IsReachable core) (line node : ℕ) → node < MAX_NODES
     → filter (is_on_line line) (log_of (logs_of core) node) ≡ filter (is_of_node node) (filter (is_on_line line) (entries_of core reached))
@@ -269,14 +263,7 @@ schedule_order size schedule sizes few =
 -- the entries of the moves that lead to a state are one order of its logs
 pub any_order : (core : Core) (reached : IsReachable core) → core.size.nodes ≤ MAX_NODES
     → IsSequentialOrder (logs_of core) (last_of core) (entries_of core reached)
-any_order core reached few =
-    record {
-      logged = λ node. elim (cases_lt node MAX_NODES) [
-        | inl lt ↦ sym (log_at core node lt ∙ any_log core reached node)
-        | inr past ↦ sym (any_log core reached node) ∙ (beyond_log core node (any_well core reached) (omega arith) ∙ sym (log_beyond core node past))
-      ];
-      histories = λ line. line_history core reached line;
-    }
+any_order core reached few = grind (arith, cases_lt, log_at, any_log, beyond_log, any_well, log_beyond, line_history)
 
 pub reached_order : (core : Core) (reached : IsReached core)
     → IsSequentialOrder (logs_of core) (last_of core) (entries_by (opening core.size) reached.moves)

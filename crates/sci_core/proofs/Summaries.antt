@@ -1,10 +1,9 @@
 -- Dead events, one after another.
-use Rattle.std.proofs.Common.{◌≡◌, ℕ, suc, ◌+◌, ◌<◌, List, [], ◌∷◌, ◌++◌, length, take, get_or, Option, Some, None, refl, sym, ap, ◌∙◌, append_assoc, arith}
-use Rattle.std.proofs.lemmas.List.{append-nil, length-append, length-take-le, take_more, Sums.{fold_more}}
-use Rattle.std.specs.Prelude.{unwrap_or}
+use Rattle.std.proofs.Common.{◌≡◌, ℕ, suc, ◌+◌, ◌<◌, List, [], ◌∷◌, ◌++◌, length, take, get_or, sym, ap, ◌∙◌, append_assoc, arith}
+use Rattle.std.proofs.lemmas.List.{append-nil, length-take-le, take_more, Sums.{fold_more}}
 use Rattle.sci_words.specs.declared.event.Event.{Event}
-use Rattle.sci_core.specs.declared.{dead.DeadEvents.{DeadEvents}, obstacle.Obstacle.{Obstacle}}
-use Rattle.sci_core.specs.{Core.{Core, run_from, step}, Dead.{dead_at, dead_events, obstacle_if_dead, summary}}
+use Rattle.sci_core.specs.declared.{obstacle.Obstacle.{Obstacle}}
+use Rattle.sci_core.specs.{Core.{Core, run_from, step}, Dead.{dead_at, dead_events, obstacle_if_dead}}
 
 -- of one event more
 pub dead_events_more : (core : Core) (place : ℕ) (events : List Event) (e : Event)

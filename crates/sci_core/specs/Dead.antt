@@ -1,5 +1,5 @@
 -- The events of a schedule that aren't enabled when they come.
-use Rattle.std.specs.Prelude.{ℕ, ◌+◌, suc, List, [], ◌∷◌, ◌++◌, length, Option, Some, None, is_some, if◌then◌else◌}
+use Rattle.std.specs.Prelude.{ℕ, suc, List, [], ◌∷◌, ◌++◌, length, Option, Some, None, is_some, if◌then◌else◌}
 use Rattle.sci_words.specs.declared.event.Event.{Event}
 use Rattle.sci_core.specs.declared.{dead.DeadEvents.{DeadEvents}, obstacle.Obstacle.{Obstacle}}
 use Rattle.sci_core.specs.{Core.{Core, step, stepping}, Obstacles.{obstacle_to}}

@@ -144,12 +144,7 @@ never false = refl
 
 not_new : (core new : Core) (line n : ℕ) → (role_in (view_of new line) n ≡ Some Leading → role_in (view_of core line) n ≡ Some Leading)
     → (not (is_authority core line n) && is_authority new line n) ≡ false
-not_new core new line n so =
-    elim (cases_Bool (is_authority new line n)) [
-      | inl yes_ ↦ let was : is_authority core line n ≡ true = leads_authority core line n (so (authority_leads new line n yes_)) in
-          ap (λ (b : Bool). not b && is_authority new line n) was
-      | inr no_ ↦ ap (λ (b : Bool). not (is_authority core line n) && b) no_ ∙ never (not (is_authority core line n))
-    ]
+not_new core new line n so = grind (arith, cases_Bool, leads_authority, authority_leads, never)
 
 successors_are : (core new : Core) (line : ℕ) (who : List ℕ) → IsWellFormed new → new.size ≡ core.size → Succeeds (view_of core line) (view_of new line) who
     → successors core new line ≡ who

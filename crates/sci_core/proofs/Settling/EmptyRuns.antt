@@ -3,7 +3,7 @@ use Rattle.std.proofs.{Common.{◌≡◌, ℕ, ◌+◌, ◌*◌, ◌<◌, ◌≤
 use Rattle.std.proofs.lemmas.{Bool.{cases_lt}, List.{get_or_past}}
 use Rattle.sci_words.specs.declared.event.{AskKind.{AskKind}, Event.{Event}}
 use Rattle.sci_cache.specs.State.{Out}
-use Rattle.sci_core.specs.{Core.{Core, node_at}, Draining.{IsDrained}, Reached.{IsReached}}
+use Rattle.sci_core.specs.{Core.{Core}, Draining.{IsDrained}, Reached.{IsReached}}
 use Rattle.sci_core.specs.{Rounds.{AreOut, IsNext, IsRound, rank}, Settling.{KeepsPending, Leads, LeadsOn, exchanges, pending_count}}
 use Rattle.sci_core.specs.Shape.{state_at}
 use Rattle.sci_core.proofs.Settling.{Emptying.{next_lowers}, Leading.{leads_join, leads_on}}

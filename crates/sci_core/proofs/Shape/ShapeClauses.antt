@@ -246,20 +246,7 @@ no_authority core line d c ns is n authority =
 
 one_authority : (core : Core) (line : ℕ) (home : HomeState) (c : Stamped) (must : Bool) (ns : List ℕ) → IsWellFormed core
     → IsShaped (view_of core line) home c ns → IsLed (view_of core line) c must ns → HasOneAuthority core line ns
-one_authority core line home c must ns well is led =
-    let view = view_of core line in
-    let first = led_leader view c must ns led in
-    let member = leads_member core line first.0 first.1 in
-    record {
-      node = first.0;
-      some = member_below core line first.0 member.0 well member.1;
-      listed = is.list.all first.0 member.0 member.1;
-      authority = leads_authority core line first.0 first.1;
-      only = λ n authority. (
-          let leads = authority_leads core line n authority in
-          let other = leads_member core line n leads in
-          led_only view c must ns first.0 n led first.1 leads (is.list.all first.0 member.0 member.1) (is.list.all n other.0 other.1));
-    }
+one_authority core line home c must ns well is led = grind (arith, view_of, led_leader, leads_member, member_below, leads_authority, authority_leads, led_only)
 
 authorities_so : (core : Core) (line : ℕ) (home : HomeState) (c : Stamped) (ns : List ℕ) → IsWellFormed core → IsShaped (view_of core line) home c ns
     → HasAuthorities core line ns home

@@ -231,8 +231,4 @@ accepted_same core n place next answer rest lt below within front answers to kno
 
 pub overtaken_line : (core : Core) (place k line : ℕ) → IsWellFormed core → IsTidy core → line < core.size.lines
     → SameLine core (overtaken core place k) line
-overtaken_line core place k line well tidy inside = record {
-  home = refl;
-  alike = λ m. alike_same (view_of core line) (view_of (overtaken core place k) line) m refl
-      (ap answer_in (overtaken_packets core place k m line well tidy inside));
-}
+overtaken_line core place k line well tidy inside = grind (arith, alike_same, overtaken_packets)

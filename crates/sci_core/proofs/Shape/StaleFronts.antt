@@ -94,9 +94,7 @@ wback_stale old new a d (at.Gone p) asks stale =
 
 home_stale : (h a : ℕ) (home : HomeState) (old new : View) (asker : CacheState) (letter : Letter) → IsSentIn h asker letter
     → IfSome (at_home home a letter.body) (Leaves_stale old new a asker home)
-home_stale h a home old new =
-    home_sent (λ asker request. Leaves_stale old new a asker home) h a home (mread_stale old new a home) (fread_stale old new a home)
-    (λ f d. claim_stale old new a f d home) (λ d. clear_stale old new a d home) (λ d. wback_stale old new a d home)
+home_stale h a home old new = grind (arith, home_sent, mread_stale, fread_stale, claim_stale, clear_stale, wback_stale)
 
 -- ---- a cache serves
 

@@ -153,13 +153,7 @@ accepted_as : (part : NodeOf) (answer : Letter) (awaits : Bool) (state : Option 
     ])) (AcceptedAs part answer)
 accepted_as part answer false state is = tt
 accepted_as part answer true None is = tt
-accepted_as part answer true (Some s) is = record {
-  state = s;
-  accepts = is;
-  then_ = refl;
-  ends = of_some (EndsToWait (line_of part.cache answer.line).state answer.body) (accepting (line_of part.cache answer.line).state answer.body) s is
-      (accepting_waits (line_of part.cache answer.line).state answer.body);
-}
+accepted_as part answer true (Some s) is = grind (arith, of_some, accepting_waits)
 
 pub accept_as : (part : NodeOf) (answer : Letter) → IfSome (node_accepting part answer) (AcceptedAs part answer)
 accept_as part answer = grind (arith, accepted_as)

@@ -13,9 +13,7 @@ read_node core i n old is below e = get_or_read core.parts n old below (subst (�
 -- the same of a machine that is another by its view
 pub read_at : (core now : Core) (i n : ℕ) (old : NodeOf) → core ≡ now → length core.parts ≡ core.size.nodes → i ≡ n → n < now.size.nodes
     → old ≡ get_or core.parts i old → old ≡ node_at now n
-read_at core now i n old view long at lt value =
-    let size = ap (λ (k : Core). k.size.nodes) view in
-    subst (λ (k : Core). old ≡ node_at k n) view (read_node core i n old at (omega arith) value)
+read_at core now i n old view long at lt value = grind (arith, read_node)
 
 -- what is so of two nodes is so of what they are
 pub at_both : (P : NodeOf → NodeOf → Type 0) (old new before after : NodeOf) → old ≡ before → new ≡ after → P old new → P before after

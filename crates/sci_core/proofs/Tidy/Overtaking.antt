@@ -1,6 +1,6 @@
 -- A packet that overtakes others of its lane leaves a state tidy: of a node's asks about a line a lane has one packet at most, so
 -- its order says nothing of them.
-use Rattle.std.proofs.Common.{◌≡◌, ℕ, ◌*◌, ◌%◌, ◌<◌, ◌≤◌, Bool, true, false, List, [], ◌∷◌, ◌++◌, length, filter, take, drop, refl, sym, ap, subst, ◌∙◌, arith}
+use Rattle.std.proofs.Common.{◌≡◌, ℕ, ◌%◌, ◌<◌, ◌≤◌, Bool, true, false, List, [], ◌∷◌, ◌++◌, length, filter, take, drop, refl, sym, ap, subst, ◌∙◌, arith}
 use Rattle.std.proofs.{Common.{inl, inr}, lemmas.{Bool.{cases_Bool, cases_lt}, List.{take-append-drop, length-append, set_past}}}
 use Rattle.std.proofs.lemmas.List.Elements.{filter-append, All-head, All-tail}
 use Rattle.std.specs.List.{All, flat_map}
@@ -30,19 +30,10 @@ parts_of : (k : ℕ) (lane : List Letter) → take k lane ++ (take 1 (drop k lan
 parts_of k lane = ap (λ (ls : List Letter). take k lane ++ ls) (take-append-drop 1 (drop k lane)) ∙ take-append-drop k lane
 
 brought_same : (q : Letter → Bool) (k : ℕ) (lane : List Letter) → length (filter q lane) ≤ 1 → filter q (brought k lane) ≡ filter q lane
-brought_same q k lane few =
-    let a = take k lane in
-    let b = take 1 (drop k lane) in
-    let c = drop 1 (drop k lane) in
-    let is : filter q lane ≡ filter q a ++ (filter q b ++ filter q c) = ap (filter q) (sym (parts_of k lane)) ∙ filter_thrice q a b c in
-    let small : length (filter q a ++ (filter q b ++ filter q c)) ≤ 1 = subst (λ (ls : List Letter). length ls ≤ 1) is few in
-    filter_thrice q b a c ∙ (swapped (filter q a) (filter q b) (filter q c) small ∙ sym is)
+brought_same q k lane few = grind (arith, parts_of, filter_thrice, swapped)
 
 letter_of_lane : (nodes lines place : ℕ) (letter : Letter) → IsInLane nodes lines place letter → IsLetter nodes lines letter
-letter_of_lane nodes lines place letter is = elim (cases_lt place (nodes * nodes)) [
-  | inl below ↦ (is.request below).letter_ok
-  | inr past ↦ (is.answer past).letter_ok
-]
+letter_of_lane nodes lines place letter is = grind (arith, cases_lt)
 
 asker_below : (nodes lines : ℕ) (letter : Letter) (asks : Bool) → is_request letter.body ≡ asks → IsLetter nodes lines letter → asker_of letter < nodes
 asker_below nodes lines letter true e is = subst (λ (n : ℕ). n < nodes) (sym (request_asker letter e)) is.source
@@ -50,13 +41,7 @@ asker_below nodes lines letter false e is = subst (λ (n : ℕ). n < nodes) (sym
 
 -- no packet is of a node that the machine doesn't have
 stranger : (nodes lines m line : ℕ) (letter : Letter) → nodes ≤ m → IsLetter nodes lines letter → is_about m line letter ≡ false
-stranger nodes lines m line letter past is = elim (cases_Bool (is_about m line letter)) [
-  | inl about ↦
-      let below = asker_below nodes lines letter (is_request letter.body) refl is in
-      let at = about_asker m line letter about in
-      absurd (omega arith)
-  | inr other ↦ other
-]
+stranger nodes lines m line letter past is = grind (arith, cases_Bool, asker_below, about_asker)
 
 none_in : (nodes lines place m line : ℕ) (lane : List Letter) → nodes ≤ m → All (IsInLane nodes lines place) lane → filter (is_about m line) lane ≡ []
 none_in nodes lines place m line [] past all = refl
@@ -104,6 +89,4 @@ overtaken_packets core place k m line well tidy inside = elim (cases_lt place (l
 ]
 
 pub overtaken_tidy : (core : Core) (place k : ℕ) → IsWellFormed core → IsTidy core → IsTidy (overtaken core place k)
-overtaken_tidy core place k well tidy n line lt inside =
-    subst (HasItsPackets (line % core.size.nodes) (line_of (node_at core n).cache line)) (sym (overtaken_packets core place k n line well tidy inside))
-    (tidy n line lt inside)
+overtaken_tidy core place k well tidy n line lt inside = grind (arith, overtaken_packets)

@@ -162,17 +162,4 @@ answers_few core n reached lt =
     omega arith
 
 pub queues_fit : (core : Core) (n : ℕ) → IsReachable core → n < core.size.nodes → FitsQueues core n
-queues_fit core n reached lt =
-    let by_lines : (m : ℕ) → m < core.size.nodes → of_node core m ≤ core.size.lines =
-    λ m below. (let packets = node_packets core m reached below in let all = node_lines core m in omega arith) in
-    let by_slots : (m : ℕ) → m < core.size.nodes → of_node core m ≤ core.size.slots =
-    λ m below. (let packets = node_packets core m reached below in let all = node_slots core m reached below in omega arith) in
-    let answers = answers_few core n reached lt in
-    let lines = by_lines n lt in
-    let slots = by_slots n lt in
-    record {
-      answers_by_lines = omega arith;
-      answers_by_slots = omega arith;
-      all_by_lines = all_few core n core.size.lines reached lt by_lines;
-      all_by_slots = all_few core n core.size.slots reached lt by_slots;
-    }
+queues_fit core n reached lt = grind (arith, of_node, node_packets, node_lines, node_slots, answers_few, all_few)

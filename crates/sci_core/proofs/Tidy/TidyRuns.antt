@@ -33,11 +33,7 @@ waiting_answers size n next answer waits is = grind arith
 took_tidy : (core new : Core) (taking : NodeOf → Letter → Option NodeOf) (t : Taken core new Requests taking) → IsWellFormed core → IsTidy core
     → IfSome (taking (node_at core t.node) t.letter) (Answers core.size.nodes t.letter (node_at core t.node))
     → IfSome (taking (node_at core t.node) t.letter) (IsPart core.size t.node) → IsTidy new
-took_tidy core new taking t well tidy answers is =
-    let made = taking (node_at core t.node) t.letter in
-    let answers_ = of_some (Answers core.size.nodes t.letter (node_at core t.node)) made t.next t.takes answers in
-    let part = of_some (IsPart core.size t.node) made t.next t.takes is in
-    grind (arith, served_tidy, node_below, waiting_answers)
+took_tidy core new taking t well tidy answers is = grind (arith, of_some, served_tidy, node_below, waiting_answers)
 
 stepped_tidy : (core new : Core) (e : Event) (made : Option Entry) → IsWellFormed core → IsTidy core → Stepped core e made new → IsTidy new
 stepped_tidy core new e made well tidy (By_issue n op next event lt is then_ none) = grind (arith, changed_tidy, of_some, issue_stays)
