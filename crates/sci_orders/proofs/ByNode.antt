@@ -2,7 +2,7 @@
 use Rattle.std.proofs.Common.{◌≡◌, ◌==◌, ◌&&◌, ◌<◌, ◌≤◌, ◌+◌, ◌*◌, ◌-◌, ℕ, zero, suc, Bool, true, false, if◌then◌else◌, List, [], ◌∷◌, ◌++◌, length}
 use Rattle.std.proofs.Common.{cond, take, take_all, nat_lt, refl, sym, ap, subst, ◌∙◌, arith, inl, inr}
 use Rattle.std.proofs.lemmas.{Bool.{cases_eq, cases_lt, eq-eqb, eqb-true, le-ltb, lt-ltb, ne_eqb}, List.{get_or_past, Sums.{fold_push, sum_by_more}}}
-use Rattle.std.specs.{List.{AllByRecursion, filter, sum_by}, Prelude.{IsSome, Option, is_some}}
+use Rattle.std.specs.{List.{AllByRecursion, filter, sum_by}, Prelude.{IsSome, is_some}}
 use Rattle.sci_history.proofs.Order.{all-filter, filter_no, filter_yes}
 use Rattle.sci_words.specs.declared.{event.Event.{Event}, operation.Op.{Op}}
 use Rattle.sci_core.specs.{Core.{AreEnabled, Core, node_of, opening, run, step, stepping}, Size.{IsSize, Size}}
@@ -74,13 +74,7 @@ passed window f e es false on few = few
 -- if an event of node m comes, for each node
 moved : (window m : ℕ) (e : Event) (es : List Event) (f g : ℕ → ℕ) → node_of e ≡ m → ((n : ℕ) → (n ≡ m → ⊥) → f n ≡ g n)
     → AreFew window g (own_events m es) → ((n : ℕ) → AreFew window f (own_events n (e ∷ es))) → (n : ℕ) → AreFew window g (own_events n es)
-moved window m e es f g own same mine each n = elim (cases_eq n m) [
-  | inl here ↦ subst (λ (k : ℕ). AreFew window g (own_events k es)) (sym here) mine
-  | inr apart ↦
-      let other : (node_of e == n) ≡ false = ne_eqb (node_of e) n (λ is. apart (sym is ∙ own)) in
-      few_same window n (own_events n es) f g (same n apart) (all_own n es)
-      (subst (AreFew window f) (filter_no (λ (x : Event). node_of x == n) e es other) (each n))
-]
+moved window m e es f g own same mine each n = grind (arith, cases_eq, ne_eqb, few_same, all_own, filter_no)
 
 few_by_node : (window : ℕ) (events : List Event) (f : ℕ → ℕ) → ((n : ℕ) → AreFew window f (own_events n events)) → AreFew window f events
 few_by_node window [] f each = tt
@@ -114,13 +108,7 @@ abbrev below : ℕ → List Event → List Event
 below n events = filter (λ e. nat_lt (node_of e) n) events
 
 bits : (m n : ℕ) → cond {A = ℕ} (nat_lt m (suc n)) 1 0 ≡ cond {A = ℕ} (nat_lt m n) 1 0 + cond {A = ℕ} (m == n) 1 0
-bits m n = elim (cases_lt m n) [
-  | inl lt ↦ rw (lt-ltb m (suc n) (omega arith), lt-ltb m n lt, ne_eqb m n (λ e. absurd (omega (arith, e, lt)))) refl
-  | inr le ↦ elim (cases_eq m n) [
-    | inl here ↦ rw (lt-ltb m (suc n) (omega (arith, here)), le-ltb m n le, eq-eqb m n here) refl
-    | inr apart ↦ rw (le-ltb m (suc n) (omega (arith, le, apart)), le-ltb m n le, ne_eqb m n apart) refl
-  ]
-]
+bits m n = grind (arith, cases_lt, lt-ltb, ne_eqb, cases_eq, le-ltb, eq-eqb)
 
 one_kept : (e : Event) (es : List Event) (b : Bool) → length (if b then e ∷ es else es) ≡ cond {A = ℕ} b 1 0 + length es
 one_kept e es true = omega arith
@@ -222,10 +210,7 @@ seen_enabled size events enabled = seen_on size [] events enabled
 
 -- each event is of a node of the machine
 within_node : (core : Core) (e : Event) → IsSome (stepping core e) → node_of e < core.size.nodes
-within_node core e some = elim (cases_lt (node_of e) core.size.nodes) [
-  | inl lt ↦ lt
-  | inr past ↦ absurd (let no = subst (λ (o : Option Core). IsSome o) (stepping_nobody core e past) some in cc)
-]
+within_node core e some = grind (arith, cases_lt, stepping_nobody)
 
 nodes_on : (size : Size) (known events : List Event) → IsSize size → AreEnabled size known events → AllByRecursion (λ e. node_of e < size.nodes) events
 nodes_on size known [] sizes enabled = tt

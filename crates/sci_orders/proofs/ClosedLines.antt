@@ -1,5 +1,5 @@
 -- Where a line is closed, an operation that waits there may be performed before anything else is done.
-use Rattle.std.proofs.Common.{◌≡◌, ◌≢◌, ℕ, zero, suc, ◌<◌, ◌≤◌, ◌&&◌, nat_eq, nat_lt, not, List, length, set, get_or, refl, sym, ap, subst, ◌∙◌, arith}
+use Rattle.std.proofs.Common.{◌≡◌, ◌≢◌, ℕ, zero, suc, ◌<◌, ◌≤◌, nat_eq, List, length, refl, sym, ap, subst, ◌∙◌, arith}
 use Rattle.std.proofs.Common.{Some, inl, inr}
 use Rattle.std.proofs.lemmas.{Bool.{and_parts, cases_eq}, List.{get_or-set_other}}
 use Rattle.sci_orders.proofs.Changes.{answer_given, issued_apart, issued_length, issued_other, list_below, performed_apart, performed_length, performed_other}
@@ -7,10 +7,9 @@ use Rattle.sci_orders.proofs.Changes.{performed_own, waiting_before, waiting_bel
 use Rattle.sci_orders.proofs.Eager.{Issues, Leads, Performs, issued_performed, may_after, may_same, may_step, set_again, set_apart, step_is, waits_step}
 use Rattle.sci_orders.proofs.{Following.{free_of, not_true}, Issuing.{IsFree}, Progress.{AreAnswered}, Reaching.{step_fits}}
 use Rattle.sci_orders.specs.Eager.{MayIssue}
-use Rattle.sci_orders.specs.Positions.{AreWithin, Fits, Operations, Position, answer_at, answer_of, answers_of, is_blocked, operation_at, own_of, step_at}
-use Rattle.sci_orders.specs.Positions.{waiting_at}
+use Rattle.sci_orders.specs.Positions.{AreWithin, Fits, Operations, Position, answer_at, answers_of, operation_at, own_of, step_at}
 use Rattle.sci_orders.specs.Positions.{with_issued_at, with_performed_at, word_place}
-use Rattle.sci_words.specs.{Operation.{effect}, declared.{operation.Op.{Op}}}
+use Rattle.sci_words.specs.{declared.{operation.Op.{Op}}}
 use Rattle.sci_orders.specs.declared.standing.Answer.{Answer}
 use Rattle.sci_orders.specs.declared.standing.Answer.TheVariants as answer
 
@@ -83,47 +82,16 @@ module _ (operations : Operations) (window : ℕ) (p r : Position) (line n i : �
 performed_twice : (op other : Op) (p : Position) (n i m j : ℕ) → n < length p.answers → m < length p.answers → ((m ≡ n) × (j ≡ i) → ⊥)
     → word_place other ≢ word_place op
     → with_performed_at other (with_performed_at op p n i) m j ≡ with_performed_at op (with_performed_at other p m j) n i
-performed_twice op other p n i m j lt known apart words =
-    let at = λ (o : Op). get_or p.words (word_place o) 0 in
-    let word = λ (o : Op). (effect o (at o)).0 in
-    let one = set (answers_of p n) i (answer_given op p) in
-    let two = set (answers_of p m) j (answer_given other p) in
-    let first = with_performed_at op p n i in
-    let second = with_performed_at other p m j in
-    let seen : get_or first.words (word_place other) 0 ≡ at other = get_or-set_other p.words (word_place op) (word_place other) (word op) 0 words in
-    let back : get_or second.words (word_place op) 0 ≡ at op =
-    get_or-set_other p.words (word_place other) (word_place op) (word other) 0 (λ e. words (sym e)) in
-    let position = λ (as_ : List (List Answer)) (ws : List ℕ). let q : Position = record { answers = as_; words = ws } in q in
-    let memory : set (set p.words (word_place op) (word op)) (word_place other) (word other) ≡ set (set p.words (word_place other) (word other)) (word_place op)
-    (word op) = set_apart p.words (word_place op) (word_place other) (word op) (word other) (λ e. words (sym e)) in
-    let answers : set first.answers m (set (answers_of first m) j (answer_given other p))
-    ≡ set second.answers n (set (answers_of second n) i (answer_given op p)) = elim (cases_eq m n) [
-      | inl e ↦
-          let places : i ≢ j = λ same. apart (e, sym same) in
-          let mine : answers_of first m ≡ set (answers_of p m) i (answer_given op p) =
-          ap (λ (k : ℕ). answers_of (with_performed_at op p k i) m) (sym e) ∙ performed_own op p m i known in
-          let theirs : answers_of second n ≡ set (answers_of p n) j (answer_given other p) =
-          ap (λ (k : ℕ). answers_of (with_performed_at other p k j) n) e ∙ performed_own other p n j lt in
-          ap (λ (as_ : List Answer). set first.answers m (set as_ j (answer_given other p))) mine
-          ∙ (ap (λ (k : ℕ). set (set p.answers n one) k (set (set (answers_of p k) i (answer_given op p)) j (answer_given other p))) e
-          ∙ (set_again p.answers n one (set (set (answers_of p n) i (answer_given op p)) j (answer_given other p))
-          ∙ (ap (set p.answers n) (set_apart (answers_of p n) i j (answer_given op p) (answer_given other p) places)
-          ∙ (sym (set_again p.answers n (set (answers_of p n) j (answer_given other p))
-          (set (set (answers_of p n) j (answer_given other p)) i (answer_given op p)))
-          ∙ (ap (λ (k : ℕ). set (set p.answers k (set (answers_of p k) j (answer_given other p))) n
-          (set (set (answers_of p n) j (answer_given other p)) i (answer_given op p))) (sym e)
-          ∙ ap (λ (as_ : List Answer). set second.answers n (set as_ i (answer_given op p))) (sym theirs))))))
-      | inr other_node ↦
-          ap (λ (as_ : List Answer). set first.answers m (set as_ j (answer_given other p))) (performed_apart op p n i m other_node)
-          ∙ (set_apart p.answers n m one two (λ e. other_node (sym e))
-          ∙ ap (λ (as_ : List Answer). set second.answers n (set as_ i (answer_given op p))) (sym (performed_apart other p m j n (λ e. other_node (sym e)))))
-    ] in
-    ap (λ (w : ℕ). position (set first.answers m (set (answers_of first m) j (answer_of (effect other w).1)))
-    (set first.words (word_place other) (effect other w).0)) seen
-    ∙ (ap (λ (as_ : List (List Answer)). position as_ (set first.words (word_place other) (word other))) answers
-    ∙ (ap (position (set second.answers n (set (answers_of second n) i (answer_given op p)))) memory
-    ∙ sym (ap (λ (w : ℕ). position (set second.answers n (set (answers_of second n) i (answer_of (effect op w).1)))
-    (set second.words (word_place op) (effect op w).0)) back)))
+performed_twice op other p n i m j lt known apart words = grind (
+  arith,
+  answer_given,
+  get_or-set_other,
+  set_apart,
+  cases_eq,
+  performed_own,
+  set_again,
+  performed_apart,
+)
 
 -- ---- a way that begins on the line
 
@@ -156,20 +124,13 @@ begins_after operations window count p r q line n i next waits below step = reco
 
 -- what a node may issue blocks no line and is blocked by none
 free_next : (operations : Operations) (window : ℕ) (p : Position) (n : ℕ) → MayIssue operations window p n → IsFree operations p n (length (answers_of p n))
-free_next operations window p n may =
-    let k = length (answers_of p n) in
-    let more = (and_parts (nat_eq k k) (not (is_blocked (own_of operations n) (answers_of p n) k) && nat_lt (waiting_at p n) window) may.may).1 in
-    let parts = and_parts (not (is_blocked (own_of operations n) (answers_of p n) k)) (nat_lt (waiting_at p n) window) more in
-    free_of operations p n k (not_true (is_blocked (own_of operations n) (answers_of p n) k) parts.0)
+free_next operations window p n may = grind (arith, and_parts, nat_eq, free_of, not_true)
 
 -- operations on different lines are at different words
 words_apart : (lines : ℕ) (operations : Operations) (n i m j : ℕ) → AreWithin lines operations → i < length (own_of operations n)
     → j < length (own_of operations m) → (operation_at operations n i).line ≢ (operation_at operations m j).line
     → word_place (operation_at operations n i) ≢ word_place (operation_at operations m j)
-words_apart lines operations n i m j within below low apart same =
-    let one = (within n i below).1 in
-    let two = (within m j low).1 in
-    apart (omega (arith, one, two, same))
+words_apart lines operations n i m j within below low apart same = grind arith
 
 module _ (lines : ℕ) (operations : Operations) (window : ℕ) (within : AreWithin lines operations) where
   pub line_first : (count : ℕ) (p q : Position) (line : ℕ) → Fits operations p → AreAnswered operations q → IsClosed operations p line

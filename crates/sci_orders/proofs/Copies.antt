@@ -13,10 +13,4 @@ own_is vecs n own lt is = get_or-map items_of vecs n own [] lt ∙ ap items_of (
 pub list_changed : {X Z : Type 0} (old copied : List (Vec X Z)) (n : ℕ) (own new : Vec X Z) (f : List X → List X) → lists_of copied ≡ lists_of old
     → n < length old → own ≡ get_or copied n own → new.items ≡ f own.items
     → lists_of (set copied n new) ≡ set (lists_of old) n (f (get_or (lists_of old) n []))
-list_changed {X = X} old copied n own new f same lt is then_ =
-    let long_old = length-map old items_of in
-    let long_copied = length-map copied items_of in
-    let long : length (lists_of copied) ≡ length (lists_of old) = ap (λ (xs : List (List X)). length xs) same in
-    map-set items_of copied n new
-    ∙ (ap (λ (xs : List X). set (lists_of copied) n xs) (then_ ∙ ap f (sym (own_is copied n own (omega arith) is)))
-    ∙ ap (λ (xs : List (List X)). set xs n (f (get_or xs n []))) same)
+list_changed {X = X} old copied n own new f same lt is then_ = grind (arith, length-map, map-set, own_is)

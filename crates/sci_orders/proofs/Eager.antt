@@ -34,10 +34,7 @@ pub record Performs (operations : Operations) (p q : Position) (n i : ℕ) : Typ
 pub may_step : (operations : Operations) (window : ℕ) (p : Position) (n : ℕ) → MayIssue operations window p n
     → step_at operations window p n (length (answers_of p n)) ≡ Some (with_issued_at p n)
 unfolding step_at
-may_step operations window p n m =
-    let i = length (answers_of p n) in
-    ap (step_as operations window p n i) (slice_get_past (answers_of p n) i (omega arith))
-    ∙ ap (λ (b : Bool). if b then Some (with_issued_at p n) else None) m.may
+may_step operations window p n m = grind (arith, slice_get_past)
 
 pub waits_step : (operations : Operations) (window : ℕ) (p : Position) (n i : ℕ) → answer_at p n i ≡ answer.Waiting
     → step_at operations window p n i ≡ Some (with_performed_at (operation_at operations n i) p n i)
@@ -84,18 +81,13 @@ next_issues operations window p q n next is below step = elim (step_is operation
 
 pub next_stays : (operations : Operations) (window : ℕ) (p : Position) (n next : ℕ) → next ≡ length (answers_of p n) → step_at operations window p n next ≡ None
     → MayIssue operations window p n → ⊥
-next_stays operations window p n next is step may =
-    let clash : None ≡ Some (with_issued_at p n) = sym step ∙ (ap (step_at operations window p n) is ∙ may_step operations window p n may) in
-    cc
+next_stays operations window p n next is step may = grind (arith, may_step)
 
 -- ---- a node that may issue may do so after any other step
 
 pub may_same : (operations : Operations) (window : ℕ) (p r : Position) (m : ℕ) → answers_of p m ≡ answers_of r m → MayIssue operations window p m
     → MayIssue operations window r m
-may_same operations window p r m same may = record {
-  below = subst (λ (as_ : List Answer). length as_ < length (own_of operations m)) same may.below;
-  may = subst (λ (as_ : List Answer). may_issue_next (own_of operations m) as_ window (length as_) ≡ true) same may.may;
-}
+may_same operations window p r m same may = grind arith
 
 pub may_after : (operations : Operations) (window : ℕ) (p : Position) (n i : ℕ) → n < length p.answers → answer_at p n i ≡ answer.Waiting
     → MayIssue operations window p n → MayIssue operations window (with_performed_at (operation_at operations n i) p n i) n
@@ -144,39 +136,23 @@ with_answers p answers = record p { answers = answers }
 
 -- two nodes issue in either order
 issued_twice : (p : Position) (n m : ℕ) → n ≢ m → with_issued_at (with_issued_at p n) m ≡ with_issued_at (with_issued_at p m) n
-issued_twice p n m apart =
-    let one = answers_of p n ++ answer.Waiting ∷ [] in
-    let two = answers_of p m ++ answer.Waiting ∷ [] in
-    ap (λ (as_ : List Answer). with_answers p (set (set p.answers n one) m (as_ ++ answer.Waiting ∷ []))) (issued_apart p n m (λ e. apart (sym e)))
-    ∙ (ap (with_answers p) (set_apart p.answers n m one two apart)
-    ∙ ap (λ (as_ : List Answer). with_answers p (set (set p.answers m two) n (as_ ++ answer.Waiting ∷ []))) (sym (issued_apart p m n apart)))
+issued_twice p n m apart = grind (arith, issued_apart, set_apart)
 
 -- a node issues before or after an operation is performed
 pub issued_performed : (op : Op) (p : Position) (n i m : ℕ) → m < length p.answers → n < length p.answers → i < length (answers_of p n)
     → with_issued_at (with_performed_at op p n i) m ≡ with_performed_at op (with_issued_at p m) n i
-issued_performed op p n i m known lt below =
-    let mine = answer_given op p in
-    let next = with_answers (with_performed_at op p n i) in
-    let one = set (answers_of p n) i mine in
-    let two = answers_of p m ++ answer.Waiting ∷ [] in
-    elim (cases_eq n m) [
-      | inl e ↦
-          let here : answers_of (with_performed_at op p n i) m ≡ set (answers_of p m) i mine = (
-          ap (λ (k : ℕ). answers_of (with_performed_at op p k i) m) e ∙ performed_own op p m i known) in
-          let there : answers_of (with_issued_at p m) n ≡ two = ap (answers_of (with_issued_at p m)) e ∙ issued_own p m known in
-          let low : i < length (answers_of p m) = subst (λ (k : ℕ). i < length (answers_of p k)) e below in
-          ap (λ (as_ : List Answer). next (set (set p.answers n one) m (as_ ++ answer.Waiting ∷ []))) here
-          ∙ (ap (λ (k : ℕ). next (set (set p.answers k one) m (set (answers_of p m) i mine ++ answer.Waiting ∷ []))) e
-          ∙ (ap next (set_again p.answers m one (set (answers_of p m) i mine ++ answer.Waiting ∷ []))
-          ∙ (ap (λ (as_ : List Answer). next (set p.answers m as_)) (sym (set_before (answers_of p m) i mine answer.Waiting low))
-          ∙ (ap next (sym (set_again p.answers m two (set two i mine)))
-          ∙ (ap (λ (k : ℕ). next (set (set p.answers m two) k (set two i mine))) (sym e)
-          ∙ ap (λ (as_ : List Answer). next (set (set p.answers m two) n (set as_ i mine))) (sym there))))))
-      | inr apart ↦
-          ap (λ (as_ : List Answer). next (set (set p.answers n one) m (as_ ++ answer.Waiting ∷ []))) (performed_apart op p n i m (λ e. apart (sym e)))
-          ∙ (ap next (set_apart p.answers n m one two apart)
-          ∙ ap (λ (as_ : List Answer). next (set (set p.answers m two) n (set as_ i mine))) (sym (issued_apart p m n apart)))
-    ]
+issued_performed op p n i m known lt below = grind (
+  arith,
+  answer_given,
+  cases_eq,
+  performed_own,
+  issued_own,
+  set_again,
+  set_before,
+  performed_apart,
+  set_apart,
+  issued_apart,
+)
 
 -- ---- ways from one position to another
 
@@ -231,12 +207,7 @@ issue_step operations window p m may = record {
 begins_on : (operations : Operations) (window count : ℕ) (p r q : Position) (m n i : ℕ) → Begins operations window count r q m
     → i < length (own_of operations n) → step_at operations window (with_issued_at p m) n i ≡ Some (with_issued_at r m)
     → Begins operations window (suc count) p q m
-begins_on operations window count p r q m n i rest below step = record {
-  rest = count;
-  is = refl;
-  leads = subst (λ (k : ℕ). Leads operations window k (with_issued_at p m) q) (sym rest.is)
-      (with_issued_at r m, record { node = n; place = i; below = below; step = step }, rest.leads);
-}
+begins_on operations window count p r q m n i rest below step = grind arith
 
 pub issue_first : (operations : Operations) (window count : ℕ) (p q : Position) (m : ℕ) → Fits operations p → AreAnswered operations q
     → MayIssue operations window p m → Leads operations window count p q → Begins operations window count p q m
@@ -300,10 +271,7 @@ may_known operations window p n true is below = inl (record { below = below; may
 may_known operations window p n false is below = inr (λ m. (let yes = m.may in cc))
 
 may_cases : (operations : Operations) (window : ℕ) (p : Position) (n : ℕ) → MayIssue operations window p n ⊎ (MayIssue operations window p n → ⊥)
-may_cases operations window p n = elim (cases_lt (length (answers_of p n)) (length (own_of operations n))) [
-  | inl lt ↦ may_known operations window p n (may_issue_next (own_of operations n) (answers_of p n) window (length (answers_of p n))) refl lt
-  | inr past ↦ inr (λ m. (let low = m.below in omega arith))
-]
+may_cases operations window p n = grind (arith, cases_lt, may_known)
 
 -- the first of the nodes below a bound that may issue, or none of them does
 pub record IsFirstBelow (operations : Operations) (window : ℕ) (p : Position) : Type 0 where

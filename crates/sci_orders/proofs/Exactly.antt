@@ -1,6 +1,6 @@
 -- The positions that are reached are the outcomes of the machine's runs of a script.
-use Rattle.std.proofs.Common.{◌≡◌, ℕ, ◌+◌, ◌*◌, ◌<◌, List, [], ◌++◌, length, drop, refl, sym, ap, subst, ◌∙◌, arith}
-use Rattle.std.proofs.lemmas.List.{append-nil, drop_all, Elements.{All-weaker}}
+use Rattle.std.proofs.Common.{◌≡◌, ℕ, ◌+◌, ◌*◌, List, [], ◌++◌, length, drop, refl, sym, ap, subst, ◌∙◌, arith}
+use Rattle.std.proofs.lemmas.List.{append-nil, drop_all}
 use Rattle.std.specs.{List.{All}, Prelude.{count_by}}
 use Rattle.sci_words.specs.declared.{event.Event.{Event}, operation.Op.{Op}, stamped.Stamped.{Stamped}}
 use Rattle.sci_history.specs.declared.entry.Entry.{Entry}
@@ -14,11 +14,7 @@ use Rattle.sci_orders.specs.{Ways.{IsWayTo}, Witness.{any_event, schedule_of, se
 
 outcome_of : (size : Size) (operations : Operations) (plain : Plain) (entries : List Entry) (p : Position) → Stands size operations plain entries p
     → AreAnswered operations p → IsOutcomeOf size operations entries plain.contents p
-outcome_of size operations plain entries p stands all = record {
-  each = λ e has. (stands.each e has).is;
-  all = λ n i below. (let low = subst (λ (k : ℕ). i < k) (sym (all.issued n)) below in stands.all n i low (all.done n i low));
-  words = stands.words;
-}
+outcome_of size operations plain entries p stands all = grind arith
 
 -- ---- each run ends in a position that is reached
 
@@ -106,14 +102,9 @@ way_made size operations window p order sizes known way = order_made size order 
 pub each_has_run : (size : Size) (operations : Operations) (window : ℕ) (positions : List Position) → IsMachineSize size → IsScriptOf size operations
     → AreReachedIn size.lines operations window (operation_count operations * 2) positions
     → All (λ p. (schedule : List Event) × HasRun size operations window p schedule) positions
-each_has_run size operations window positions sizes known so =
-    All-weaker (IsReachedIn size.lines operations window (operation_count operations * 2))
-    (λ p. (schedule : List Event) × HasRun size operations window p schedule)
-    (λ p way. reached_runs size operations window p sizes known way) positions so.each
+each_has_run size operations window positions sizes known so = grind (arith, reached_runs)
 
 pub each_run_among : (size : Size) (operations : Operations) (window : ℕ) (positions : List Position) (schedule : List Event) → IsMachineSize size
     → IsScriptOf size operations → AreReachedIn size.lines operations window (operation_count operations * 2) positions
     → IsOrderOf operations window (seen size schedule) → IsAmong size operations schedule positions
-each_run_among size operations window positions schedule sizes known so runs =
-    let at = runs_reached size operations window schedule (is_size size sizes) known runs in
-    (at.0, so.all at.0 at.1, at.2)
+each_run_among size operations window positions schedule sizes known so runs = grind (arith, runs_reached)

@@ -1,7 +1,7 @@
 -- A search in which nodes issue first, and then a closed line comes first, finds each end that can be reached.
 use Rattle.std.proofs.Common.{◌≡◌, ◌⊎◌, ℕ, zero, suc, ◌+◌, ◌*◌, ◌<◌, ◌≤◌, ◌==◌, ◌&&◌, ◌||◌, not, Bool, true, false, List, length, get_or}
 use Rattle.std.proofs.Common.{refl, sym, ap, subst, ◌∙◌, arith, inl, inr}
-use Rattle.std.proofs.lemmas.{Bool.{and_parts, cases_Bool, cases_eq, cases_lt, eq-eqb, eqb-true, le-ltb}, List.Elements.{All-weaker}}
+use Rattle.std.proofs.lemmas.{Bool.{and_parts, cases_Bool, cases_eq, cases_lt, eq-eqb, eqb-true, le-ltb}}
 use Rattle.std.proofs.lemmas.List.{Folds.{Any-from_list_any, list_all_at}, FromFn.{get_or-range_with_len, length-range_with_len}}
 use Rattle.std.specs.List.{list_all, list_any, range_with_len}
 use Rattle.sci_words.specs.declared.operation.Op.{Op}
@@ -66,13 +66,7 @@ closed_below lines operations p line within fits is =
     subst (λ (k : ℕ). k < lines) w.on known
 
 pub first_same : (operations : Operations) (p : Position) (a b : ℕ) → IsFirstClosed operations p a → IsFirstClosed operations p b → a ≡ b
-first_same operations p a b one two = elim (cases_lt a b) [
-  | inl lt ↦ absurd (let clash : true ≡ false = sym one.closed ∙ two.first a lt in cc)
-  | inr le ↦ elim (cases_lt b a) [
-    | inl lt ↦ absurd (let clash : true ≡ false = sym two.closed ∙ one.first b lt in cc)
-    | inr ge ↦ omega arith
-  ]
-]
+first_same operations p a b one two = grind (arith, cases_lt)
 
 -- the first of the closed lines below a bound, or none of them is closed
 first_closed : (operations : Operations) (p : Position) (bound : ℕ)
@@ -169,8 +163,4 @@ reached_found lines operations window p within reached =
 pub ends_found : (lines : ℕ) (operations : Operations) (window : ℕ) (positions : List Position) → AreWithin lines operations
     → AreFoundIn lines operations window (operation_count operations * 2) positions
     → AreReachedIn lines operations window (operation_count operations * 2) positions
-ends_found lines operations window positions within so = record {
-  each = All-weaker (IsFoundIn lines operations window (operation_count operations * 2)) (IsReachedIn lines operations window (operation_count operations * 2))
-      (λ p found. found_reached lines operations window (operation_count operations * 2) p found) positions so.each;
-  all = λ p reached. so.all p (reached_found lines operations window p within reached);
-}
+ends_found lines operations window positions within so = grind (arith, found_reached, reached_found)

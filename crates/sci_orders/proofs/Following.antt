@@ -6,14 +6,14 @@ use Rattle.std.proofs.lemmas.Bool.{and_parts, cases_lt, eq-eqb, eqb-true, lt-ltb
 use Rattle.std.proofs.lemmas.List.{append-nil, append_cancel_left, length_push, length-drop, Sums.{fold-append}}
 use Rattle.std.proofs.lemmas.Option.{get_or_from_slice_get, slice_get-get_or, slice_get_past}
 use Rattle.std.specs.Prelude.{IsSome, count_by, is_none, option_to_list, slice_get, unwrap_or}
-use Rattle.sci_words.specs.{Operation.{has_words}, declared.{event.Event.{Event}, limits.TheConstants.{WORDS_PER_LINE}, operation.Op.{Op}}}
+use Rattle.sci_words.specs.{declared.{event.Event.{Event}, operation.Op.{Op}}}
 use Rattle.sci_history.specs.declared.entry.Entry.{Entry}
 use Rattle.sci_core.{proofs.Basics.Options.{found, same_some}, specs.{Size.{Size}, declared.pending.Pending.{Pending}}}
 use Rattle.sci_orders.proofs.{Changes.{rest_of, waiting_below, waiting_is}, Issuing.{MakesStep, IsFree, issue_goes, waiting_after}}
 use Rattle.sci_orders.proofs.{ScriptOrders.{after-append, after_same, allowed_more, done_more, few-append, issues-append}, Performing.{perform_goes}}
 use Rattle.sci_orders.proofs.{Places.{any_found, none_any}, Stands.{Stands, none_first, opening_stands, pending_of}, Turns.{both_tests, no_test, one_test}}
 use Rattle.sci_orders.specs.{Orders.{AreFew, IsScriptOf, issues_at}, Ways.{LeadsTo, event_at}}
-use Rattle.sci_orders.specs.Plain.{AreAllowed, Plain, can_issue, opening_plain, plain_done, plain_made, plain_run, plain_step, plain_stepping, port_at}
+use Rattle.sci_orders.specs.Plain.{AreAllowed, Plain, can_issue, opening_plain, plain_done, plain_made, plain_run, plain_step, plain_stepping}
 use Rattle.sci_orders.specs.Plain.{waits_at, with_issued, with_performed}
 use Rattle.sci_orders.specs.Positions.{IsReachedIn, Operations, Position, answer_at, answers_of, blocks, is_blocked, is_waiting, may_issue_next, no_operation}
 use Rattle.sci_orders.specs.Positions.{opening_position, operation_at, own_of, step_as, step_at, waiting_at, with_issued_at, with_performed_at}
@@ -45,18 +45,12 @@ free_of operations p n i none j is on =
 
 none_blocks : (operations : Operations) (p : Position) (n i : ℕ) → IsFree operations p n i
     → is_blocked (own_of operations n) (answers_of p n) i ≡ false
-none_blocks operations p n i free = none_any (blocks (own_of operations n) (answers_of p n) i) (length (answers_of p n)) (λ j low.
-    false_unless (blocks (own_of operations n) (answers_of p n) i j) (λ is. (
-    let parts = and_parts (is_waiting (answer_at p n j)) ((operation_at operations n j).line == (operation_at operations n i).line) is in
-    free j (waiting_is (answer_at p n j) parts.0) (eqb-true (operation_at operations n j).line (operation_at operations n i).line parts.1))))
+none_blocks operations p n i free = grind (arith, none_any, false_unless, and_parts, waiting_is, eqb-true)
 
 -- the next operation of a node can be issued if none waits on its line, and few enough wait
 pub may_if : (operations : Operations) (window : ℕ) (p : Position) (n : ℕ) → IsFree operations p n (length (answers_of p n)) → waiting_at p n < window
     → may_issue_next (own_of operations n) (answers_of p n) window (length (answers_of p n)) ≡ true
-may_if operations window p n free few =
-    let i = length (answers_of p n) in
-    ap (λ (b : Bool). b && (not (is_blocked (own_of operations n) (answers_of p n) i) && nat_lt (waiting_at p n) window)) (eq-eqb i i refl)
-    ∙ (ap (λ (b : Bool). not b && nat_lt (waiting_at p n) window) (none_blocks operations p n i free) ∙ lt-ltb (waiting_at p n) window few)
+may_if operations window p n free few = grind (arith, eq-eqb, none_blocks, lt-ltb)
 
 -- ---- a step of a position is an event of the memory
 
@@ -67,15 +61,11 @@ pub record Steps (size : Size) (operations : Operations) (window : ℕ) (plain :
 -- of an operation that isn't issued the event is its Issue, and else its Perform
 issue_at : (operations : Operations) (p : Position) (n i : ℕ) → (length (answers_of p n) == i) ≡ true
     → event.Issue n (operation_at operations n (length (answers_of p n))) ≡ event_at operations p n i
-issue_at operations p n i is =
-    ap (λ (k : ℕ). event.Issue n (operation_at operations n k)) (eqb-true (length (answers_of p n)) i is)
-    ∙ sym (ap (λ (b : Bool). if b then event.Issue n (operation_at operations n i) else event.Perform n (operation_at operations n i).line) is)
+issue_at operations p n i is = grind (arith, eqb-true)
 
 perform_at : (operations : Operations) (p : Position) (n i : ℕ) → i < length (answers_of p n)
     → event.Perform n (operation_at operations n i).line ≡ event_at operations p n i
-perform_at operations p n i below =
-    sym (ap (λ (b : Bool). if b then event.Issue n (operation_at operations n i) else event.Perform n (operation_at operations n i).line)
-    (ne_eqb (length (answers_of p n)) i (λ is. absurd (omega arith))))
+perform_at operations p n i below = grind (arith, ne_eqb)
 
 module _ (size : Size) (operations : Operations) (window : ℕ) (plain : Plain) (done : List Entry) (p q : Position) (n i : ℕ)
     (stands : Stands size operations plain done p) (known : IsScriptOf size operations) (below : i < length (own_of operations n)) where
@@ -202,11 +192,7 @@ none_there (Some x) is = cc
 
 -- no operation waits where the memory lets one be issued
 free_line : (plain : Plain) (n : ℕ) (op : Op) → can_issue plain n op ≡ true → waits_at plain n op.line ≡ None
-free_line plain n op may =
-    let first = and_parts ((nat_lt op.line plain.size.lines && nat_lt op.word WORDS_PER_LINE) && has_words op.act)
-    (is_none (waits_at plain n op.line) && nat_lt (port_at plain n).issued plain.size.limit) may in
-    let second = and_parts (is_none (waits_at plain n op.line)) (nat_lt (port_at plain n).issued plain.size.limit) first.1 in
-    none_there (waits_at plain n op.line) second.0
+free_line plain n op may = grind (arith, and_parts, none_there)
 
 issue_tests : (plain : Plain) (n : ℕ) (op : Op) → IsSome (plain_stepping plain (event.Issue n op)) → can_issue plain n op ≡ true
 unfolding plain_stepping
@@ -251,18 +237,7 @@ pub record Follows (size : Size) (operations : Operations) (window : ℕ) (plain
 follows_more : (size : Size) (operations : Operations) (window : ℕ) (plain mid : Plain) (done : List Entry) (count : ℕ) (e : Event) (order : List Event)
     → plain_step plain e ≡ mid → Follows size operations window mid (done ++ option_to_list (plain_made plain e)) (suc count) order
     → Follows size operations window plain done count (e ∷ order)
-follows_more size operations window plain mid done count e order to rest =
-    let same : suc count + length order ≡ count + length (e ∷ order) = omega arith in
-    let entries : (done ++ option_to_list (plain_made plain e)) ++ plain_done mid order ≡ done ++ plain_done plain (e ∷ order) =
-    append_assoc done (option_to_list (plain_made plain e)) (plain_done mid order)
-    ∙ ap (λ (x : Plain). done ++ (option_to_list (plain_made plain e) ++ plain_done x order)) (sym to) in
-    record {
-      last = rest.last;
-      reached = subst (λ (k : ℕ). IsReachedIn size.lines operations window k rest.last) same rest.reached;
-      stands = subst (λ (es : List Entry). Stands size operations (plain_run plain (e ∷ order)) es rest.last) entries
-          (subst (λ (x : Plain). Stands size operations (plain_run x order) ((done ++ option_to_list (plain_made plain e)) ++ plain_done mid order) rest.last)
-          (sym to) rest.stands);
-    }
+follows_more size operations window plain mid done count e order to rest = grind (arith, append_assoc)
 
 -- the steps of a position that go with an event
 pub record StepFor (size : Size) (operations : Operations) (window : ℕ) (plain : Plain) (done : List Entry) (p : Position) (e : Event) : Type 0 where

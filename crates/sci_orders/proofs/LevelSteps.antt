@@ -11,7 +11,7 @@ use Rattle.sci_orders.proofs.Keeping.{contains_cases, contains_flat, contains_he
 use Rattle.sci_orders.proofs.Reaching.{below_place, given, gives, place_below, reached_fits}
 use Rattle.sci_orders.specs.Eager.{AddsSteps, AreFoundIn, AreStepsFrom, IsEagerStep, IsFirstClosed, IsFirstIssue, IsFoundIn, IsChosen, MayIssue}
 use Rattle.sci_orders.specs.{Positions.{AreOnce, AreWithin, Fits, IsStep, Operations, Position, position_of}, declared.standing.Standing.{Standing}}
-use Rattle.sci_orders.specs.Positions.{is_on, operation_at, own_of, step_at, step_on, steps_on, with_issued_at}
+use Rattle.sci_orders.specs.Positions.{is_on, operation_at, own_of, step_at, step_on, steps_on}
 use Rattle.sci_words.specs.declared.operation.Op.{Op}
 use Rattle.std.proofs.lemmas.Bool.{eq-eqb, eqb-true}
 use Rattle.std.specs.Prelude.{false, if◌then◌else◌, Option, None, Some}
@@ -25,11 +25,7 @@ all_steps operations window p line = flat_map (steps_on operations window p line
 -- a step that is taken is one of an operation that is looked at
 step_taken : (operations : Operations) (window : ℕ) (p q : Position) (line : Option ℕ) (n i : ℕ) → step_on operations window p line n i ≡ Some q
     → (step_at operations window p n i ≡ Some q) × (is_on line (operation_at operations n i) ≡ true)
-step_taken operations window p q line n i is = taken (is_on line (operation_at operations n i)) is
-  where
-    taken : (b : Bool) → (if b then step_at operations window p n i else None) ≡ Some q → (step_at operations window p n i ≡ Some q) × (b ≡ true)
-    taken true is = (is, refl)
-    taken false is = absurd (cc)
+step_taken operations window p q line n i is = grind arith
 
 -- each of them is a step of an operation that is looked at
 from_step : (operations : Operations) (window : ℕ) (p q : Position) (line : Option ℕ) → Contains (all_steps operations window p line) q
@@ -60,15 +56,7 @@ looked_at : (operations : Operations) (window : ℕ) (p q : Position) (line : Op
     → ((m : ℕ) → MayIssue operations window p m → ⊥) → IsChosen operations p line
     → is_on line (operation_at operations eager.taken.node eager.taken.place) ≡ true
 looked_at operations window p q None eager none closed = refl
-looked_at operations window p q (Some line) eager none closed =
-    let s = eager.taken in
-    elim (step_is operations window p q s.node s.place s.below s.step) [
-      | inl issues ↦ absurd (none s.node issues.may)
-      | inr performs ↦ elim (eager.performs line closed) [
-        | inl next ↦ let low = waiting_below p s.node s.place performs.waits in absurd (omega (arith, low, next))
-        | inr on ↦ eq-eqb (operation_at operations s.node s.place).line line on
-      ]
-    ]
+looked_at operations window p q (Some line) eager none closed = grind (arith, step_is, waiting_below, eq-eqb)
 
 -- where no node may issue, each step of an operation that is looked at is taken
 pub all_add : (operations : Operations) (window : ℕ) (p : Position) (line : Option ℕ) (old new : List Position)
@@ -89,20 +77,7 @@ all_add operations window p line old new none closed is = record {
 
 -- a step that is looked at is the Issue of the first node that may issue
 only_step : (operations : Operations) (window : ℕ) (p q r : Position) → IsFirstIssue operations window p q → IsEagerStep operations window p r → q ≡ r
-only_step operations window p q r first eager =
-    let s = eager.taken in
-    let mine = eager.issues first.node first.may in
-    elim (step_is operations window p r s.node s.place s.below s.step) [
-      | inl issues ↦
-          let low = first.first s.node issues.may in
-          let most = mine.1 in
-          let same : first.node ≡ s.node = omega arith in
-          first.is ∙ (ap (with_issued_at p) same ∙ sym issues.is)
-      | inr performs ↦
-          let below = waiting_below p s.node s.place performs.waits in
-          let at = mine.0 in
-          absurd (omega arith)
-    ]
+only_step operations window p q r first eager = grind (arith, step_is, waiting_below)
 
 pub first_adds : (operations : Operations) (window : ℕ) (p q : Position) (old new : List Position) → IsFirstIssue operations window p q
     → new ≡ old ++ q ∷ [] → AddsSteps operations window p old new
@@ -121,10 +96,7 @@ first_adds operations window p q old new first is = record {
 
 -- from none there is none
 pub none_from : (operations : Operations) (window : ℕ) → AreStepsFrom operations window [] []
-none_from operations window = record {
-  each = All-nil (λ p. (q : Position) × Contains [] q × IsEagerStep operations window q p);
-  all = λ p q has step. contains_none q has;
-}
+none_from operations window = grind (arith, contains_none)
 
 -- those from one position more
 pub more_from : (operations : Operations) (window : ℕ) (p : Position) (old level new next : List Position) → AreStepsFrom operations window old level

@@ -1,10 +1,10 @@
 -- The operations of a node are looked at one after another, whether they keep the next one from being issued.
-use Rattle.std.proofs.Common.{◌≡◌, ℕ, ◌+◌, ◌<◌, ◌&&◌, ◌==◌, nat_lt, not, Bool, true, false, List, length, take, get_or, sym, ap, ◌∙◌, arith}
+use Rattle.std.proofs.Common.{◌≡◌, ℕ, ◌+◌, ◌<◌, ◌&&◌, nat_lt, not, Bool, true, false, List, length, take, get_or, sym, ap, ◌∙◌, arith}
 use Rattle.std.proofs.lemmas.{Bool.{eq-eqb}, List.Sums.{count_by_more_no, count_by_more_yes}}
 use Rattle.std.specs.{List.{list_any, range_with_len}, Prelude.{count_by}}
 use Rattle.sci_words.specs.declared.operation.Op.{Op}
 use Rattle.sci_orders.proofs.Places.{any_found, any_more}
-use Rattle.sci_orders.specs.{Positions.{blocks, is_blocked, is_waiting, may_issue_next, no_operation}, declared.standing.Answer.{Answer}}
+use Rattle.sci_orders.specs.{Positions.{blocks, is_blocked, is_waiting, may_issue_next}, declared.standing.Answer.{Answer}}
 use Rattle.sci_orders.specs.declared.standing.Answer.TheVariants as answer
 
 -- none of the first operations blocks operation i, and this number of them waits
@@ -14,18 +14,11 @@ pub record IsPassed (own : List Op) (as_ : List Answer) (i count waiting : ℕ) 
 
 pub passed_yes : (own : List Op) (as_ : List Answer) (i j waiting : ℕ) → IsPassed own as_ i j waiting → j < length as_
     → is_waiting (get_or as_ j answer.Stored) ≡ true → blocks own as_ i j ≡ false → IsPassed own as_ i (j + 1) (waiting + 1)
-passed_yes own as_ i j waiting so below is free =
-    let more = count_by_more_yes is_waiting as_ j answer.Stored below is in
-    let many = so.many in
-    record { none = any_more (blocks own as_ i) j so.none free; many = omega arith }
+passed_yes own as_ i j waiting so below is free = grind (arith, count_by_more_yes, any_more)
 
 pub passed_no : (own : List Op) (as_ : List Answer) (i j waiting : ℕ) → IsPassed own as_ i j waiting → j < length as_
     → is_waiting (get_or as_ j answer.Stored) ≡ false → IsPassed own as_ i (j + 1) waiting
-passed_no own as_ i j waiting so below is =
-    let more = count_by_more_no is_waiting as_ j answer.Stored below is in
-    let many = so.many in
-    let free : blocks own as_ i j ≡ false = ap (λ (b : Bool). b && ((get_or own j no_operation).line == (get_or own i no_operation).line)) is in
-    record { none = any_more (blocks own as_ i) j so.none free; many = omega arith }
+passed_no own as_ i j waiting so below is = grind (arith, count_by_more_no, any_more)
 
 pub blocked : (own : List Op) (as_ : List Answer) (window i j : ℕ) → length as_ ≡ i → j < length as_
     → blocks own as_ i j ≡ true → false ≡ may_issue_next own as_ window i

@@ -6,7 +6,7 @@ use Rattle.std.proofs.lemmas.Grind.{flat_map-append}
 use Rattle.std.proofs.lemmas.List.{append-nil, map-append}
 use Rattle.std.proofs.lemmas.List.{Elements.{filter_map-append}, Folds.{list_all-append, list_all_at, list_any-append, list_any_at}}
 use Rattle.std.proofs.lemmas.List.FromFn.{get_or-range_with_len, length-range_with_len}
-use Rattle.std.specs.List.{cons_option, filter_map, flat_map, list_all, list_any, range_with_len}
+use Rattle.std.specs.List.{filter_map, flat_map, list_all, list_any, range_with_len}
 
 from_more : (a n : ℕ) → range_with_len a (n + 1) ≡ range_with_len a n ++ (a + n) ∷ []
 from_more a zero = ap (λ (k : ℕ). k ∷ []) (omega arith)
@@ -24,9 +24,7 @@ or_false true = refl
 or_false false = refl
 
 pub any_more : (p : ℕ → Bool) (n : ℕ) → list_any p (range_with_len 0 n) ≡ false → p n ≡ false → list_any p (range_with_len 0 (n + 1)) ≡ false
-any_more p n none here =
-    ap (list_any p) (places_more n) ∙ (list_any-append p (range_with_len 0 n) (n ∷ [])
-    ∙ (ap (λ (b : Bool). b || list_any p (n ∷ [])) none ∙ (ap (λ (b : Bool). b || false) here)))
+any_more p n none here = grind (arith, places_more, list_any-append)
 
 pub any_found : (p : ℕ → Bool) (n j : ℕ) → j < n → p j ≡ true → list_any p (range_with_len 0 n) ≡ true
 any_found p n j below here =
@@ -41,9 +39,7 @@ none_any p (suc n) none =
 
 -- one number more
 pub any_next : (p : ℕ → Bool) (n : ℕ) → list_any p (range_with_len 0 (n + 1)) ≡ (list_any p (range_with_len 0 n) || p n)
-any_next p n =
-    ap (list_any p) (places_more n)
-    ∙ (list_any-append p (range_with_len 0 n) (n ∷ []) ∙ ap (λ (b : Bool). list_any p (range_with_len 0 n) || b) (or_false (p n)))
+any_next p n = grind (arith, places_more, list_any-append, or_false)
 
 pub all_pass : (p : ℕ → Bool) (n : ℕ) → ((j : ℕ) → j < n → p j ≡ true) → list_all p (range_with_len 0 n) ≡ true
 all_pass p zero all = refl
@@ -64,22 +60,12 @@ gives_more f n = ap (filter_map f) (places_more n) ∙ filter_map-append f (rang
 
 pub gives_some : {X Y : Type 0} (f : ℕ → Option Y) (g : X → Y) (n : ℕ) (before old : List X) (first : List Y) (x : X) → f n ≡ Some (g x)
     → map g before ≡ first ++ filter_map f (range_with_len 0 n) → old ≡ before ++ x ∷ [] → map g old ≡ first ++ filter_map f (range_with_len 0 (n + 1))
-gives_some {Y = Y} f g n before old first x is so then_ =
-    ap (map g) then_ ∙ (map-append g before (x ∷ [])
-    ∙ (ap (λ (ys : List Y). ys ++ g x ∷ []) so
-    ∙ (append_assoc first (filter_map f (range_with_len 0 n)) (g x ∷ [])
-    ∙ ap (λ (ys : List Y). first ++ ys)
-    (ap (λ (ys : List Y). filter_map f (range_with_len 0 n) ++ ys) (sym (ap (λ (o : Option Y). cons_option o []) is)) ∙ sym (gives_more f n)))))
+gives_some {Y = Y} f g n before old first x is so then_ = grind (arith, map-append, append_assoc, gives_more)
 
 pub gives_none : {X Y : Type 0} (f : ℕ → Option Y) (g : X → Y) (n : ℕ) (before : List X) (first : List Y) → f n ≡ None
     → map g before ≡ first ++ filter_map f (range_with_len 0 n) → map g before ≡ first ++ filter_map f (range_with_len 0 (n + 1))
-gives_none {Y = Y} f g n before first is so =
-    so ∙ ap (λ (ys : List Y). first ++ ys)
-    (sym (append-nil (filter_map f (range_with_len 0 n)))
-    ∙ (ap (λ (ys : List Y). filter_map f (range_with_len 0 n) ++ ys) (sym (ap (λ (o : Option Y). cons_option o []) is)) ∙ sym (gives_more f n)))
+gives_none {Y = Y} f g n before first is so = grind (arith, append-nil, gives_more)
 
 -- the lists that f gives of one number more
 pub flat_more : {X : Type 0} (f : ℕ → List X) (n : ℕ) → flat_map f (range_with_len 0 (n + 1)) ≡ flat_map f (range_with_len 0 n) ++ f n
-flat_more {X = X} f n =
-    ap (flat_map f) (places_more n)
-    ∙ (flat_map-append f (range_with_len 0 n) (n ∷ []) ∙ ap (λ (xs : List X). flat_map f (range_with_len 0 n) ++ xs) (append-nil (f n)))
+flat_more {X = X} f n = grind (arith, places_more, flat_map-append, append-nil)

@@ -15,8 +15,8 @@ use Rattle.sci_core.proofs.Step.{NodeSides.{PerformedAs, perform_as, serve_as, r
 use Rattle.sci_core.proofs.Step.Steps.{Stepped, By_issue, By_perform, By_ask, By_serve, By_refuse, By_reply, By_accept, stepping_stepped}
 use Rattle.sci_core.proofs.WellFormed.WellFormedSteps.{any_well, step_well}
 use Rattle.sci_core.specs.{Core.{Core, node_at, step, stepping, with_node}, Done.{Changes, ChangesBy, made_by, performed}}
-use Rattle.sci_core.specs.Node.{NodeOf, lines_of, may_issue, no_node, node_issued, node_issuing, node_performing, pending_on, node_asking, node_serving}
-use Rattle.sci_core.specs.Node.{node_refusing, node_replying, node_accepting}
+use Rattle.sci_core.specs.Node.{NodeOf, may_issue, no_node, node_issued, node_issuing, node_performing, pending_on, node_asking, node_serving}
+use Rattle.sci_core.specs.Node.{node_refusing}
 use Rattle.sci_core.specs.{Reached.{IsReachable}, Sharing.{last_at, last_of}, Size.{Size}, WellFormed.{IsWellFormed}, declared.pending.Pending.{Pending}}
 use Rattle.sci_orders.specs.Plain.{Plain, Port, can_issue, entry_at, plain_made, plain_of, plain_performed, plain_stepping, port_at, port_of, waits_at}
 use Rattle.sci_orders.specs.Plain.{with_issued, with_performed}
@@ -35,26 +35,16 @@ if_is b c x y is = ap (λ (t : Bool). if t then x else y) is
 pub memory_issues : (plain : Plain) (n : ℕ) (op : Op) → n < plain.size.nodes → can_issue plain n op ≡ true
     → plain_stepping plain (event.Issue n op) ≡ Some (with_issued plain n op)
 unfolding plain_stepping
-memory_issues plain n op lt may =
-    if_is (nat_lt n plain.size.nodes) true (if can_issue plain n op then Some (with_issued plain n op) else None) None (lt-ltb n plain.size.nodes lt)
-    ∙ if_is (can_issue plain n op) true (Some (with_issued plain n op)) None may
+memory_issues plain n op lt may = grind (arith, if_is, lt-ltb)
 
 pub memory_performs : (plain : Plain) (n line : ℕ) (pending : Pending) → n < plain.size.nodes → waits_at plain n line ≡ Some pending
     → plain_stepping plain (event.Perform n line) ≡ Some (with_performed plain n line pending)
 unfolding plain_stepping
-memory_performs plain n line pending lt here =
-    if_is (nat_lt n plain.size.nodes) true (option_map (with_performed plain n line) (waits_at plain n line)) None (lt-ltb n plain.size.nodes lt)
-    ∙ ap (option_map (with_performed plain n line)) here
+memory_performs plain n line pending lt here = grind (arith, if_is, lt-ltb)
 
 pub can_issue_by : (plain : Plain) (n : ℕ) (op : Op) → op.line < plain.size.lines → op.word < WORDS_PER_LINE → has_words op.act ≡ true
     → waits_at plain n op.line ≡ None → (port_at plain n).issued < plain.size.limit → can_issue plain n op ≡ true
-can_issue_by plain n op line word words free room =
-    let issued = nat_lt (port_at plain n).issued plain.size.limit in
-    let none = is_none (waits_at plain n op.line) in
-    ap (λ (x : Bool). ((x && nat_lt op.word WORDS_PER_LINE) && has_words op.act) && (none && issued)) (lt-ltb op.line plain.size.lines line)
-    ∙ (ap (λ (x : Bool). (x && has_words op.act) && (none && issued)) (lt-ltb op.word WORDS_PER_LINE word)
-    ∙ (ap (λ (x : Bool). x && (none && issued)) words
-    ∙ (ap (λ (o : Option Pending). is_none o && issued) free ∙ lt-ltb (port_at plain n).issued plain.size.limit room)))
+can_issue_by plain n op line word words free room = grind (arith, lt-ltb)
 
 -- ---- a node's port, and the last contents
 
@@ -117,15 +107,8 @@ stepped_ports core new e made hidden nothing (By_refuse t none) =
     let does = of_some (RefusedAs part t.letter) (node_refusing part t.letter) t.next t.takes (refuse_as part t.letter) in
     ap (λ (x : Core). map port_of x.parts) (sym t.then_)
     ∙ ports_same core t.node t.next (subst (SameWork part) does.then_ (record { pending = refl; issued = refl; log = refl }))
-stepped_ports core new e made hidden nothing (By_reply n sent is sends_well s none) =
-    let part = node_at core n in
-    let same = of_some (λ (x : NodeOf × Letter). (record part { waiting = None }) ≡ x.0) (node_replying part) sent is (reply_as part) in
-    ap (λ (x : Core). map port_of x.parts) (sym s.then_)
-    ∙ ports_same core n sent.0 (subst (SameWork part) same (record { pending = refl; issued = refl; log = refl }))
-stepped_ports core new e made hidden nothing (By_accept t none) =
-    let part = node_at core t.node in
-    ap (λ (x : Core). map port_of x.parts) (sym t.then_)
-    ∙ ports_same core t.node t.next (of_some (SameWork part) (node_accepting part t.letter) t.next t.takes (accept_work part t.letter))
+stepped_ports core new e made hidden nothing (By_reply n sent is sends_well s none) = grind (arith, of_some, reply_as, ports_same)
+stepped_ports core new e made hidden nothing (By_accept t none) = grind (arith, ports_same, of_some, accept_work)
 
 -- no entry is made
 hidden_none : (core : Core) (e : Event) → is_seen e ≡ false → performed core e ≡ None
@@ -170,11 +153,7 @@ may lines limit port op =
     && (is_none (slice_index_or port.pending op.line None) && nat_lt port.issued limit)
 
 pub can_issue_is : (core : Core) (n : ℕ) (op : Op) → IsWellFormed core → n < core.size.nodes → can_issue (plain_of core) n op ≡ may_issue (node_at core n) op
-can_issue_is core n op well lt =
-    let part = well.each_part n lt in
-    ap (λ (p : Port). may core.size.lines core.size.limit p op) (port_is core n)
-    ∙ (ap (λ (k : ℕ). may k core.size.limit (port_of (node_at core n)) op) (sym part.each)
-    ∙ ap (λ (k : ℕ). may (lines_of (node_at core n)) k (port_of (node_at core n)) op) (sym part.most))
+can_issue_is core n op well lt = grind (arith, port_is)
 
 issued_plain : (core : Core) (n : ℕ) (op : Op) → IsReachable core → stepping core (event.Issue n op) ≡ Some (with_node core n (node_issued (node_at core n) op))
     → last_of (with_node core n (node_issued (node_at core n) op)) ≡ last_of core

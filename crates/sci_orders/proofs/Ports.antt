@@ -1,5 +1,5 @@
 -- What an Issue and a Perform change in one memory: one port, and one line.
-use Rattle.std.proofs.Common.{◌≡◌, ◌≢◌, ℕ, ◌+◌, ◌<◌, List, length, set, get_or, Option, Some, None, refl, sym, ap, ◌∙◌, inl, inr}
+use Rattle.std.proofs.Common.{◌≡◌, ◌≢◌, ℕ, ◌+◌, ◌<◌, length, set, get_or, Option, Some, None, refl, arith}
 use Rattle.std.proofs.lemmas.{Bool.{cases_eq}, List.{get_or-set_same, get_or-set_other, length-set}}
 use Rattle.sci_words.specs.declared.operation.Op.{Op}
 use Rattle.sci_core.specs.declared.pending.Pending.{Pending}
@@ -23,22 +23,7 @@ pub record Changes (plain new : Plain) (n issued : ℕ) : Type 0 where
 
 changed : (plain : Plain) (n : ℕ) (line : ℕ) (pending : Option Pending) (issued : ℕ) (new : Plain) → n < length plain.ports
     → new.ports ≡ set plain.ports n (record { pending = set (port_at plain n).pending line pending; issued = issued }) → Changes plain new n issued
-changed plain n line pending issued new lt is =
-    let port : Port = record { pending = set (port_at plain n).pending line pending; issued = issued } in
-    let at : port_at new n ≡ port = ap (λ (ps : List Port). get_or ps n no_port) is ∙ port_here plain n port lt in
-    let off : (m : ℕ) → m ≢ n → port_at new m ≡ port_at plain m = λ m other.
-    ap (λ (ps : List Port). get_or ps m no_port) is ∙ port_apart plain n m port other in
-    record {
-      nodes = ap (λ (ps : List Port). length ps) is ∙ length-set plain.ports n port;
-      here = ap (λ (x : Port). x.issued) at;
-      apart = off;
-      lines = λ m. elim (cases_eq m n) [
-        | inl e ↦ ap (λ (k : ℕ). length (port_at new k).pending) e
-            ∙ (ap (λ (x : Port). length x.pending) at
-            ∙ (length-set (port_at plain n).pending line pending ∙ ap (λ (k : ℕ). length (port_at plain k).pending) (sym e)))
-        | inr other ↦ ap (λ (x : Port). length x.pending) (off m other)
-      ];
-    }
+changed plain n line pending issued new lt is = grind (arith, port_here, port_apart, length-set, cases_eq)
 
 pub issue_changes : (plain : Plain) (n : ℕ) (op : Op) → n < length plain.ports → Changes plain (with_issued plain n op) n ((port_at plain n).issued + 1)
 issue_changes plain n op lt =
@@ -53,21 +38,12 @@ perform_changes plain n line pending lt = changed plain n line None (port_at pla
 wait_here : (plain : Plain) (n line : ℕ) (pending : Option Pending) (issued : ℕ) → n < length plain.ports → line < length (port_at plain n).pending
     → get_or (get_or (set plain.ports n (record { pending = set (port_at plain n).pending line pending; issued = issued })) n no_port).pending line None
     ≡ pending
-wait_here plain n line pending issued lt inside =
-    ap (λ (x : Port). get_or x.pending line None) (port_here plain n (record { pending = set (port_at plain n).pending line pending; issued = issued }) lt)
-    ∙ get_or-set_same (port_at plain n).pending line pending None inside
+wait_here plain n line pending issued lt inside = grind (arith, port_here, get_or-set_same)
 
 wait_other : (plain : Plain) (n line m k : ℕ) (pending : Option Pending) (issued : ℕ) → n < length plain.ports → ((m ≡ n) × (k ≡ line) → ⊥)
     → get_or (get_or (set plain.ports n (record { pending = set (port_at plain n).pending line pending; issued = issued })) m no_port).pending k None
     ≡ waits_at plain m k
-wait_other plain n line m k pending issued lt not_ =
-    let port : Port = record { pending = set (port_at plain n).pending line pending; issued = issued } in
-    elim (cases_eq m n) [
-      | inl e ↦ ap (λ (j : ℕ). get_or (get_or (set plain.ports n port) j no_port).pending k None) e
-          ∙ (ap (λ (x : Port). get_or x.pending k None) (port_here plain n port lt)
-          ∙ (get_or-set_other (port_at plain n).pending line k pending None (λ on. not_ (e, on)) ∙ ap (λ (j : ℕ). waits_at plain j k) (sym e)))
-      | inr other ↦ ap (λ (x : Port). get_or x.pending k None) (port_apart plain n m port other)
-    ]
+wait_other plain n line m k pending issued lt not_ = grind (arith, cases_eq, port_here, get_or-set_other, port_apart)
 
 pub issued_waits_here : (plain : Plain) (n : ℕ) (op : Op) → n < length plain.ports → op.line < length (port_at plain n).pending
     → waits_at (with_issued plain n op) n op.line ≡ Some (record { serial = (port_at plain n).issued; op = op })

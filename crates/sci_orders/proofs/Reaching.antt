@@ -1,7 +1,7 @@
 -- What is reached fits the script.
 use Rattle.std.proofs.Common.{◌≡◌, ℕ, zero, suc, ◌+◌, ◌<◌, Bool, true, false, if◌then◌else◌, List, [], ◌∷◌, length, Option, Some, None, refl, sym, ap, subst}
 use Rattle.std.proofs.Common.{◌∙◌, arith, inl, inr}
-use Rattle.std.proofs.lemmas.{Bool.{and_parts, eqb-true}, List.{Elements.{All-weaker}, FromFn.{get_or-range_with_len, length-range_with_len}}}
+use Rattle.std.proofs.lemmas.{Bool.{and_parts, eqb-true}, List.{FromFn.{get_or-range_with_len, length-range_with_len}}}
 use Rattle.std.specs.{List.{All, Contains, cons_option, filter_map, range_with_len}, Prelude.{IfSome, ◌==◌, slice_get}}
 use Rattle.sci_core.proofs.Basics.Options.{of_some}
 use Rattle.sci_orders.proofs.Changes.{issued_fits, list_below, performed_fits}
@@ -16,10 +16,7 @@ use Rattle.sci_orders.specs.declared.standing.Answer.TheVariants as answer
 given_if : {X Y : Type 0} (f : X → Option Y) (x : X) (xs : List X) (y : Y) (o : Option Y) → f x ≡ o → Contains (cons_option o (filter_map f xs)) y
     → (Contains (filter_map f xs) y → (z : X) × Contains xs z × (f z ≡ Some y)) → (z : X) × Contains (x ∷ xs) z × (f z ≡ Some y)
 given_if f x xs y None is has rest = (let found = rest has in (found.0, contains_there x found.0 xs found.1, found.2))
-given_if f x xs y (Some w) is has rest = elim (contains_cases w y (filter_map f xs) has) [
-  | inl here ↦ (x, contains_here x xs, is ∙ ap Some here)
-  | inr later ↦ (let found = rest later in (found.0, contains_there x found.0 xs found.1, found.2))
-]
+given_if f x xs y (Some w) is has rest = grind (arith, contains_cases, contains_here, contains_there)
 
 pub given : {X Y : Type 0} (f : X → Option Y) (xs : List X) (y : Y) → Contains (filter_map f xs) y → (x : X) × Contains xs x × (f x ≡ Some y)
 given f [] y has = contains_none y has
@@ -37,10 +34,7 @@ gives f (z ∷ xs) x y has is = elim (contains_cases z x xs has) [
 ]
 
 pub place_below : (n i : ℕ) → Contains (range_with_len 0 n) i → i < n
-place_below n i (k, below, at) =
-    let long = length-range_with_len 0 n in
-    let is = get_or-range_with_len 0 n k i (omega arith) in
-    omega arith
+place_below n i (k, below, at) = grind (arith, length-range_with_len, get_or-range_with_len)
 
 pub below_place : (n i : ℕ) → i < n → Contains (range_with_len 0 n) i
 below_place n i below =
@@ -81,6 +75,4 @@ reached_fits lines operations window (suc count) p within (q, reached, s) =
 
 pub all_fit : (lines : ℕ) (operations : Operations) (window count : ℕ) (positions : List Position) → AreWithin lines operations
     → AreReachedIn lines operations window count positions → All (Fits operations) positions
-all_fit lines operations window count positions within so =
-    All-weaker (IsReachedIn lines operations window count) (Fits operations) (λ p way. reached_fits lines operations window count p within way) positions
-    so.each
+all_fit lines operations window count positions within so = grind (arith, reached_fits)

@@ -4,11 +4,11 @@ use Rattle.std.proofs.Common.{Option, Some, None, refl, sym, ap, subst, ◌∙�
 use Rattle.std.proofs.lemmas.Bool.{cases_eq, eq-eqb, ne_eqb}
 use Rattle.std.proofs.lemmas.List.{append-nil, length-replicate, get_or-replicate, FromFn.{fill_by_all}, Sums.{sum_by-cons}}
 use Rattle.std.specs.{List.{AllByRecursion}, Prelude.{IsSome, count_by, option_map, option_to_list, unwrap_or}}
-use Rattle.sci_words.specs.{Operation.{is_maker}, Stamped.{after, reply_of, zero_stamped}}
+use Rattle.sci_words.specs.{Stamped.{zero_stamped}}
 use Rattle.sci_words.specs.declared.{event.Event.{Event}, limits.TheConstants.{MAX_NODES}, stamped.Stamped.{Stamped}}
 use Rattle.sci_history.proofs.OracleSteps.{contents_of-push}
 use Rattle.sci_history.proofs.Oracles.{Traced, IsNext, count_push, line_at-zero, stamped_at-contents_of, stamped_of, traced_none, traced_push}
-use Rattle.sci_history.specs.{Memory.{contents_after, stamped_at}, Oracle.{Issue, contents_left, done_after, entry_after, makes_on}, Placed.{is_of_node}}
+use Rattle.sci_history.specs.{Memory.{contents_after}, Oracle.{Issue, contents_left, done_after, entry_after}, Placed.{is_of_node}}
 use Rattle.sci_history.specs.declared.entry.Entry.{Entry}
 use Rattle.sci_core.proofs.{Shape.ShapeRuns.{replicated}, WellFormed.WellFormedSteps.{is_size}}
 use Rattle.sci_core.specs.{Size.{Size, IsMachineSize}, declared.pending.Pending.{Pending}}
@@ -43,23 +43,12 @@ done_one plain issue = with_performed (issued_one plain issue) issue.0 issue.1.l
 
 may_issue_one : (size : Size) (done : List Entry) (plain : Plain) (issue : Issue) → IsAfter size done plain → IsFor size issue
     → count_by (is_of_node issue.0) done < size.limit → can_issue plain issue.0 issue.1 ≡ true
-may_issue_one size done plain issue is for few =
-    let lines : plain.size.lines ≡ size.lines = ap (λ (s : Size). s.lines) is.size_is in
-    let limit : plain.size.limit ≡ size.limit = ap (λ (s : Size). s.limit) is.size_is in
-    let inside = for.line in
-    let word = for.word in
-    let count = is.issued issue.0 for.node in
-    can_issue_by plain issue.0 issue.1 (omega arith) word for.words (is.free issue.0 issue.1.line) (omega arith)
+may_issue_one size done plain issue is for few = grind (arith, can_issue_by)
 
 -- what waits then
 waits_one : (size : Size) (done : List Entry) (plain : Plain) (issue : Issue) → IsAfter size done plain → IsFor size issue
     → waits_at (issued_one plain issue) issue.0 issue.1.line ≡ Some (waiting plain issue)
-waits_one size done plain issue is for =
-    let nodes = is.nodes in
-    let lines = is.lines issue.0 for.node in
-    let inside = for.line in
-    let lt = for.node in
-    issued_waits_here plain issue.0 issue.1 (omega arith) (omega arith)
+waits_one size done plain issue is for = grind (arith, issued_waits_here)
 
 -- ---- the entry, and the memory after it
 
@@ -69,13 +58,7 @@ version_as false n = omega arith
 
 entry_one : (size : Size) (done : List Entry) (plain : Plain) (issue : Issue) → IsAfter size done plain → IsFor size issue
     → entry_at (issued_one plain issue) issue.0 (waiting plain issue) ≡ entry_after size.lines done issue
-entry_one size done plain issue is for =
-    let line = issue.1.line in
-    let old : stamped_at plain.contents line ≡ stamped_of size.lines done line =
-    ap (λ (c : List Stamped). stamped_at c line) is.contents ∙ stamped_at-contents_of size.lines done line is.traced in
-    same_entry (entry_at (issued_one plain issue) issue.0 (waiting plain issue)) (entry_after size.lines done issue) refl (is.issued issue.0 for.node) refl
-    (ap (λ (s : Stamped). reply_of s.line issue.1) old)
-    (ap (λ (s : Stamped). (after s issue.1).version) old ∙ version_as (is_maker issue.1) (count_by (makes_on line) done))
+entry_one size done plain issue is for = grind (arith, stamped_of, stamped_at-contents_of, same_entry, version_as)
 
 one_more : (size : Size) (done : List Entry) (plain : Plain) (issue : Issue) → size.nodes ≤ MAX_NODES → IsAfter size done plain → IsFor size issue
     → IsAfter size (done ++ entry_after size.lines done issue ∷ []) (done_one plain issue)

@@ -1,15 +1,15 @@
 -- What is seen of a schedule is possible for one memory, with the same entries and the same last contents.
 use Rattle.std.proofs.Common.{◌≡◌, ℕ, zero, suc, ◌+◌, ◌&&◌, Bool, true, false, if◌then◌else◌, List, [], ◌∷◌, ◌++◌, map, replicate, Option, Some, None, refl}
+use Rattle.std.proofs.Common.{arith}
 use Rattle.std.proofs.Common.{sym, ap, subst, ◌∙◌}
 use Rattle.std.proofs.lemmas.List.{get_or-replicate, length-replicate, FromFn.{fill_by_all}}
-use Rattle.std.specs.{List.{range_with_len}, Prelude.{IsSome, is_some, option_to_list, unwrap_or}}
+use Rattle.std.specs.{List.{range_with_len}, Prelude.{is_some}}
 use Rattle.sci_words.specs.{Stamped.{zero_stamped}, declared.event.Event.{Event}}
-use Rattle.sci_history.specs.declared.entry.Entry.{Entry}
 use Rattle.sci_core.proofs.{ReachedLaws.{schedule_history}, WellFormed.WellFormedSteps.{reachable_next}}
-use Rattle.sci_core.specs.{Core.{Core, opening, run_from, step, stepping}, Done.{done_from, made_by, performed}, Node.{opening_node}, Reached.{IsReachable}}
+use Rattle.sci_core.specs.{Core.{Core, opening, run_from, step, stepping}, Done.{done_from, made_by}, Node.{opening_node}, Reached.{IsReachable}}
 use Rattle.sci_core.specs.{Sharing.{last_at}, Size.{Size, IsSize}}
 use Rattle.sci_orders.proofs.Plains.{SeenAs, Stays, event_seen, hidden_stays, same_plain, step_is}
-use Rattle.sci_orders.specs.Plain.{AreAllowed, Plain, Port, opening_plain, plain_done, plain_made, plain_of, plain_run, plain_step, port_of}
+use Rattle.sci_orders.specs.Plain.{AreAllowed, Plain, Port, opening_plain, plain_done, plain_of, plain_run, port_of}
 use Rattle.sci_orders.specs.Witness.{IsExplainedBy, is_seen, seen, seen_from}
 
 -- what is seen of events, and the memory beside it
@@ -20,31 +20,15 @@ pub record Sound (core : Core) (events order : List Event) : Type 0 where
 
 sound_stays : (core : Core) (e : Event) (events order : List Event) → Stays core (step core e) (made_by core e) → Sound (step core e) events order
     → Sound core (e ∷ events) order
-sound_stays core e events order stays rest = record {
-  allowed = subst (λ (p : Plain). AreAllowed p order) stays.plain rest.allowed;
-  done = ap (λ (m : Option Entry). option_to_list m ++ done_from (step core e) events) stays.none
-      ∙ (rest.done ∙ ap (λ (p : Plain). plain_done p order) stays.plain);
-  plain = rest.plain ∙ ap (λ (p : Plain). plain_run p order) stays.plain;
-}
+sound_stays core e events order stays rest = grind arith
 
 sound_seen : (core new : Core) (e : Event) (events order : List Event) → stepping core e ≡ Some new → SeenAs core new e → Sound (step core e) events order
     → Sound core (e ∷ events) (e ∷ order)
-sound_seen core new e events order steps as_ rest =
-    let to : plain_step (plain_of core) e ≡ plain_of (step core e) =
-    ap (λ (o : Option Plain). unwrap_or o (plain_of core)) as_.steps ∙ ap plain_of (sym (step_is core new e steps)) in
-    record {
-      allowed = (subst IsSome (sym as_.steps) refl, subst (λ (p : Plain). AreAllowed p order) (sym to) rest.allowed);
-      done = ap (λ (m : Option Entry). option_to_list m ++ done_from (step core e) events) (sym as_.made)
-          ∙ ap (λ (es : List Entry). option_to_list (plain_made (plain_of core) e) ++ es) (rest.done ∙ ap (λ (p : Plain). plain_done p order) (sym to));
-      plain = rest.plain ∙ ap (λ (p : Plain). plain_run p order) (sym to);
-    }
+sound_seen core new e events order steps as_ rest = grind (arith, step_is)
 
 -- an event that is not enabled changes nothing
 none_stays : (core : Core) (e : Event) → stepping core e ≡ None → Stays core (step core e) (made_by core e)
-none_stays core e none = record {
-  none = ap (λ (o : Option Core). elim o as (λ _. Option Entry) [ None ↦ None | Some x ↦ performed core e ]) none;
-  plain = ap (λ (o : Option Core). plain_of (unwrap_or o core)) none;
-}
+none_stays core e none = grind arith
 
 event_sound : (core : Core) (e : Event) (events order : List Event) (b : Bool) (next : Option Core) → IsReachable core → is_seen e ≡ b → stepping core e ≡ next
     → Sound (step core e) events order → Sound core (e ∷ events) ((if b && is_some next then e ∷ [] else []) ++ order)

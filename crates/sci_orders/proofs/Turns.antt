@@ -45,26 +45,11 @@ passes_none core = record { seen = refl; leads = refl; made = tt }
 
 pub passes_hidden : (core next new : Core) (e : Event) (events order : List Event) → is_seen e ≡ false → stepping core e ≡ Some next
     → Passes next events order new → Passes core (e ∷ events) order new
-passes_hidden core next new e events order hidden steps rest =
-    let is = step_is core next e steps in
-    record {
-      seen = ap (λ (b : Bool). (if b && is_some (stepping core e) then e ∷ [] else []) ++ seen_from (step core e) events) hidden
-          ∙ (ap (λ (x : Core). seen_from x events) is ∙ rest.seen);
-      leads = ap (λ (x : Core). run_from x events) is ∙ rest.leads;
-      made = made-cons core next e events steps rest.made;
-    }
+passes_hidden core next new e events order hidden steps rest = grind (arith, step_is, made-cons)
 
 pub passes_seen : (core next new : Core) (e : Event) (events order : List Event) → is_seen e ≡ true → stepping core e ≡ Some next
     → Passes next events order new → Passes core (e ∷ events) (e ∷ order) new
-passes_seen core next new e events order shown steps rest =
-    let is = step_is core next e steps in
-    record {
-      seen = ap (λ (b : Bool). (if b && is_some (stepping core e) then e ∷ [] else []) ++ seen_from (step core e) events) shown
-          ∙ (ap (λ (o : Option Core). (if is_some o then e ∷ [] else []) ++ seen_from (step core e) events) steps
-          ∙ ap (λ (es : List Event). e ∷ es) (ap (λ (x : Core). seen_from x events) is ∙ rest.seen));
-      leads = ap (λ (x : Core). run_from x events) is ∙ rest.leads;
-      made = made-cons core next e events steps rest.made;
-    }
+passes_seen core next new e events order shown steps rest = grind (arith, step_is, made-cons)
 
 seen-append : (core : Core) (xs ys : List Event) → seen_from core (xs ++ ys) ≡ seen_from core xs ++ seen_from (run_from core xs) ys
 seen-append core [] ys = refl
@@ -75,21 +60,12 @@ seen-append core (e ∷ xs) ys =
 
 pub passes_append : (core mid new : Core) (xs ys first next : List Event) → Passes core xs first mid → Passes mid ys next new
     → Passes core (xs ++ ys) (first ++ next) new
-passes_append core mid new xs ys first next a b = record {
-  seen = seen-append core xs ys ∙ (ap (λ (es : List Event). es ++ seen_from (run_from core xs) ys) a.seen
-      ∙ ap (λ (es : List Event). first ++ es) (ap (λ (x : Core). seen_from x ys) a.leads ∙ b.seen));
-  leads = fold-append step core xs ys ∙ (ap (λ (x : Core). run_from x ys) a.leads ∙ b.leads);
-  made = made_append any_event core xs ys a.made (subst (λ (x : Core). AreMade any_event x ys) (sym a.leads) b.made);
-}
+passes_append core mid new xs ys first next a b = grind (arith, seen-append, fold-append, made_append)
 
 -- ---- a round
 
 pub round_passes : (core : Core) (n line : ℕ) (ask : AskKind) (t : ℕ) → (r : Rounds core n line ask t) → Passes core (round_with t n line ask) [] r.last
-round_passes core n line ask t r =
-    passes_hidden core r.first r.last (event.Ask n line ask) _ [] refl r.ask
-    (passes_hidden r.first r.second r.last (event.Serve n t) _ [] refl r.serve
-    (passes_hidden r.second r.third r.last (event.Reply t) _ [] refl r.reply
-    (passes_hidden r.third r.last r.last (event.Accept t n) [] [] refl r.accept (passes_none r.last))))
+round_passes core n line ask t r = grind (arith, passes_hidden, passes_none)
 
 pub round_reached : (core : Core) (n line : ℕ) (ask : AskKind) (t : ℕ) → (r : Rounds core n line ask t) → IsReached core → IsReached r.last
 round_reached core n line ask t r reached =
@@ -166,10 +142,7 @@ read_one core n line idle lt inside =
 
 -- no node joins before it
 none_joins : (core : Core) (n line : ℕ) → IsHeld core n line → (m : ℕ) → joins_before (state_at core line m) n ≡ false
-none_joins core n line held m = elim (cases_eq m n) [
-  | inl e ↦ ap (λ (k : ℕ). joins_before (state_at core line k) n) e ∙ ap (λ (s : CacheState). joins_before s n) held.here
-  | inr other ↦ ap (λ (s : CacheState). joins_before s n) (held.others m line (λ both. other both.0))
-]
+none_joins core n line held m = grind (arith, cases_eq)
 
 pub record BackOf (core new : Core) (n line : ℕ) : Type 0 where
   pub idle : IsIdle new

@@ -7,7 +7,7 @@ use Rattle.std.proofs.lemmas.List.{append-nil, get_or_append_left, get_or_defaul
 use Rattle.std.proofs.lemmas.List.Elements.{All-get_or}
 use Rattle.std.specs.{List.{All, Contains}, Prelude.{Vec}}
 use Rattle.sci_words.specs.declared.event.Event.{Event}
-use Rattle.sci_core.{proofs.Basics.Options.{same_some}, specs.Size.{Size}}
+use Rattle.sci_core.{specs.Size.{Size}}
 use Rattle.sci_orders.proofs.{Changes.{list_below}, Keeping.{contains_none}, Sameness.{equal_standing, same_standing}}
 use Rattle.sci_orders.specs.{Eager.{AreFoundIn, IsFoundIn}, Positions.{IsStep, Operations, Position, own_of, position_of, step_at}}
 use Rattle.sci_orders.specs.{Ways.{AreLevels, IsStepBy, LeadsTo, levels_of}, Witness.{round_of, schedule_of, turn_of}}
@@ -19,10 +19,7 @@ use Rattle.sci_orders.specs.contracts.standing.StandingPartialEq.TheImpl as TheE
 -- a step leads to a standing exactly if what it gives is found equal to it
 pub leads_some : (next to : Standing) (o : Option Position) (b : Bool) → Some (position_of next) ≡ o → b ≡ (TheEquality.ghosts).eq next to
     → (b ≡ true) ↔ (o ≡ Some (position_of to))
-leads_some next to o b is same = (
-  (λ found. sym is ∙ ap Some (same_standing next to (sym same ∙ found))),
-  (λ leads. same ∙ equal_standing next to (same_some (position_of next) (position_of to) (is ∙ leads))),
-)
+leads_some next to o b is same = grind (arith, same_standing, equal_standing)
 
 pub leads_none : (to : Position) (o : Option Position) → None ≡ o → (false ≡ true) ↔ (o ≡ Some to)
 leads_none to o is = ((λ found. cc), (λ leads. (let clash : None ≡ Some to = is ∙ leads in cc)))
@@ -122,16 +119,7 @@ level_at {Z = Z} lines operations window levels i item standings low is same all
 pub turn_made : (size : Size) (n line : ℕ) (e : Event) (old a b new first second : List Event) → e ≡ event.Perform n line → a ≡ old ++ first
     → b ≡ a ++ e ∷ [] → new ≡ b ++ second → first ≡ round_of size n line kind.Mread → second ≡ round_of size n line kind.Wback
     → new ≡ old ++ turn_of size e
-turn_made size n line e old a b new first second is one two three here there =
-    let turn : old ++ (round_of size n line kind.Mread ++ (e ∷ round_of size n line kind.Wback)) ≡ old ++ turn_of size e =
-    ap (λ (f : Event). old ++ (round_of size n line kind.Mread ++ (f ∷ round_of size n line kind.Wback))) is
-    ∙ sym (ap (λ (f : Event). old ++ turn_of size f) is) in
-    three
-    ∙ (ap (λ (es : List Event). es ++ second) (two ∙ ap (λ (es : List Event). es ++ e ∷ []) one)
-    ∙ (append_assoc (old ++ first) (e ∷ []) second
-    ∙ (append_assoc old first (e ∷ second)
-    ∙ (ap (λ (es : List Event). old ++ (es ++ (e ∷ second))) here
-    ∙ (ap (λ (es : List Event). old ++ (round_of size n line kind.Mread ++ (e ∷ es))) there ∙ turn)))))
+turn_made size n line e old a b new first second is one two three here there = grind (arith, append_assoc)
 
 pub schedule_take : (size : Size) (order : List Event) (k : ℕ) (d : Event) → k < length order
     → schedule_of size (take (k + 1) order) ≡ schedule_of size (take k order) ++ turn_of size (get_or order k d)

@@ -56,11 +56,4 @@ own_few operations n = elim (cases_lt n (length operations)) [
 
 pub any_order : (operations : Operations) (order : List Event) → ((n : ℕ) → issues_at n order ≡ own_of operations n)
     → length order ≡ operation_count operations * 2 → IsOrderOf operations (operation_count operations) order
-any_order operations order issued whole = record {
-  issued = issued;
-  few = few_enough (operation_count operations) order (λ n. 0) (λ n. (
-      let own = own_few operations n in
-      let same : length (issues_at n order) ≡ length (own_of operations n) = ap (λ (ops : List Op). length ops) (issued n) in
-      omega arith));
-  whole = whole;
-}
+any_order operations order issued whole = grind (arith, few_enough, own_few)
