@@ -1,12 +1,12 @@
 -- What a scoreboard takes is lawful, and what it says is at fault is in no lawful logs.
-use Rattle.std.proofs.Common.{◌≡◌, ℕ, suc, ◌<◌, ◌≤◌, true, eqb, List, [], ◌∷◌, ◌++◌, get_or}
+use Rattle.std.proofs.Common.{◌≡◌, ℕ, ◌<◌, ◌≤◌, true, eqb, List, [], ◌∷◌, ◌++◌, get_or}
 use Rattle.std.proofs.Common.{Option, Some, None, refl, sym, ap, subst, ◌∙◌, arith, inl, inr}
 use Rattle.std.proofs.lemmas.Bool.{cases_Bool, eq-eqb, and_from, and_parts, Decides.{nat_tests}}
 use Rattle.std.proofs.lemmas.List.{Elements.{filter-append}, FromFn.{get_or-map-range_with_len}}
 use Rattle.std.proofs.Math.ListN.{get_or-map}
 use Rattle.std.specs.{Prelude.{nat_le, IsTrue}, List.{filter, AllByRecursion}}
 use Rattle.sci_words.specs.declared.{limits.TheConstants.{MAX_NODES}, stamped.Stamped.{Stamped}}
-use Rattle.sci_words.specs.{Stamped.{after, line_after, reply_of, zero_stamped}}
+use Rattle.sci_words.specs.{Stamped.{after, reply_of, zero_stamped}}
 use Rattle.sci_history.specs.{declared.entry.Entry.{Entry}, History.{IsHistory, words_at}, Memory.{stamped_at}, Seen.{IsAmong}}
 use Rattle.sci_history.specs.Placed.{is_making, is_of_node, is_on_line, log_of, makes}
 use Rattle.sci_history.proofs.Order.{IsInOrder, IsInOrder-filter, all-filter, all_weaker, all-passes, filter_yes, filter-filter}
@@ -113,15 +113,7 @@ told_among told line entries stand t known among =
 
 followed_one : (old : Stamped) (e : Entry) (words : ℕ → List ℕ) → e.version ≡ (after old e.op).version → Agrees words e → words old.version ≡ old.line
     → words (after old e.op).version ≡ (after old e.op).line
-followed_one old e words is agree at =
-    elim (cases_Bool (is_making e)) [
-      | inl maker ↦
-          let more = version-maker old e.op maker in
-          let next : e.version ≡ suc old.version = omega arith in
-          let made = (agree.made old.version maker next).1 in
-          ap words (omega arith) ∙ (made ∙ ap (λ (ws : List ℕ). line_after ws e.op) at)
-      | inr load ↦ ap words (version-load old e.op load) ∙ (at ∙ sym (line_after-load old.line e.op load))
-    ]
+followed_one old e words is agree at = grind (arith, version-maker, version-load, line_after-load)
 
 -- entries that agree with the words at each version lead from a line that has them to one that has them
 followed : (es : List Entry) (old new : Stamped) (words : ℕ → List ℕ) → IsHistory es old new → AllByRecursion (Agrees words) es
@@ -133,16 +125,7 @@ followed (e ∷ es) old new words h agree at =
 -- and the reply of the next one is the line's
 replied : (line : Stamped) (e : Entry) (words : ℕ → List ℕ) → e.version ≡ (after line e.op).version → Agrees words e → words line.version ≡ line.line
     → e.reply ≡ reply_of line.line e.op
-replied line e words is agree at =
-    elim (cases_Bool (is_making e)) [
-      | inl maker ↦
-          let more = version-maker line e.op maker in
-          let next : e.version ≡ suc line.version = omega arith in
-          (agree.made line.version maker next).0 ∙ ap (λ (ws : List ℕ). reply_of ws e.op) at
-      | inr load ↦
-          let same : e.version ≡ line.version = is ∙ version-load line e.op load in
-          agree.read load ∙ ap (λ (ws : List ℕ). reply_of ws e.op) (ap words same ∙ at)
-    ]
+replied line e words is agree at = grind (arith, version-maker, version-load)
 
 -- ---- no false alarm
 
@@ -157,39 +140,25 @@ record Told (first : List Stamped) (told : List Entry) (lines : List LineSoFar) 
 
 -- the entries of a line, with the one that is told on it
 told_on : (told : List Entry) (entry : Entry) → filter (is_on_line entry.op.line) (told ++ entry ∷ []) ≡ filter (is_on_line entry.op.line) told ++ entry ∷ []
-told_on told entry =
-    let on = is_on_line entry.op.line in
-    filter-append on told (entry ∷ []) ∙ ap (λ (es : List Entry). filter on told ++ es) (filter_yes on entry [] (eq-eqb entry.op.line entry.op.line refl))
+told_on told entry = grind (arith, filter-append, filter_yes)
 
 told_of : (told : List Entry) (entry : Entry)
     → filter (is_of_node entry.node) (filter (is_on_line entry.op.line) (told ++ entry ∷ []))
     ≡ filter (is_of_node entry.node) (filter (is_on_line entry.op.line) told) ++ entry ∷ []
-told_of told entry =
-    let of = is_of_node entry.node in
-    let before = filter (is_on_line entry.op.line) told in
-    ap (filter of) (told_on told entry) ∙ (filter-append of before (entry ∷ [])
-    ∙ ap (λ (es : List Entry). filter of before ++ es) (filter_yes of entry [] (eq-eqb entry.node entry.node refl)))
+told_of told entry = grind (arith, told_on, filter-append, filter_yes)
 
 own_entries : (first : List Stamped) (told : List Entry) (lines : List LineSoFar) (entry : Entry) (last : Stamped) → (k : Told first told lines entry last)
     → filter (is_of_node entry.node) k.entries
     ≡ (filter (is_of_node entry.node) (filter (is_on_line entry.op.line) told) ++ entry ∷ []) ++ (k.each entry.node k.known).rest
-own_entries first told lines entry last k =
-    let s = k.each entry.node k.known in
-    s.are ∙ ap (λ (es : List Entry). es ++ s.rest) (told_of told entry)
+own_entries first told lines entry last k = grind (arith, told_of)
 
 entry_among : (first : List Stamped) (told : List Entry) (lines : List LineSoFar) (entry : Entry) (last : Stamped) → (k : Told first told lines entry last)
     → IsAmong entry k.entries
-entry_among first told lines entry last k =
-    told_among (told ++ entry ∷ []) entry.op.line k.entries k.each entry k.known
-    (subst (IsAmong entry) (sym (told_on told entry)) (among_back (filter (is_on_line entry.op.line) told) entry []))
+entry_among first told lines entry last k = grind (arith, told_among, told_on, among_back)
 
 earlier_among : (first : List Stamped) (told : List Entry) (lines : List LineSoFar) (entry : Entry) (last : Stamped) → (k : Told first told lines entry last)
     → (t : Entry) → IsAmong t (filter (is_on_line entry.op.line) told) → IsAmong t k.entries
-earlier_among first told lines entry last k t among =
-    let known = among_all (λ e. e.node < MAX_NODES) t (filter (is_on_line entry.op.line) told)
-    (all-filter (λ e. e.node < MAX_NODES) (is_on_line entry.op.line) told (nodes_told (begun_lines first) told lines k.taken)) among in
-    told_among (told ++ entry ∷ []) entry.op.line k.entries k.each t known
-    (subst (IsAmong t) (sym (told_on told entry)) (among_begins t (filter (is_on_line entry.op.line) told) (entry ∷ []) among))
+earlier_among first told lines entry last k t among = grind (arith, among_all, all-filter, nodes_told, told_among, told_on, among_begins)
 
 not_before : (line : LineSoFar) (entry : Entry) (version : ℕ) → line.first ≡ version → version ≤ entry.version
     → (IsTrue (is_making entry) → version < entry.version) → is_before_first line entry ≡ true → ⊥

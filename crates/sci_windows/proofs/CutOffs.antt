@@ -1,22 +1,21 @@
 -- A window whose last contents aren't known is lawful exactly if no line of its relative logs has a fault but that of the last contents.
-use Rattle.std.proofs.Common.{◌≡◌, ◌≢◌, ◌↔◌, ℕ, zero, suc, ◌<◌, ◌≤◌, false, List, [], ◌∷◌, ◌++◌, length, map, get_or}
+use Rattle.std.proofs.Common.{◌≡◌, ◌≢◌, ◌↔◌, ℕ, zero, suc, ◌<◌, ◌≤◌, List, [], ◌∷◌, ◌++◌, length, map, get_or}
 use Rattle.std.proofs.Common.{Option, Some, None, refl, sym, subst, ◌∙◌, arith, inl, inr}
 use Rattle.std.proofs.lemmas.Bool.{cases_eq, cases_lt, ne_eqb}
 use Rattle.std.proofs.lemmas.List.{get_or_append_left, get_or_past, get_or_push, length-append, length-map}
 use Rattle.std.proofs.lemmas.List.Elements.{recursion_from_All}
-use Rattle.std.specs.{Prelude.{AllPairs}, List.{filter}}
 use Rattle.sci_words.specs.declared.{limits.TheConstants.{MAX_NODES}, stamped.Stamped.{Stamped}}
 use Rattle.sci_words.specs.Stamped.{zero_stamped}
 use Rattle.sci_history.specs.declared.{entry.Entry.{Entry}, faults.LineFault.{LineFault}, verdict.FaultKind.{FaultKind}, verdict.Verdict.{Verdict}}
 use Rattle.sci_history.specs.declared.verdict.FaultKind.TheVariants.{VersionTwice, VersionMissing, WrongReply, OutOfOrder, LastDiffers}
 use Rattle.sci_history.specs.declared.verdict.Verdict.TheVariants as verdicts
-use Rattle.sci_history.specs.Audit.{AreFound, AreWithin, IsFound, IsLineFault, IsWithin, first_disordered, first_missing, first_twice, first_wrong, words_after}
+use Rattle.sci_history.specs.Audit.{AreFound, AreWithin, IsFound, IsLineFault, first_disordered, first_missing, first_twice, first_wrong, words_after}
 use Rattle.sci_history.specs.{History.{IsHistory}, Lawful.{IsLawfulLine}, Memory.{stamped_at}}
-use Rattle.sci_history.specs.Placed.{AreOwn, is_on_line, log_of, maker_count, on_line, placed_entries}
+use Rattle.sci_history.specs.Placed.{AreOwn, maker_count, on_line, placed_entries}
 use Rattle.sci_history.proofs.{Audits.{fault_or_none, lawful_found, no_fault}, Lawfulness.{lawful_line}}
 use Rattle.sci_history.proofs.Order.{all_weaker, filter_none}
 use Rattle.sci_windows.specs.Relative.{AreEarly, AreFew, AreLines, relative_entry, relative_logs, relative_stamped, relative_to}
-use Rattle.sci_windows.specs.{Fault.{IsLineFaultFrom, counted}, Window.{HasHistoryFrom}}
+use Rattle.sci_windows.specs.{Fault.{IsLineFaultFrom}, Window.{HasHistoryFrom}}
 use Rattle.sci_windows.specs.CutOff.{HasSomeHistory, IsAtLast, IsBeforeLast, IsVerdictCutOff, LawfulCutOff}
 use Rattle.sci_windows.proofs.Reductions.{few_makers, own_relative, placed_back, relative_end, relative_start}
 use Rattle.sci_windows.proofs.{Overs.{over}, Relatives.{from_relative}, Verdicts.{counted_fault, on_line_over}}
@@ -112,18 +111,7 @@ chosen P (suc n) h =
 -- a line that no entry is on
 empty_line : (logs : List (List Entry)) (first : List Stamped) (line : ℕ) → AreWithin (length first) logs → length first ≤ line
     → HasHistoryFrom logs line zero_stamped zero_stamped
-empty_line logs first line within past =
-    let none : (node : ℕ) → filter (is_on_line line) (log_of logs node) ≡ [] =
-    λ node. filter_none (is_on_line line) (log_of logs node)
-    (all_weaker (IsWithin (length first)) (λ e. is_on_line line e ≡ false) (λ e w. let low = w.0 in ne_eqb e.op.line line (λ is. absurd (omega arith)))
-    (log_of logs node) (recursion_from_All (IsWithin (length first)) (log_of logs node) (within node))) in
-    record {
-      entries = [];
-      history = refl;
-      nodes = tt;
-      logged = λ node lt. none node;
-      serials = λ node lt. subst (λ (es : List Entry). AllPairs (λ x y. x.serial < y.serial) es) (sym (none node)) (λ i j d low high. absurd (omega arith));
-    }
+empty_line logs first line within past = grind (arith, filter_none, all_weaker, ne_eqb, recursion_from_All)
 
 all_lines : (logs : List (List Entry)) (first : List Stamped) → IsCutOff logs first
     → ((line : ℕ) → line < length first → HasSomeHistory logs line (stamped_at first line)) → LawfulCutOff logs first
@@ -168,12 +156,7 @@ no_history logs first ends line kind named w not fault (last, history) =
 fault_of : (logs : List (List Entry)) (first ends : List Stamped) (line : ℕ) (kind : FaultKind) (named : Option (ℕ × ℕ)) → IsCutOff logs first
     → kind ≢ LastDiffers → IsLineFault (on_line line (relative_logs first logs)) (stamped_at ends line) kind named
     → (last : Stamped) → IsLineFaultFrom (on_line line logs) (stamped_at first line) last kind named
-fault_of logs first ends line kind named w not fault last =
-    let from = stamped_at first line in
-    let entries = map (counted from.version) (on_line line logs) in
-    counted_fault entries from last kind named (w.lines line)
-    (any_last (map (over from.line) entries) (stamped_at ends line) (relative_stamped from last) kind named not
-    (subst (λ (es : List Entry). IsLineFault es (stamped_at ends line) kind named) (on_line_over first logs line) fault))
+fault_of logs first ends line kind named w not fault last = grind (arith, counted_fault, any_last, over, on_line_over)
 
 cut_off : (logs : List (List Entry)) (first ends : List Stamped) (lines : ℕ) (faults : List (Option LineFault)) (verdict : Verdict)
     → IsCutOff logs first → lines ≡ length first → AreFound (relative_logs first logs) ends lines faults → IsBeforeLast faults verdict

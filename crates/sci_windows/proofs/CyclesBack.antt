@@ -30,10 +30,7 @@ got_back first log place e (Some x) is h = record { entry = x; found = is; same 
 
 back_at : (first : List Stamped) (logs : List (List Entry)) (x : Step) → IsInLog (relative_logs first logs) x
     → IsBack first (log_of logs x.entry.node) x.place x.entry
-back_at first logs x here =
-    got_back first (log_of logs x.entry.node) x.place x.entry (slice_get (log_of logs x.entry.node) x.place) refl
-    (sym (slice_get-map (relative_entry first) (log_of logs x.entry.node) x.place)
-    ∙ (ap (λ (log : List Entry). slice_get log x.place) (sym (log_at first logs x.entry.node)) ∙ here))
+back_at first logs x here = grind (arith, got_back, slice_get-map, log_at)
 
 pub step_within : (first : List Stamped) (logs : List (List Entry)) (x : Step) → IsInLog (relative_logs first logs) x
     → x.place < length (log_of logs x.entry.node)
@@ -104,11 +101,7 @@ twin_of logs first last x sixteen lawful here =
 -- on one line the versions are as far apart
 versions_apart : (first : List Stamped) (a x b y : Step) → IsTwin first a x → IsTwin first b y → y.entry.op.line ≡ x.entry.op.line
     → b.entry.version + x.entry.version ≡ a.entry.version + y.entry.version
-versions_apart first a x b y s t line =
-    let from = ap (λ (k : ℕ). (stamped_at first k).version) line in
-    let version_a = s.version in
-    let version_b = t.version in
-    omega arith
+versions_apart first a x b y s t line = grind arith
 
 twin_comes : (first : List Stamped) (reason : Reason) (a x b y : Step) → IsTwin first a x → IsTwin first b y → ComesAfter reason x y → ComesAfter reason a b
 twin_comes first Logged a x b y s t h =
@@ -120,14 +113,8 @@ twin_comes first ReadsFrom a x b y s t h =
     let apart = versions_apart first a x b y s t h.0 in
     let same = h.3 in
     (t.line ∙ (h.0 ∙ sym s.line), t.making ∙ h.1, s.making ∙ h.2, omega arith)
-twin_comes first FromRead a x b y s t h =
-    let apart = versions_apart first a x b y s t h.0 in
-    let lt = h.3 in
-    (t.line ∙ (h.0 ∙ sym s.line), t.making ∙ h.1, s.making ∙ h.2, omega arith)
-twin_comes first Coherence a x b y s t h =
-    let apart = versions_apart first a x b y s t h.0 in
-    let lt = h.3 in
-    (t.line ∙ (h.0 ∙ sym s.line), t.making ∙ h.1, s.making ∙ h.2, omega arith)
+twin_comes first FromRead a x b y s t h = grind (arith, versions_apart)
+twin_comes first Coherence a x b y s t h = grind (arith, versions_apart)
 
 twin_came : (first : List Stamped) (reason : Reason) (a x b y : Step) → IsTwin first a x → IsTwin first b y → ComesAfter reason a b → ComesAfter reason x y
 twin_came first Logged a x b y s t h =
@@ -140,16 +127,8 @@ twin_came first ReadsFrom a x b y s t h =
     let apart = versions_apart first a x b y s t line in
     let same = h.3 in
     (line, sym t.making ∙ h.1, sym s.making ∙ h.2, omega arith)
-twin_came first FromRead a x b y s t h =
-    let line : y.entry.op.line ≡ x.entry.op.line = sym t.line ∙ (h.0 ∙ s.line) in
-    let apart = versions_apart first a x b y s t line in
-    let lt = h.3 in
-    (line, sym t.making ∙ h.1, sym s.making ∙ h.2, omega arith)
-twin_came first Coherence a x b y s t h =
-    let line : y.entry.op.line ≡ x.entry.op.line = sym t.line ∙ (h.0 ∙ s.line) in
-    let apart = versions_apart first a x b y s t line in
-    let lt = h.3 in
-    (line, sym t.making ∙ h.1, sym s.making ∙ h.2, omega arith)
+twin_came first FromRead a x b y s t h = grind (arith, versions_apart)
+twin_came first Coherence a x b y s t h = grind (arith, versions_apart)
 
 -- ---- cycles
 

@@ -18,9 +18,7 @@ use Rattle.sci_windows.proofs.Verdicts.{IsWindow}
 pub named_verdict : (logs relative : List (List Entry)) (first last contents : List Stamped) (found : OrderVerdict) → relative ≡ relative_logs first logs
     → contents ≡ relative_contents first last → IsOrderVerdict relative contents found
     → IsOrderVerdict (relative_logs first logs) (relative_contents first last) found
-named_verdict logs relative first last contents found is are h =
-    subst (λ (cs : List Stamped). IsOrderVerdict (relative_logs first logs) cs found) are
-    (subst (λ (ls : List (List Entry)). IsOrderVerdict ls contents found) is h)
+named_verdict logs relative first last contents found is are h = grind arith
 
 -- logs that can be ordered in a window can be as relative ones
 pub ordered_relative : (logs relative : List (List Entry)) (first last contents : List Stamped) → IsWindow logs first last → relative ≡ relative_logs first logs
@@ -42,17 +40,10 @@ node_list [] = refl
 node_list (r ∷ refs) = ap (λ (ns : List ℕ). r.now.node ∷ ns) (node_list refs)
 
 some_left : (node : ℕ) (e : Entry) (es : List Entry) → e.node ≡ node → filter (is_of_node node) (e ∷ es) ≡ [] → ⊥
-some_left node e es is none =
-    let some : e ∷ filter (is_of_node node) es ≡ [] = sym (filter_yes (is_of_node node) e es (eq-eqb e.node node is)) ∙ none in
-    absurd cc
+some_left node e es is none = grind (arith, filter_yes, eq-eqb)
 
 none_left : (node : ℕ) (e : Entry) (es : List Entry) → filter (is_of_node node) (e ∷ es) ≡ [] → filter (is_of_node node) es ≡ []
-none_left node e es none = elim (cases_Bool (is_of_node node e)) [
-  | inl yes_ ↦
-      let some : e ∷ filter (is_of_node node) es ≡ [] = sym (filter_yes (is_of_node node) e es yes_) ∙ none in
-      absurd cc
-  | inr no_ ↦ sym (filter_no (is_of_node node) e es no_) ∙ none
-]
+none_left node e es none = grind (arith, cases_Bool, filter_yes, filter_no)
 
 known_nodes : (es : List Entry) → ((node : ℕ) → MAX_NODES ≤ node → filter (is_of_node node) es ≡ [])
     → AllByRecursion (λ (node : ℕ). node < MAX_NODES) (map (λ (e : Entry). e.node) es)
@@ -103,10 +94,7 @@ pub order_found : (logs : List (List Entry)) (first last : List Stamped) (order 
     → ((node : ℕ) → filter (is_of_node node) order ≡ log_of logs node)
     → IsSequentialOrder (relative_logs first logs) (relative_contents first last) other
     → LawfulFrom logs first last × IsSequentialOrderFrom logs first last order
-order_found logs first last order other w lawful nodes own is = (
-  from_lawful logs first last w.own w.sixteen w.few w.long w.first_lines w.last_lines w.early lawful,
-  order_back logs first last order other w lawful nodes own is,
-)
+order_found logs first last order other w lawful nodes own is = grind (arith, from_lawful, order_back)
 
 pub cycle_found : (logs : List (List Entry)) (first last : List Stamped) (steps made : List Step) → IsWindow logs first last
     → made ≡ map (step_in logs) steps

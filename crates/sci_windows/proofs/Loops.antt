@@ -1,5 +1,5 @@
 -- Steps of the loops that make a window's relative logs and contents.
-use Rattle.std.proofs.Common.{◌≡◌, ◌↔◌, ℕ, suc, ◌+◌, ◌<◌, ◌≤◌, List, [], ◌∷◌, length, map, get_or, set, refl, sym, ap, subst, ◌∙◌, arith, inl, inr}
+use Rattle.std.proofs.Common.{◌≡◌, ◌↔◌, ℕ, suc, ◌+◌, ◌<◌, ◌≤◌, List, [], ◌∷◌, length, map, get_or, set, refl, sym, ap, subst, ◌∙◌, arith}
 use Rattle.std.proofs.lemmas.{Bool.{cases_eq, cases_lt}, List.{ext_get_or, get_or_past, get_or-set_same, get_or-set_other, length-map}}
 use Rattle.std.specs.Prelude.{All, IfOk, Result, Ok, Err}
 use Rattle.sci_words.specs.declared.{limits.TheConstants.{WORDS_PER_LINE}, stamped.Stamped.{Stamped}}
@@ -17,17 +17,11 @@ use Rattle.sci_windows.proofs.Verdicts.{IsWindow, window_lawful, window_verdict}
 -- one element more is as wanted
 pub set_next : {X : Type 0} (xs : List X) (i : ℕ) (x d : X) (f : ℕ → X) → i < length xs → x ≡ f i → ((k : ℕ) → k < i → get_or xs k d ≡ f k)
     → (k : ℕ) → k < i + 1 → get_or (set xs i x) k d ≡ f k
-set_next xs i x d f there is before k lt = elim (cases_eq k i) [
-  | inl here ↦ ap (λ (n : ℕ). get_or (set xs i x) n d) here ∙ get_or-set_same xs i x d there ∙ is ∙ ap f (sym here)
-  | inr other ↦ get_or-set_other xs i k x d other ∙ before k (omega arith)
-]
+set_next xs i x d f there is before k lt = grind (arith, cases_eq, get_or-set_same, get_or-set_other)
 
 -- of one number more it holds
 pub holds_next : (P : ℕ → Type 0) (i : ℕ) → P i → ((k : ℕ) → k < i → P k) → (k : ℕ) → k < i + 1 → P k
-holds_next P i here before k lt = elim (cases_eq k i) [
-  | inl is ↦ subst P (sym is) here
-  | inr other ↦ before k (omega arith)
-]
+holds_next P i here before k lt = grind (arith, cases_eq)
 
 line_long : (first words : List ℕ) → length (relative_line first words) ≡ length words
 line_long [] words = refl
@@ -50,10 +44,7 @@ contents_are first contents made long same each =
 -- each line has its words, those that there are and the zero line
 pub lines_are : (contents : List Stamped) (lines : ℕ) → lines ≡ length contents
     → ((k : ℕ) → k < lines → length (stamped_at contents k).line ≡ WORDS_PER_LINE) → AreLines contents
-lines_are contents lines long each line = elim (cases_lt line lines) [
-  | inl lt ↦ each line lt
-  | inr past ↦ ap (λ (s : Stamped). length s.line) (get_or_past contents line zero_stamped (omega arith))
-]
+lines_are contents lines long each line = grind (arith, cases_lt, get_or_past)
 
 pub logs_are : (first : List Stamped) (logs made : List (List Entry)) → length made ≡ length logs
     → ((node : ℕ) → node < length logs → log_of made node ≡ map (relative_entry first) (log_of logs node)) → made ≡ relative_logs first logs
@@ -66,10 +57,7 @@ pub own_log : (first : List Stamped) (logs : List (List Entry)) (node : ℕ) →
 own_log first logs node own = subst (All (λ (e : Entry). e.node ≡ node)) (log_at first logs node) (own_relative first logs own node)
 
 pub few_all : (logs : List (List Entry)) (nodes : ℕ) → nodes ≡ length logs → ((node : ℕ) → node < nodes → length (log_of logs node) ≤ 4294967296) → AreFew logs
-few_all logs nodes many each node = elim (cases_lt node nodes) [
-  | inl lt ↦ each node lt
-  | inr past ↦ let none : length (log_of logs node) ≡ 0 = ap length (get_or_past logs node [] (omega arith)) in omega arith
-]
+few_all logs nodes many each node = grind (arith, cases_lt, get_or_past)
 
 -- ---- what an audit is given, and what it answers
 
@@ -82,10 +70,7 @@ audit_within first last logs relative contents is are long within =
 pub verdict_is : {E : Type 0} (first last : List Stamped) (logs relative : List (List Entry)) (contents : List Stamped) (found : Result Verdict E)
     → IsWindow logs first last → relative ≡ relative_logs first logs → contents ≡ relative_contents first last
     → IfOk found (IsVerdict relative contents) → IfOk found (IsVerdictFrom logs first last)
-verdict_is first last logs relative contents (Ok verdict) w is are h =
-    window_verdict logs first last verdict w
-    (subst (λ (cs : List Stamped). IsVerdict (relative_logs first logs) cs verdict) are
-    (subst (λ (ls : List (List Entry)). IsVerdict ls contents verdict) is h))
+verdict_is first last logs relative contents (Ok verdict) w is are h = grind (arith, window_verdict)
 verdict_is first last logs relative contents (Err e) w is are h = h
 
 pub lawful_is : {E : Type 0} (first last : List Stamped) (logs relative : List (List Entry)) (contents : List Stamped) (found : Result Verdict E)

@@ -1,5 +1,5 @@
 -- Entries in one order that a map gives, taken back through the map node by node.
-use Rattle.std.proofs.Common.{◌≡◌, ℕ, ◌<◌, Bool, cond, eqb, List, [], ◌∷◌, map, refl, sym, ap, subst, ◌∙◌, inl, inr}
+use Rattle.std.proofs.Common.{◌≡◌, ℕ, ◌<◌, Bool, cond, eqb, List, [], ◌∷◌, map, refl, sym, ap, ◌∙◌, inl, inr, arith}
 use Rattle.std.proofs.lemmas.Bool.{cases_Bool, cases_eq, eq-eqb, ne_eqb}
 use Rattle.std.specs.List.{filter, AllByRecursion}
 use Rattle.sci_words.specs.declared.limits.TheConstants.{MAX_NODES}
@@ -45,21 +45,11 @@ first_of_log f y ys (x ∷ xs) e = record { entry = x; rest = xs; whole = refl; 
 -- what is left of a node's log
 left_of : (f : Entry → Entry) (m : ℕ) (y : Entry) (ys mine rest : List Entry) (node : ℕ) → map f mine ≡ filter (is_of_node node) (y ∷ ys)
     → map f rest ≡ filter (is_of_node m) ys → m ≡ y.node → map f (cond (eqb node m) rest mine) ≡ filter (is_of_node node) ys
-left_of f m y ys mine rest node own others is = elim (cases_eq node m) [
-  | inl here ↦ rw (eq-eqb node m here) (others ∙ ap (λ (n : ℕ). filter (is_of_node n) ys) (sym here))
-  | inr there ↦ rw (ne_eqb node m there) (own ∙ filter_no (is_of_node node) y ys (ne_eqb y.node node (λ e. there (sym (is ∙ e)))))
-]
+left_of f m y ys mine rest node own others is = grind (arith, cases_eq, eq-eqb, ne_eqb, filter_no)
 
 own_of : (m : ℕ) (x : Entry) (es mine rest : List Entry) (node : ℕ) → x.node ≡ m → (node ≡ m → mine ≡ x ∷ rest)
     → cond (eqb node m) rest mine ≡ filter (is_of_node node) es → mine ≡ filter (is_of_node node) (x ∷ es)
-own_of m x es mine rest node of_node whole own = elim (cases_eq node m) [
-  | inl here ↦
-      let tail : rest ≡ filter (is_of_node node) es = subst (λ (b : Bool). cond b rest mine ≡ filter (is_of_node node) es) (eq-eqb node m here) own in
-      whole here ∙ ap (λ (xs : List Entry). x ∷ xs) tail ∙ sym (filter_yes (is_of_node node) x es (eq-eqb x.node node (of_node ∙ sym here)))
-  | inr there ↦
-      let tail : mine ≡ filter (is_of_node node) es = subst (λ (b : Bool). cond b rest mine ≡ filter (is_of_node node) es) (ne_eqb node m there) own in
-      tail ∙ sym (filter_no (is_of_node node) x es (ne_eqb x.node node (λ e. there (sym e ∙ of_node))))
-]
+own_of m x es mine rest node of_node whole own = grind (arith, cases_eq, eq-eqb, filter_yes, ne_eqb, filter_no)
 
 pub preimage : (f : Entry → Entry) → ((e : Entry) → (f e).node ≡ e.node) → (ys : List Entry) (log : ℕ → List Entry)
     → AllByRecursion (λ y. y.node < MAX_NODES) ys → ((node : ℕ) → node < MAX_NODES → map f (log node) ≡ filter (is_of_node node) ys) → IsPreimage f ys log

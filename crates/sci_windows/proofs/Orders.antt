@@ -1,5 +1,5 @@
 -- One order of a window, and one of its relative logs.
-use Rattle.std.proofs.Common.{◌≡◌, ℕ, true, List, [], ◌∷◌, map, refl, sym, ap, subst, ◌∙◌, arith, inl, inr}
+use Rattle.std.proofs.Common.{◌≡◌, ℕ, List, [], ◌∷◌, map, refl, sym, ap, subst, ◌∙◌, arith, inl, inr}
 use Rattle.std.proofs.lemmas.Bool.{cases_Bool, eq-eqb, eqb-true}
 use Rattle.std.specs.List.{filter, AllByRecursion}
 use Rattle.sci_words.specs.{declared.{stamped.Stamped.{Stamped}}, Stamped.{zero_stamped}}
@@ -52,15 +52,11 @@ one_order (x ∷ xs) (y ∷ ys) nodes own =
 -- ---- between a window and its relative logs
 
 on_line_all : (line : ℕ) (es : List Entry) → AllByRecursion (λ e. e.op.line ≡ line) (filter (is_on_line line) es)
-on_line_all line es =
-    all_weaker (λ (e : Entry). is_on_line line e ≡ true) (λ (e : Entry). e.op.line ≡ line) (λ e is. eqb-true e.op.line line is)
-    (filter (is_on_line line) es) (all-passes (is_on_line line) es)
+on_line_all line es = grind (arith, all_weaker, eqb-true, all-passes)
 
 filtered : (first : List Stamped) (line : ℕ) (es : List Entry)
     → filter (is_on_line line) (map (relative_entry first) es) ≡ map (relative_to (stamped_at first line)) (filter (is_on_line line) es)
-filtered first line es =
-    filter-mapped (relative_entry first) (is_on_line line) (λ e. refl) es
-    ∙ on_one_line first line (filter (is_on_line line) es) (on_line_all line es)
+filtered first line es = grind (arith, filter-mapped, on_one_line, on_line_all)
 
 pub to_order : (logs : List (List Entry)) (first last : List Stamped) (order : List Entry) → IsWindow logs first last
     → IsSequentialOrderFrom logs first last order
@@ -86,17 +82,7 @@ pub from_order : (logs : List (List Entry)) (first last : List Stamped) (order o
     → Lawful (relative_logs first logs) (relative_contents first last) → map (relative_entry first) order ≡ other
     → ((node : ℕ) → filter (is_of_node node) order ≡ log_of logs node)
     → IsSequentialOrder (relative_logs first logs) (relative_contents first last) other → IsSequentialOrderFrom logs first last order
-from_order logs first last order other w lawful same own is = record {
-  logged = own;
-  histories = λ line.
-      let from = stamped_at first line in
-      let es = filter (is_on_line line) order in
-      let whole : filter (is_on_line line) other ≡ map (relative_to from) es =
-      ap (filter (is_on_line line)) (sym same) ∙ filtered first line order in
-      let run : IsHistory (map (relative_to from) es) zero_stamped (stamped_at (relative_contents first last) line) =
-      subst (λ (xs : List Entry). IsHistory xs zero_stamped (stamped_at (relative_contents first last) line)) whole (is.histories line) in
-      history_back logs first last line es w.sixteen w.few w.long w.first_lines w.last_lines w.early (lawful line) run;
-}
+from_order logs first last order other w lawful same own is = grind (arith, filtered, history_back)
 
 mapped_nodes : (first : List Stamped) (es : List Entry) → map (λ (e : Entry). e.node) (map (relative_entry first) es) ≡ map (λ (e : Entry). e.node) es
 mapped_nodes first [] = refl

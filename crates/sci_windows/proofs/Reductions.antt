@@ -1,5 +1,5 @@
 -- A window's logs are lawful from its first contents exactly if its relative logs are lawful.
-use Rattle.std.proofs.Common.{◌≡◌, ℕ, zero, suc, ◌<◌, ◌≤◌, Bool, true, List, [], ◌∷◌, length, map, replicate, refl, sym, ap, subst, ◌∙◌, arith}
+use Rattle.std.proofs.Common.{◌≡◌, ℕ, zero, suc, ◌<◌, ◌≤◌, Bool, List, [], ◌∷◌, length, map, replicate, refl, sym, ap, subst, ◌∙◌, arith}
 use Rattle.std.proofs.lemmas.Bool.{eqb-true}
 use Rattle.std.proofs.lemmas.List.{length-map, Elements.{All-from_recursion, recursion_from_All}, Sums.{count_by-le-length, length-filter}}
 use Rattle.std.proofs.Math.ListN.{get_or-map}
@@ -24,9 +24,7 @@ log_at first logs node = get_or-map (map (relative_entry first)) logs node []
 
 lined : (first : List Stamped) (logs : List (List Entry)) (line node : ℕ)
     → filter (is_on_line line) (log_of (relative_logs first logs) node) ≡ map (relative_entry first) (filter (is_on_line line) (log_of logs node))
-lined first logs line node =
-    ap (filter (is_on_line line)) (log_at first logs node)
-    ∙ filter-mapped (relative_entry first) (is_on_line line) (λ e. refl) (log_of logs node)
+lined first logs line node = grind (arith, log_at, filter-mapped)
 
 pub own_relative : (first : List Stamped) (logs : List (List Entry)) → AreOwn logs → AreOwn (relative_logs first logs)
 own_relative first logs own node =
@@ -45,20 +43,13 @@ within_relative first lines logs within node =
 -- entries on a line are all relative to its first contents
 pub on_one_line : (first : List Stamped) (line : ℕ) (es : List Entry) → AllByRecursion (λ e. e.op.line ≡ line) es
     → map (relative_entry first) es ≡ map (relative_to (stamped_at first line)) es
-on_one_line first line es on =
-    map_agrees (relative_entry first) (relative_to (stamped_at first line)) es
-    (all_weaker (λ (e : Entry). e.op.line ≡ line) (λ (e : Entry). relative_entry first e ≡ relative_to (stamped_at first line) e)
-    (λ e is. ap (λ (k : ℕ). relative_to (stamped_at first k) e) is) es on)
+on_one_line first line es on = grind (arith, map_agrees, all_weaker)
 
 -- entries of which each node's are those that it has on a line
 all_on_line : (logs : List (List Entry)) (line : ℕ) (es : List Entry) → AllByRecursion (λ e. e.node < MAX_NODES) es
     → ((node : ℕ) → node < MAX_NODES → filter (is_on_line line) (log_of logs node) ≡ filter (is_of_node node) es)
     → AllByRecursion (λ e. e.op.line ≡ line) es
-all_on_line logs line es nodes logged =
-    all_by_nodes (λ e. e.op.line ≡ line) es nodes
-    (λ node lt. subst (AllByRecursion (λ (e : Entry). e.op.line ≡ line)) (logged node lt)
-    (all_weaker (λ (e : Entry). is_on_line line e ≡ true) (λ (e : Entry). e.op.line ≡ line) (λ e is. eqb-true e.op.line line is)
-    (filter (is_on_line line) (log_of logs node)) (all-passes (is_on_line line) (log_of logs node))))
+all_on_line logs line es nodes logged = grind (arith, all_by_nodes, all_weaker, eqb-true, all-passes)
 
 -- ---- where a window begins
 
@@ -67,9 +58,7 @@ relative_start_line [] = refl
 relative_start_line (w ∷ words) = ap (λ (x : ℕ). x ∷ relative_line words words) (swap_first w) ∙ ap (λ (xs : List ℕ). 0 ∷ xs) (relative_start_line words)
 
 pub relative_start : (first : Stamped) → length first.line ≡ WORDS_PER_LINE → relative_stamped first first ≡ zero_stamped
-relative_start first long =
-    let none = counted_after first.version first.version (omega arith) in
-    same_stamped (relative_stamped first first) zero_stamped (relative_start_line first.line ∙ ap (λ (n : ℕ). replicate n 0) long) (omega arith)
+relative_start first long = grind (arith, counted_after, same_stamped, relative_start_line, replicate)
 
 -- ---- from the window to its relative logs
 
@@ -97,9 +86,7 @@ relative_end logs first line last lines h =
 pub relative_history : (logs : List (List Entry)) (first last : List Stamped) (line : ℕ) → length first ≡ length last → AreLines first
     → HasHistoryFrom logs line (stamped_at first line) (stamped_at last line)
     → HasHistory (relative_logs first logs) line (stamped_at (relative_contents first last) line)
-relative_history logs first last line long lines h =
-    subst (HasHistory (relative_logs first logs) line) (sym (relative_at first last line long))
-    (relative_end logs first line (stamped_at last line) lines h)
+relative_history logs first last line long lines h = grind (arith, relative_at, relative_end)
 
 pub to_lawful : (logs : List (List Entry)) (first last : List Stamped) → length logs ≡ MAX_NODES → length first ≡ length last → AreLines first
     → LawfulFrom logs first last → Lawful (relative_logs first logs) (relative_contents first last)

@@ -1,5 +1,5 @@
 -- A history in a window, and that of the same entries in a memory that begins with zeros.
-use Rattle.std.proofs.Common.{◌≡◌, ℕ, zero, suc, ◌+◌, ◌<◌, ◌≤◌, List, [], ◌∷◌, length, map, refl, sym, ap, subst, ◌∙◌, arith, inl, inr}
+use Rattle.std.proofs.Common.{◌≡◌, ℕ, zero, suc, ◌+◌, ◌<◌, ◌≤◌, List, [], ◌∷◌, length, map, refl, sym, ap, subst, ◌∙◌, arith}
 use Rattle.std.proofs.lemmas.Bool.{cases_lt}
 use Rattle.sci_words.specs.{declared.stamped.Stamped.{Stamped}, Stamped.{after}}
 use Rattle.sci_history.specs.{declared.entry.Entry.{Entry}, History.{IsHistory}, Memory.{stamped_at}}
@@ -31,10 +31,7 @@ pub record IsBack (first : Stamped) (es : List Entry) (old end : Stamped) : Type
 -- a version that is counted low is none before the first
 back_version : (first version counted : ℕ) → counted_from first version ≡ counted → counted + first < 18446744073709551616
     → version ≡ counted + first
-back_version first version counted e low = elim (cases_lt version first) [
-  | inl before ↦ let is = counted_before first version before in absurd (omega arith)
-  | inr from ↦ let is = counted_after first version from in omega arith
-]
+back_version first version counted e low = grind (arith, cases_lt, counted_before, counted_after)
 
 pub from_relative : (first : Stamped) (es : List Entry) (old end : Stamped) → IsHistory (map (relative_to first) es) (relative_stamped first old) end
     → first.version ≤ old.version → length first.line ≡ length old.line → end.version + first.version < 18446744073709551616 → IsBack first es old end
@@ -57,11 +54,7 @@ from_relative first (e ∷ es) old end h le long low =
 -- contents whose relative ones are the same
 pub same_contents : (first a b : Stamped) → relative_stamped first a ≡ relative_stamped first b → length first.line ≡ length a.line
     → length first.line ≡ length b.line → first.version ≤ a.version → (relative_stamped first b).version + first.version < 18446744073709551616 → a ≡ b
-same_contents first a b e long_a long_b low few =
-    let versions : counted_from first.version a.version ≡ counted_from first.version b.version = ap (λ (s : Stamped). s.version) e in
-    let is_a = counted_after first.version a.version low in
-    let is_b = back_version first.version b.version (counted_from first.version b.version) refl few in
-    same_stamped a b (relative_line_same first.line a.line b.line long_a long_b (ap (λ (s : Stamped). s.line) e)) (omega arith)
+same_contents first a b e long_a long_b low few = grind (arith, counted_after, back_version, same_stamped, relative_line_same)
 
 pub relative_at : (first contents : List Stamped) (line : ℕ) → length first ≡ length contents
     → stamped_at (relative_contents first contents) line ≡ relative_stamped (stamped_at first line) (stamped_at contents line)

@@ -1,5 +1,5 @@
 -- One step of a memory that begins with given words, and of one that begins with zeros.
-use Rattle.std.proofs.Common.{◌≡◌, ℕ, zero, suc, ◌+◌, ◌-◌, ◌<◌, ◌≤◌, List, [], ◌∷◌, length, get_or, set, length-set, refl, sym, ap, ◌∙◌, arith, inl, inr}
+use Rattle.std.proofs.Common.{◌≡◌, ℕ, zero, suc, ◌+◌, ◌-◌, ◌<◌, ◌≤◌, List, [], ◌∷◌, length, get_or, set, length-set, refl, sym, ap, ◌∙◌, arith}
 use Rattle.std.proofs.lemmas.Bool.{cases_Bool, cases_eq, eq-eqb, ne_eqb, le-leb, lt-leb}
 use Rattle.sci_words.specs.declared.operation.{Act.{Act, TheVariants.{Load, Store, Lock}}, Reply.{Reply, TheVariants.{Stored, Got}}}
 use Rattle.sci_words.specs.{Operation.{effect_of_act, makes_version}, Stamped.{after, line_after, reply_of}, declared.stamped.Stamped.{Stamped}}
@@ -19,13 +19,7 @@ swap_other : (f x : ℕ) → (x ≡ f → ⊥) → (x ≡ 0 → ⊥) → swapped
 swap_other f x n m = rw (ne_eqb x f n, ne_eqb x 0 m) refl
 
 swap_back : (f x : ℕ) → swapped f (swapped f x) ≡ x
-swap_back f x = elim (cases_eq x f) [
-  | inl same ↦ ap (swapped f) (ap (swapped f) same ∙ swap_first f) ∙ swap_zero f ∙ sym same
-  | inr other ↦ elim (cases_eq x 0) [
-    | inl none ↦ ap (swapped f) (ap (swapped f) none ∙ swap_zero f) ∙ swap_first f ∙ sym none
-    | inr some ↦ ap (swapped f) (swap_other f x other some) ∙ swap_other f x other some
-  ]
-]
+swap_back f x = grind (arith, cases_eq, swap_first, swap_zero, swap_other)
 
 pub swap_same : (f x y : ℕ) → swapped f x ≡ swapped f y → x ≡ y
 swap_same f x y e = sym (swap_back f x) ∙ (ap (swapped f) e ∙ swap_back f y)
@@ -47,9 +41,7 @@ relative_leaves : (f old : ℕ) (act : Act) (reply : Reply) → reply ≡ (effec
 relative_leaves f old Load reply e = refl
 relative_leaves f old (Store word) reply e = refl
 relative_leaves f old (Lock lock) Stored e = absurd cc
-relative_leaves f old (Lock lock) (Got word) e =
-    let same : word ≡ old = got_same word old e in
-    rw (eq-eqb (swapped f old) (swapped f word) (ap (swapped f) (sym same))) (ap (λ (x : ℕ). swapped f (effect_of_act (Lock lock) x).0) same)
+relative_leaves f old (Lock lock) (Got word) e = grind (arith, got_same, eq-eqb)
 
 relative_back : (f old : ℕ) (act : Act) (reply : Reply) → relative_reply f reply ≡ (effect_of_act (relative_act f act reply) (swapped f old)).1
     → reply ≡ (effect_of_act act old).1
@@ -104,27 +96,15 @@ relative_line_same (f ∷ first) (x ∷ a) (y ∷ b) long_a long_b e =
 
 pub right_step : (first : Stamped) (words : List ℕ) (e : Entry) → length first.line ≡ length words → e.reply ≡ reply_of words e.op
     → (relative_to first e).reply ≡ reply_of (relative_line first.line words) (relative_to first e).op
-right_step first words e long right =
-    let f = get_or first.line e.op.word 0 in
-    relative_right f (get_or words e.op.word 0) e.op.act e.reply right
-    ∙ ap (λ (x : ℕ). (effect_of_act (relative_act f e.op.act e.reply) x).1) (sym (relative_at first.line words e.op.word long))
+right_step first words e long right = grind (arith, relative_right, relative_at)
 
 pub back_step : (first : Stamped) (words : List ℕ) (e : Entry) → length first.line ≡ length words
     → (relative_to first e).reply ≡ reply_of (relative_line first.line words) (relative_to first e).op → e.reply ≡ reply_of words e.op
-back_step first words e long right =
-    let f = get_or first.line e.op.word 0 in
-    relative_back f (get_or words e.op.word 0) e.op.act e.reply
-    (right ∙ ap (λ (x : ℕ). (effect_of_act (relative_act f e.op.act e.reply) x).1) (relative_at first.line words e.op.word long))
+back_step first words e long right = grind (arith, relative_back, relative_at)
 
 pub line_step : (first : Stamped) (words : List ℕ) (e : Entry) → length first.line ≡ length words → e.reply ≡ reply_of words e.op
     → line_after (relative_line first.line words) (relative_to first e).op ≡ relative_line first.line (line_after words e.op)
-line_step first words e long right =
-    let f = get_or first.line e.op.word 0 in
-    let old = get_or words e.op.word 0 in
-    ap (λ (x : ℕ). set (relative_line first.line words) e.op.word (effect_of_act (relative_act f e.op.act e.reply) x).0)
-    (relative_at first.line words e.op.word long)
-    ∙ ap (set (relative_line first.line words) e.op.word) (relative_leaves f old e.op.act e.reply right)
-    ∙ relative_set first.line words e.op.word (effect_of_act e.op.act old).0 long
+line_step first words e long right = grind (arith, relative_at, relative_leaves, relative_set)
 
 -- ---- versions
 
@@ -136,27 +116,11 @@ counted_before first version lt = rw (lt-leb first version lt) refl
 
 version_step : (first old : Stamped) (e : Entry) → first.version ≤ old.version
     → (after (relative_stamped first old) (relative_to first e).op).version ≡ counted_from first.version (after old e.op).version
-version_step first old e le =
-    let f = get_or first.line e.op.word 0 in
-    let same = relative_maker f e.op.act e.reply in
-    let was = counted_after first.version old.version le in
-    elim (cases_Bool (makes_version e.op.act)) [
-      | inl maker ↦
-          let more = version-maker old e.op maker in
-          let next = version-maker (relative_stamped first old) (relative_to first e).op (same ∙ maker) in
-          let will = counted_after first.version (after old e.op).version (omega arith) in
-          omega arith
-      | inr load ↦
-          let stays = version-load old e.op load in
-          let next = version-load (relative_stamped first old) (relative_to first e).op (same ∙ load) in
-          next ∙ ap (counted_from first.version) (sym stays)
-    ]
+version_step first old e le = grind (arith, relative_maker, counted_after, cases_Bool, version-maker, version-load)
 
 pub after_step : (first old : Stamped) (e : Entry) → first.version ≤ old.version → length first.line ≡ length old.line → e.reply ≡ reply_of old.line e.op
     → after (relative_stamped first old) (relative_to first e).op ≡ relative_stamped first (after old e.op)
-after_step first old e le long right =
-    same_stamped (after (relative_stamped first old) (relative_to first e).op) (relative_stamped first (after old e.op)) (line_step first old.line e long right)
-    (version_step first old e le)
+after_step first old e le long right = grind (arith, same_stamped, line_step, version_step)
 
 pub long_after : (old : Stamped) (e : Entry) → length (after old e.op).line ≡ length old.line
 long_after old e = length-set old.line e.op.word (effect_of_act e.op.act (get_or old.line e.op.word 0)).0

@@ -1,5 +1,5 @@
 -- Entries that a scoreboard took one after another: they are a history of each line, and each node's stand in order.
-use Rattle.std.proofs.Common.{◌≡◌, ℕ, ◌<◌, ◌⊎◌, true, false, List, [], ◌∷◌, length, get_or, set}
+use Rattle.std.proofs.Common.{◌≡◌, ℕ, ◌<◌, ◌⊎◌, false, List, [], ◌∷◌, length, get_or}
 use Rattle.std.proofs.Common.{length-set, Option, Some, None, replicate, refl, sym, ap, subst, ◌∙◌, arith, inl, inr}
 use Rattle.std.proofs.lemmas.Bool.{cases_Bool, cases_lt, eq-eqb, eqb-true}
 use Rattle.std.proofs.lemmas.List.{get_or-replicate, get_or-set_same, get_or-set_other, get_or_past, length-replicate}
@@ -17,14 +17,10 @@ use Rattle.sci_windows.proofs.Pairs.{Rises, no_rises, rises_cons}
 
 pub told_here : (lines : List LineSoFar) (e : Entry) (line : ℕ) → e.op.line < length lines → e.op.line ≡ line
     → line_at (lines_told lines e) line ≡ with_entry (line_at lines line) e
-told_here lines e line lt same =
-    subst (λ (l : ℕ). line_at (lines_told lines e) l ≡ with_entry (line_at lines l) e) same
-    (get_or-set_same lines e.op.line (with_entry (line_at lines e.op.line) e) (begun_with zero_stamped) lt)
+told_here lines e line lt same = grind (arith, get_or-set_same)
 
 pub told_elsewhere : (lines : List LineSoFar) (e : Entry) (line : ℕ) → is_on_line line e ≡ false → line_at (lines_told lines e) line ≡ line_at lines line
-told_elsewhere lines e line other =
-    get_or-set_other lines e.op.line line (with_entry (line_at lines e.op.line) e) (begun_with zero_stamped)
-    (λ same. let yes : is_on_line line e ≡ true = eq-eqb e.op.line line (sym same) in absurd cc)
+told_elsewhere lines e line other = grind (arith, get_or-set_other, eq-eqb)
 
 -- ---- a property of a line that each step leads on
 
@@ -75,32 +71,18 @@ abbrev pub HavePlaces : List LineSoFar → Type 0
 HavePlaces lines = (line : ℕ) → length (line_at lines line).latest ≡ MAX_NODES
 
 places_told : (lines : List LineSoFar) (e : Entry) → e.op.line < length lines → HavePlaces lines → HavePlaces (lines_told lines e)
-places_told lines e lt places line =
-    elim (cases_Bool (is_on_line line e)) [
-      | inl yes_ ↦
-          ap (λ (l : LineSoFar). length l.latest) (told_here lines e line lt (eqb-true e.op.line line yes_))
-          ∙ (length-set (line_at lines line).latest e.node (Some (record { serial = e.serial; version = e.version })) ∙ places line)
-      | inr no_ ↦ ap (λ (l : LineSoFar). length l.latest) (told_elsewhere lines e line no_) ∙ places line
-    ]
+places_told lines e lt places line = grind (arith, cases_Bool, told_here, eqb-true, length-set, told_elsewhere)
 
 abbrev pub latest_of : Entry → Latest
 latest_of e = record { serial = e.serial; version = e.version }
 
 latest_here : (lines : List LineSoFar) (e : Entry) (line node : ℕ) → e.op.line < length lines → HavePlaces lines → e.node < MAX_NODES
     → e.op.line ≡ line → e.node ≡ node → latest_at (lines_told lines e) line node ≡ Some (latest_of e)
-latest_here lines e line node lt places known same mine =
-    let full = places line in
-    let at : get_or (set (line_at lines line).latest e.node (Some (latest_of e))) e.node None ≡ Some (latest_of e) =
-    get_or-set_same (line_at lines line).latest e.node (Some (latest_of e)) None (omega arith) in
-    ap (λ (l : LineSoFar). get_or l.latest node None) (told_here lines e line lt same)
-    ∙ subst (λ (n : ℕ). get_or (set (line_at lines line).latest e.node (Some (latest_of e))) n None ≡ Some (latest_of e)) mine at
+latest_here lines e line node lt places known same mine = grind (arith, get_or-set_same, told_here)
 
 latest_other_node : (lines : List LineSoFar) (e : Entry) (line node : ℕ) → e.op.line < length lines → e.op.line ≡ line → is_of_node node e ≡ false
     → latest_at (lines_told lines e) line node ≡ latest_at lines line node
-latest_other_node lines e line node lt same other =
-    ap (λ (l : LineSoFar). get_or l.latest node None) (told_here lines e line lt same)
-    ∙ get_or-set_other (line_at lines line).latest e.node node (Some (latest_of e)) None
-    (λ mine. let yes : is_of_node node e ≡ true = eq-eqb e.node node (sym mine) in absurd cc)
+latest_other_node lines e line node lt same other = grind (arith, told_here, get_or-set_other, eq-eqb)
 
 -- all these entries come after where a node stands
 abbrev pub AreAbove : Option Latest → List Entry → Type 0
@@ -110,9 +92,7 @@ AreAbove (Some latest) entries = AllByRecursion (λ e. latest.serial < e.serial)
 above_next : (latest : Option Latest) (e : Entry) (entries : List Entry) → is_behind latest e ≡ false → AllByRecursion (λ y. e.serial < y.serial) entries
     → AreAbove latest (e ∷ entries)
 above_next None e entries ahead rest = tt
-above_next (Some latest) e entries ahead rest =
-    let lt : latest.serial < e.serial = grind (arith, cases_Bool) in
-    (lt, all_weaker (λ y. e.serial < y.serial) (λ y. latest.serial < y.serial) (λ y more. omega arith) entries rest)
+above_next (Some latest) e entries ahead rest = grind (arith, cases_Bool, all_weaker)
 
 pub clear_ahead : (line : LineSoFar) (e : Entry) → early_fault line e ≡ None → is_behind (get_or line.latest e.node None) e ≡ false
 clear_ahead line e h = grind (arith, cases_Bool)
@@ -230,11 +210,7 @@ abbrev nowhere : List (Option Latest)
 nowhere = replicate MAX_NODES None
 
 no_latest : (node : ℕ) → get_or nowhere node None ≡ None
-no_latest node =
-    elim (cases_lt node MAX_NODES) [
-      | inl lt ↦ get_or-replicate {A = Option Latest} MAX_NODES node None None lt
-      | inr le ↦ get_or_past {X = Option Latest} nowhere node None le
-    ]
+no_latest node = grind (arith, cases_lt, get_or-replicate, get_or_past)
 
 pub begun_latest : (first : List Stamped) (line node : ℕ) → latest_at (begun_lines first) line node ≡ None
 begun_latest first line node = ap (λ (l : LineSoFar). get_or l.latest node None) (begun_at first line) ∙ no_latest node

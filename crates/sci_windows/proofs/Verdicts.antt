@@ -8,7 +8,7 @@ use Rattle.sci_words.specs.Stamped.{line_after, reply_of, zero_stamped}
 use Rattle.sci_history.specs.{declared.entry.Entry.{Entry}, declared.verdict.FaultKind.{FaultKind}, declared.verdict.Verdict.{Verdict}}
 use Rattle.sci_history.specs.declared.verdict.FaultKind.TheVariants.{VersionTwice, VersionMissing, WrongReply, OutOfOrder, LastDiffers}
 use Rattle.sci_history.specs.declared.verdict.Verdict.TheVariants as verdicts
-use Rattle.sci_history.specs.Audit.{IsLineFault, IsVerdict, Names, first_disordered, first_failing, first_missing, first_twice, first_wrong, is_reply_wrong}
+use Rattle.sci_history.specs.Audit.{IsLineFault, IsVerdict, Names, first_failing, first_missing, first_twice, first_wrong, is_reply_wrong}
 use Rattle.sci_history.specs.Audit.{line_after_all, same_reply, words_after}
 use Rattle.sci_history.specs.{Lawful.{Lawful}, Memory.{stamped_at}, Placed.{AreOwn, is_on_line, maker_count, on_line, placed_entries}}
 use Rattle.sci_history.proofs.{Audits.{fault_or_none, no_fault}, Lawfulness.{lawful_line}}
@@ -152,21 +152,8 @@ counted_fault es first last WrongReply named long h = (
   none_over first.line (first_missing es) (sym (missing_over first.line es) ∙ h.1),
   names_over first.line (first_wrong_from first.line es) named (subst (λ (o : Option Entry). Names o named) (wrong_placed first.line es long) h.2),
 )
-counted_fault es first last OutOfOrder named long h = (
-  none_over first.line (first_twice es) (sym (twice_over first.line es) ∙ h.0),
-  none_over first.line (first_missing es) (sym (missing_over first.line es) ∙ h.1),
-  none_over first.line (first_wrong_from first.line es) (sym (wrong_placed first.line es long) ∙ h.2),
-  names_over first.line (first_disordered es) named (subst (λ (o : Option Entry). Names o named) (disordered_over first.line es) h.3),
-)
-counted_fault es first last LastDiffers named long h =
-    let right = none_over first.line (first_wrong_from first.line es) (sym (wrong_placed first.line es long) ∙ h.2) in (
-      none_over first.line (first_twice es) (sym (twice_over first.line es) ∙ h.0),
-      none_over first.line (first_missing es) (sym (missing_over first.line es) ∙ h.1),
-      right,
-      none_over first.line (first_disordered es) (sym (disordered_over first.line es) ∙ h.3),
-      h.4,
-      differ_over es first last long right h.5,
-    )
+counted_fault es first last OutOfOrder named long h = grind (arith, none_over, twice_over, missing_over, wrong_placed, names_over, disordered_over)
+counted_fault es first last LastDiffers named long h = grind (arith, none_over, wrong_placed, twice_over, missing_over, disordered_over, differ_over)
 
 -- ---- all lines
 
@@ -264,7 +251,4 @@ to_zero es last LastDiffers named h = (h.0, h.1, h.2, h.3, h.4, λ same. let cou
 
 pub zero_faults : (es : List Entry) (last : Stamped) (kind : FaultKind) (named : Option (ℕ × ℕ))
     → IsLineFaultFrom es zero_stamped last kind named ↔ IsLineFault es last kind named
-zero_faults es last kind named = (
-  (λ h. from_zero es last kind named (subst (λ (xs : List Entry). IsCountedFault xs zero_stamped last kind named) (counted_zero es) h)),
-  (λ h. subst (λ (xs : List Entry). IsCountedFault xs zero_stamped last kind named) (sym (counted_zero es)) (to_zero es last kind named h)),
-)
+zero_faults es last kind named = grind (arith, from_zero, counted_zero, to_zero)
