@@ -67,6 +67,12 @@ pub record IsPlacing (logs : List (List Entry)) (count : ℕ) (lines : List Line
 abbrev pub IsStuckAt : List LineState → List (List Entry) → ℕ → Type 0
 IsStuckAt lines rests node = (entry : Entry) (rest : List Entry) → log_of rests node ≡ entry ∷ rest → CanFollow (state_of lines entry.op.line) entry → ⊥
 
+-- entries are placed until each node is stuck
+pub record AreAllPlaced (logs : List (List Entry)) (count : ℕ) (rests : List (List Entry)) (order : List Entry) : Type 0 where
+  pub lines : List LineState
+  pub placing : IsPlacing logs count lines rests order
+  pub stuck : (node : ℕ) → node < MAX_NODES → IsStuckAt lines rests node
+
 -- logs that are lawful with some last contents, on this many lines, each with the number of its loads at each version
 pub record AreOrderable (logs : List (List Entry)) (loads : List (List ℕ)) : Type 0 where
   pub last : List Stamped

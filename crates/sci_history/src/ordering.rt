@@ -8,7 +8,7 @@ use crate::faults::LineFault;
 use crate::last::Last;
 use crate::logs::Logs;
 use crate::order_verdict::OrderVerdict;
-use crate::placing::{Judged, Placing, judge_lines, place_all};
+use crate::placing::{Judged, Placed, judge_lines, place_all};
 use crate::waiting::cycle;
 use sci_words::MAX_NODES;
 use std::alloc::{AllocError, Global};
@@ -34,7 +34,7 @@ pub fn sequential_order<'a>(
         }
         Judged::Loads(loads) => loads,
     };
-    let Placing { next, order, .. } = place_all(alloc, logs, &loads)?;
+    let Placed { next, order } = place_all(alloc, logs, &loads)?;
     for node in 0..MAX_NODES {
         if next[node as usize] < logs.of(node).len() {
             return Ok(OrderVerdict::Cycle(cycle(alloc, logs, &next, node)?));

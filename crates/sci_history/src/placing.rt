@@ -3,7 +3,7 @@
 ghost use Rattle.std.specs.Prelude.{true, false, ◌≡◌, ◌≤◌, ◌<◌, ◌+◌, ◌^◌, ◌↔◌, ℕ, All, IsTrue, IfOk, OnOk, length, slice_index_or, []};
 ghost use Rattle.sci_words.specs.declared.limits.TheConstants.{MAX_LINES, MAX_NODES};
 ghost use Rattle.sci_history.specs.{Audit.{AreWithin, entries_of}, Placed.{is_making, maker_count}, Judged.{IsJudged}};
-ghost use Rattle.sci_history.specs.Placing.{AreOrderable, CanFollow, HasCounts, IsPlacing, IsStuckAt, lists_of_counts, rests_of, state_after};
+ghost use Rattle.sci_history.specs.Placing.{AreAllPlaced, AreOrderable, CanFollow, HasCounts, IsPlacing, IsStuckAt, lists_of_counts, rests_of, state_after};
 
 use crate::by_line::by_line;
 use crate::entry::Entry;
@@ -78,6 +78,7 @@ pub enum Judged {
 }
 
 /// Judges each line as an audit does, and counts its loads while its entries are at hand.
+#[inline(never)]
 pub fn judge_lines(alloc: Global, logs: &Logs, last: &Last) -> Result<Judged, AllocError>
     requires { AreWithin (length last.now) logs.now }
     ensures judged { IfOk result (IsJudged logs.now last.now) }
@@ -184,25 +185,32 @@ impl<'a> Placing<'a> {
     }
 }
 
+/// What was placed, as far as it goes: how many entries of each node, and all of them in order.
+#[derive(Drop)]
+pub struct Placed<'a> {
+    pub next: [usize; NODES],
+    pub order: Vec<&'a Entry>,
+}
+
 /// Places entries until no node has one left that can be placed next.
+#[inline(never)]
 pub fn place_all<'a>(
     alloc: Global,
     logs: &'a Logs,
     loads: &[Vec<u64>],
-) -> Result<Placing<'a>, AllocError>
+) -> Result<Placed<'a>, AllocError>
     requires orderable { AreOrderable logs.now (lists_of_counts loads.now) }
     requires few { length loads.now ≤ MAX_LINES }
-    ensures placing { IfOk result (λ placing. IsPlacing logs.now (length loads.now) placing.lines
-        (rests_of logs.now placing.next) (entries_of placing.order.items)) }
-    ensures stuck { IfOk result (λ placing. (node : ℕ) → node < MAX_NODES →
-        IsStuckAt placing.lines (rests_of logs.now placing.next) node) }
+    ensures { IfOk result (λ placed. AreAllPlaced logs.now (length loads.now)
+        (rests_of logs.now placed.next) (entries_of placed.order.items)) }
 {
     let mut placing = Placing::new(alloc, logs, loads)?;
     loop {
         let before = placing.order.len();
         placing.place_round(logs, loads)?;
         if placing.order.len() == before {
-            return Ok(placing);
+            let Placing { next, order, .. } = placing;
+            return Ok(Placed { next, order });
         }
     }
 }

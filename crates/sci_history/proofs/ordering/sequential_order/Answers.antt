@@ -15,7 +15,7 @@ pub cycle-requires-clause-blocked : goal.cycle-requires-clause-blocked
 cycle-requires-clause-blocked c =
     let judged = subst (IsJudged c.args.logs.now c.args.last.now) c.in-Loads.is c.in_ok-line.ensures.judged in
     let able = subst (λ (ls : List (Vec ℕ)). AreOrderable c.args.logs.now (lists_of_counts ls)) (sym c.deref.ensures.value) judged.1 in
-    are_blocked c.args.logs.now c.deref.result.now c.in_ok-next.field-0.lines c.in_ok-next.field-0.next (entries_of c.in_ok-next.field-0.order.items) able
+    are_blocked c.args.logs.now c.deref.result.now c.in_ok-next.ensures.lines c.in_ok-next.field-0.next (entries_of c.in_ok-next.field-0.order.items) able
     c.in_ok-next.ensures.placing c.in_ok-next.ensures.stuck
 
 pub returns-then-next-node-clause-order : goal.returns-then-next-node-clause-order
@@ -28,7 +28,7 @@ returns-clause-verdict c =
     let able = subst (λ (ls : List (Vec ℕ)). AreOrderable c.args.logs.now (lists_of_counts ls)) (sym c.deref.ensures.value) judged.1 in
     let long : length c.deref.result.now ≡ length c.args.last.now = ap (λ (ls : List (Vec ℕ)). length ls) c.deref.ensures.value ∙ judged.2 in (
       judged.0,
-      all_done c.args.logs.now c.args.last.now c.deref.result.now c.in_ok-next.field-0.lines c.in_ok-next.field-0.next
+      all_done c.args.logs.now c.args.last.now c.deref.result.now c.in_ok-next.ensures.lines c.in_ok-next.field-0.next
           (entries_of c.in_ok-next.field-0.order.items) judged.0 c.requires long able c.in_ok-next.ensures.placing
           (λ m lt. c.loop-node.invariant m (omega arith)),
     )
@@ -38,7 +38,7 @@ returns-clause-order c =
     let judged = subst (IsJudged c.args.logs.now c.args.last.now) c.in-Loads.is c.in_ok-line.ensures.judged in
     let able = subst (λ (ls : List (Vec ℕ)). AreOrderable c.args.logs.now (lists_of_counts ls)) (sym c.deref.ensures.value) judged.1 in
     let long : length c.deref.result.now ≡ length c.args.last.now = ap (λ (ls : List (Vec ℕ)). length ls) c.deref.ensures.value ∙ judged.2 in
-    let done = all_done c.args.logs.now c.args.last.now c.deref.result.now c.in_ok-next.field-0.lines c.in_ok-next.field-0.next
+    let done = all_done c.args.logs.now c.args.last.now c.deref.result.now c.in_ok-next.ensures.lines c.in_ok-next.field-0.next
     (entries_of c.in_ok-next.field-0.order.items) judged.0 c.requires long able c.in_ok-next.ensures.placing
     (λ m lt. c.loop-node.invariant m (omega arith)) in
     (λ found. (judged.0, ((entries_of c.in_ok-next.field-0.order.items), done)), λ both. tt)
