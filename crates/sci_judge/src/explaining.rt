@@ -77,9 +77,11 @@ impl Site<'_> {
         Ok(Some(logs))
     }
 
-    /// The contents that versions lead to: the word that the operation with the greatest version leaves, and that version.
-    fn contents_with(&self, versions: &[u64]) -> Last
-        ensures { length result ≡ 1 }
+    /// The contents that versions lead to: the word that the operation with the greatest version leaves, and that version. They
+    /// stand on the heap, as they take some KB. Refused if memory is.
+    #[inline(never)]
+    fn contents_with(&self, alloc: Global, versions: &[u64]) -> Result<Box<Last, Global>, AllocError>
+        ensures { IfOk result (λ last. length last.value ≡ 1) }
     {
         let mut word = 0;
         let mut version = 0;
@@ -89,10 +91,10 @@ impl Site<'_> {
                 word = access.kind.left();
             }
         }
-        let mut last = Last::zero(1);
+        let mut last = Box::new(alloc, Last::zero(1))?;
         let line = Line::zero().with(0, word);
         last.set(0, Stamped { line, version });
-        last
+        Ok(last)
     }
 }
 
@@ -107,7 +109,7 @@ impl Site<'_> {
         let Some(logs) = self.logs_with(alloc, versions)? else {
             return Ok(false);
         };
-        let last = self.contents_with(versions);
+        let last = self.contents_with(alloc, versions)?;
         if !self.is_last(&last) {
             return Ok(false);
         }

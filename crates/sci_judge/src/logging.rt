@@ -162,7 +162,7 @@ fn log_with(
     ensures none { IfErr result (IsNoLog trace.now sites.now) }
 {
     let mut logs = Logs::new(alloc);
-    let mut last = Last::zero(lines);
+    let mut last = Box::new(alloc, Last::zero(lines)).map_err(AllocError::from)?;
     let mut used = Vec::from_elem(alloc, 0, sites.len())?;
     for access in &trace.accesses {
         let Some(entry) = next_entry(sites, &logs, &used, access) else {
@@ -172,7 +172,6 @@ fn log_with(
         stamp(&mut last, &entry, access.kind.left());
         used[entry.op.line as usize] += 1;
     }
-    let last = Box::new(alloc, last).map_err(AllocError::from)?;
     Ok((Log { logs, last }, used))
 }
 

@@ -89,5 +89,5 @@ loop-access-preserved c =
       logged = logged_push c.args.sites.now xs i no_access c.loop-access.used.items _ c.loop-access.logs c.push.new.logs c.in-Some.entry lt
           c.loop-access.invariant.logged next small c.in_ok-push.ensures.ok
           (ap (λ (k : ℕ). set c.loop-access.used.items c.in-Some.entry.op.line (k + 1)) value);
-      lines = c.stamp.ensures ∙ c.loop-access.invariant.lines;
+      lines = c.stamp.ensures ∙ ap length c.deref_mut.ensures.value ∙ c.loop-access.invariant.lines;
     }

@@ -6,5 +6,5 @@ use Rattle.sci_judge.proofs.logging.log_with.Given as goal
 abbrev pub invariant-loop-access : goal.invariant-loop-access
 invariant-loop-access l = record {
   logged : AreLogged l.sites (take l.access-index l.trace.accesses.items) l.used.items l.logs;
-  lines : length l.last ≡ l.lines;
+  lines : length l.last.value ≡ l.lines;
 }

@@ -1,6 +1,7 @@
-use Rattle.std.proofs.Common.{sym, subst}
+use Rattle.std.proofs.Common.{length, ap, sym, subst, ◌∙◌}
 use Rattle.sci_history.specs.{Audit.{AreWithin}}
-use Rattle.sci_judge.specs.Stamped.{AreStamped}
+use Rattle.sci_versions.specs.Versions.{AgreesWith}
+use Rattle.sci_judge.specs.{Coherent.{known_last}, Stamped.{AreStamped}}
 use Rattle.sci_judge.proofs.Stamps.{stamped_own, stamped_same, stamped_sixteen, stamped_times, stamped_within}
 use Rattle.sci_judge.proofs.site.Site.is_explained_by.Goals as goal
 
@@ -9,7 +10,7 @@ audit-requires c =
     let accesses = c.args.self.now.accesses.now in
     let versions = c.args.versions.now in
     let stamped : AreStamped accesses versions c.in-Some.logs = rw c.in-Some.is at c.in_ok-logs.ensures in
-    subst (λ lines. AreWithin lines c.in-Some.logs) (sym c.contents_with-last.ensures) (stamped_within accesses versions c.in-Some.logs stamped)
+    subst (λ lines. AreWithin lines c.in-Some.logs) (sym (ap length c.deref-2.ensures ∙ c.in_ok-last.ensures)) (stamped_within accesses versions c.in-Some.logs stamped)
 
 pub returns-in-Lawful : goal.returns-in-Lawful
 returns-in-Lawful c = λ _.
@@ -18,7 +19,7 @@ returns-in-Lawful c = λ _.
     let stamped : AreStamped accesses versions c.in-Some.logs = rw c.in-Some.is at c.in_ok-logs.ensures in
     record {
       logs = c.in-Some.logs;
-      contents = c.contents_with-last.result;
+      contents = c.deref-2.result.now;
       stamped = stamped;
       explains = record {
         versions = record {
@@ -26,7 +27,7 @@ returns-in-Lawful c = λ _.
           sixteen = stamped_sixteen accesses versions c.in-Some.logs stamped;
           same = stamped_same accesses versions c.in-Some.logs stamped;
           lawful = c.in_ok-audit.ensures.lawful.0 c.in-Lawful.is;
-          agrees = c.if-not-is_last.ensures;
+          agrees = subst (AgreesWith (known_last c.args.self.now.last)) (c.deref.ensures ∙ sym c.deref-2.ensures) c.if-not-is_last.ensures;
         };
         times = λ on. stamped_times accesses versions c.in-Some.logs stamped (c.in_ok-timely.ensures c.if-not-timely.false on);
       };
