@@ -1,9 +1,10 @@
 //! Entries that are placed one after another, each as soon as all that has to come before it is placed.
 
-ghost use Rattle.std.specs.Prelude.{true, false, ◌≡◌, ◌≤◌, ◌<◌, ◌+◌, ◌^◌, ◌↔◌, ℕ, All, IsTrue, IfOk, OnOk, length, slice_index_or, []};
+ghost use Rattle.std.specs.Prelude.{true, false, ◌≡◌, ◌≤◌, ◌<◌, ◌+◌, ◌^◌, ◌↔◌, ℕ, List, All, IsTrue, IfOk, OnOk, length, slice_index_or, []};
 ghost use Rattle.sci_words.specs.declared.limits.TheConstants.{MAX_LINES, MAX_NODES};
+ghost use Rattle.sci_history.specs.declared.entry.Entry.{Entry as EntryValue};
 ghost use Rattle.sci_history.specs.{Audit.{AreWithin, entries_of}, Placed.{is_making, maker_count}, Judged.{IsJudged}};
-ghost use Rattle.sci_history.specs.Placing.{AreAllPlaced, AreOrderable, CanFollow, HasCounts, IsPlacing, IsStuckAt, lists_of_counts, rests_of, state_after};
+ghost use Rattle.sci_history.specs.Placing.{AreAllPlaced, AreOrderable, CanFollow, HasCounts, IsPlacing, IsStuckAt, lists_of_counts, rests_of, state_after, state_of};
 
 use crate::by_line::by_line;
 use crate::entry::Entry;
@@ -105,31 +106,22 @@ pub struct Placing<'a> {
     pub order: Vec<&'a Entry>,
 }
 
-impl<'a> Placing<'a> {
-    /// Nothing is placed yet: every line is at version 0.
-    fn new(alloc: Global, logs: &'a Logs, loads: &[Vec<u64>]) -> Result<Placing<'a>, AllocError>
-        requires orderable { AreOrderable logs.now (lists_of_counts loads.now) }
-        requires few { length loads.now ≤ MAX_LINES }
-        ensures { IfOk result (λ placing. IsPlacing logs.now (length loads.now) placing.lines
-            (rests_of logs.now placing.next) (entries_of placing.order.items)) }
-    {
-        let mut lines = [LineState {
+/// Sets each line to version 0, with all loads at that version left.
+fn begin(lines: &mut [LineState; LINES], loads: &[Vec<u64>])
+    requires orderable { (logs : List (List EntryValue)) × AreOrderable logs (lists_of_counts loads.now) }
+    requires few { length loads.now ≤ MAX_LINES }
+    ensures { (line : ℕ) → line < length loads.now → state_of lines.new line ≡
+        record { version = 0; left = slice_index_or (slice_index_or (lists_of_counts loads.now) line []) 0 0 } }
+{
+    for line in 0..loads.len() {
+        lines[line] = LineState {
             version: 0,
-            left: 0,
-        }; LINES];
-        for line in 0..loads.len() {
-            lines[line] = LineState {
-                version: 0,
-                left: loads[line][0],
-            };
-        }
-        Ok(Placing {
-            lines,
-            next: [0; NODES],
-            order: Vec::with_capacity(alloc, logs.entries())?,
-        })
+            left: loads[line][0],
+        };
     }
+}
 
+impl<'a> Placing<'a> {
     /// Places the first entry of a node that isn't placed. False, and nothing is placed, if there is none or it can't be
     /// placed next.
     fn place_front(
@@ -204,13 +196,24 @@ pub fn place_all<'a>(
     ensures { IfOk result (λ placed. AreAllPlaced logs.now (length loads.now)
         (rests_of logs.now placed.next) (entries_of placed.order.items)) }
 {
-    let mut placing = Placing::new(alloc, logs, loads)?;
+    let none = LineState {
+        version: 0,
+        left: 0,
+    };
+    let mut placing = Placing {
+        lines: [none; LINES],
+        next: [0; NODES],
+        order: Vec::with_capacity(alloc, logs.entries())?,
+    };
+    begin(&mut placing.lines, loads);
     loop {
         let before = placing.order.len();
         placing.place_round(logs, loads)?;
         if placing.order.len() == before {
-            let Placing { next, order, .. } = placing;
-            return Ok(Placed { next, order });
+            return Ok(Placed {
+                next: placing.next,
+                order: placing.order,
+            });
         }
     }
 }

@@ -1,15 +1,14 @@
-use Rattle.sci_history.specs.Audit.{entries_of}
 use Rattle.std.proofs.Common.{List, ℕ, length, get_or, refl, sym, ap, ◌∙◌, arith}
 use Rattle.std.proofs.lemmas.List.{get_or_default, length-set}
-use Rattle.sci_history.proofs.PlaceSteps.{counts_long, counts_read, nothing_placed, state_more}
-use Rattle.sci_history.proofs.placing.Placing.new.Goals as goal
+use Rattle.sci_history.proofs.PlaceSteps.{counts_long, counts_read, state_more}
+use Rattle.sci_history.proofs.placing.begin.Goals as goal
 
 pub index-requires : goal.index-requires
 index-requires c =
     let long = counts_long c.args.loads.now in
     let read = counts_read c.args.loads.now c.loop-line.line _ c.index-loads-line.result c.index-loads-line.result.items c.loop-line-test.true
     c.index-loads-line.is refl in
-    let counts = (c.requires.orderable.counts c.loop-line.line (omega arith)).long in
+    let counts = (c.requires.orderable.1.counts c.loop-line.line (omega arith)).long in
     let same = ap (λ (cs : List ℕ). length cs) read in
     omega arith
 
@@ -18,7 +17,7 @@ loop-line-preserved c =
     let long = counts_long c.args.loads.now in
     let read = counts_read c.args.loads.now c.loop-line.line _ c.index-loads-line.result c.index-loads-line.result.items c.loop-line-test.true
     c.index-loads-line.is refl in
-    let counts = (c.requires.orderable.counts c.loop-line.line (omega arith)).long in
+    let counts = (c.requires.orderable.1.counts c.loop-line.line (omega arith)).long in
     let same = ap (λ (cs : List ℕ). length cs) read in
     let first = get_or_default c.index-loads-line.result.items 0 c.index.result.now 0 (omega arith) in
     let lines = c.loop-line.invariant.long in
@@ -29,5 +28,4 @@ loop-line-preserved c =
     }
 
 pub returns : goal.returns
-returns c = nothing_placed c.args.logs.now c.args.loads.now c.loop-line.lines (entries_of c.in_ok-with_capacity.field-0.items) c.requires.orderable
-    (ap entries_of c.in_ok-with_capacity.ensures.items) (λ k below. c.loop-line.invariant.states k (omega arith))
+returns c = λ line below. c.loop-line.invariant.states line (omega arith)

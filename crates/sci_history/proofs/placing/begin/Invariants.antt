@@ -1,7 +1,7 @@
 use Rattle.std.proofs.Common.{◌≡◌, ◌<◌, ℕ, [], length, get_or}
 use Rattle.sci_words.specs.declared.limits.TheConstants.{MAX_LINES}
 use Rattle.sci_history.specs.Placing.{lists_of_counts, state_of}
-use Rattle.sci_history.proofs.placing.Placing.new.Given as goal
+use Rattle.sci_history.proofs.placing.begin.Given as goal
 
 -- the lines so far stand at version 0
 abbrev pub invariant-loop-line : goal.invariant-loop-line
