@@ -10,7 +10,8 @@ audit-requires c =
     let accesses = c.args.self.now.accesses.now in
     let versions = c.args.versions.now in
     let stamped : AreStamped accesses versions c.in-Some.logs = rw c.in-Some.is at c.in_ok-logs.ensures in
-    subst (λ lines. AreWithin lines c.in-Some.logs) (sym (ap length c.deref-2.ensures ∙ c.in_ok-last.ensures)) (stamped_within accesses versions c.in-Some.logs stamped)
+    subst (λ lines. AreWithin lines c.in-Some.logs) (sym (ap length c.deref-2.ensures ∙ c.in_ok-last.ensures))
+    (stamped_within accesses versions c.in-Some.logs stamped)
 
 pub returns-in-Lawful : goal.returns-in-Lawful
 returns-in-Lawful c = λ _.
