@@ -1,4 +1,4 @@
-//! Random walks: schedules whose events are drawn by chance.
+//! Random schedules: the events are drawn from a seed.
 #![tactic(auto)]
 
 mod laws;
