@@ -31,7 +31,7 @@ use denote.Triple.Clauses.{Lasts, lasts}
 use denote.Triple.Spec.{triple_of}
 use denote.Triple.Table.{framed}
 use denote.Triple.Walked.{says, Stays, stay_dropped, walk_of, ends_at}
-use Rattle.std.proofs.alloc.{Calls.{ChangesBy-blank}, Global.TheLaws.{the_row_laws as G-laws, the_within as G-within}}
+use Rattle.std.proofs.alloc.{Calls.{Goes-blank}, Global.TheLaws.{the_row_laws as G-laws, the_within as G-within}}
 use Rattle.std.proofs.{BoxSteps.Steps.{box_out, box_in}, raw_atomic.Walks.{proved_at}}
 use Rattle.std.proofs.{impls.GlobalAllocator.TheImpl.Met.{passed}, boxed.Box.into_raw.Met.{met}}
 use Rattle.std.specs.{Box.Ownership.{box_owns}, contracts.alloc.Global.{the_row as G}}
@@ -59,7 +59,7 @@ loosened_spec {M} 𝓤 𝓛 𝓜 𝓡 wired T L dx glue =
     let dd = impl ("sci_c::Destruct++none::drop" ∷ []) (tcons (layout AG) tnil) dnil in
     let E : box.Bx = record { row = T; laws = L; al = record { row = AG; laws = AG-laws; g = ghosts; d = dict; drops = dd } } in
     let hs : Stays En.signature.params En.kept = (stay_dropped (plain (λ _. boxes.the_row R G ghosts)) no, tt) in
-    proved_at 𝓛 En hs c 𝓜 𝓡 (ChangesBy-blank 𝓛 1 (plain (λ _. boxes.the_row R G ghosts)) no (λ κs x f. tt), tt) (#self key) fn (code.unfolded 𝓤 H 𝓜 𝓡 wired
+    proved_at 𝓛 En hs c 𝓜 𝓡 (Goes-blank 𝓛 1 (plain (λ _. boxes.the_row R G ghosts)) no (λ κs x f. tt), tt) (#self key) fn (code.unfolded 𝓤 H 𝓜 𝓡 wired
     (T, tt) dx) (λ z are.
     let κ = z.0.0.0 in let q = z.0.1.0 in let v = z.0.3.0 in let Post : Val → SProp 𝓤 = (walk_of 𝓛 En hs c).post z in
     let Run : List Val → SProp 𝓤 = λ ws. WpFn 𝓤 H 𝓣.C 𝓣.Λ fn ws Post in

@@ -23,7 +23,7 @@ use denote.RawPtr.{null_ptr, ptr_val}
 use denote.Steps.{nothing, owned, opens, closes, peeks, heard}
 use denote.Struct.Struct.{within}
 use denote.Struct.Owning.{shape}
-use denote.Triple.Walked.{Stays, stay_ref, walk_of, ChangesBy-ref, ends_at}
+use denote.Triple.Walked.{Stays, stay_ref, walk_of, Goes-ref, ends_at}
 use Rattle.std.proofs.{mem.Facts.{says_two}, raw_atomic.Walks.{proved_at}}
 use Rattle.std.specs.Prelude.{Option, None}
 use Rattle.sci_c.proofs.handle.SciObject.TheLaws.{lowers}
@@ -39,7 +39,7 @@ forget_spec 𝓤 𝓛 𝓜 𝓡 wired =
     let H = 𝓛.H in let 𝓣 = tables 𝓤 H 𝓜 𝓡 𝓡.env in let En = f.ended in let c = f.clauses 𝓛 𝓜.mem 𝓡.returns in
     let fn = code.function in
     let hs : Stays En.signature.params En.kept = (stay_ref (0 ∷ []) tt (plain (λ _. R)), tt) in
-    proved_at 𝓛 En hs c 𝓜 𝓡 (ChangesBy-ref 𝓛 1 0 tt (plain (λ _. R)), tt) #self fn (code.unfolded 𝓤 H 𝓜 𝓡 wired) (λ z are.
+    proved_at 𝓛 En hs c 𝓜 𝓡 (Goes-ref 𝓛 1 0 tt (plain (λ _. R)), tt) #self fn (code.unfolded 𝓤 H 𝓜 𝓡 wired) (λ z are.
     let κ = z.0.0.0 in let q = z.0.1.0 in let a = z.0.3.0 in let rb = a.ref_ptr.0 in let ro = a.ref_ptr.1 in let h : SciObject = a.now in
     let Post : Val → SProp 𝓤 = (walk_of 𝓛 En hs c).post z in let Run : List Val → SProp 𝓤 = λ ws. WpFn 𝓤 H 𝓣.C 𝓣.Λ fn ws Post in
     let at_ref : z.0.4.0 ≡ vptr rb ro ∷ [] = mut_Tells (named 0) κ R a z.0.4.0 are.0 in

@@ -24,8 +24,8 @@ use denote.RawPtr.{block_ptr}
 use denote.Steps.{nothing, owned, opens, closes, peeks}
 use denote.Struct.Struct.{within}
 use denote.Struct.Owning.{shape}
-use denote.Triple.Walked.{says, Stays, stay_dropped, stay_ref, walk_of, ChangesBy-ref, ends_at}
-use Rattle.std.proofs.{alloc.Calls.{ChangesBy-blank}, raw_atomic.Walks.{proved_at}}
+use denote.Triple.Walked.{says, Stays, stay_dropped, stay_ref, walk_of, Goes-ref, ends_at}
+use Rattle.std.proofs.{alloc.Calls.{Goes-blank}, raw_atomic.Walks.{proved_at}}
 use Rattle.std.specs.Prelude.{Some, None}
 use Rattle.sci_c.proofs.{LooseValues.{pointed, loose_out}, handle.SciObject.TheLaws.{lowers}}
 use Rattle.sci_c.proofs.handle.SciObject.put.Statement.{statement}
@@ -40,7 +40,7 @@ put_spec 𝓤 𝓛 𝓜 𝓡 wired =
     let H = 𝓛.H in let 𝓣 = tables 𝓤 H 𝓜 𝓡 𝓡.env in let En = f.ended in let c = f.clauses 𝓛 𝓜.mem 𝓡.returns in
     let fn = code.function in let L = loose.the_row T in
     let hs : Stays En.signature.params En.kept = (stay_ref (0 ∷ []) tt (plain (λ _. R)), (stay_dropped (plain (λ _. L)) yes, tt)) in
-    proved_at 𝓛 En hs c 𝓜 𝓡 (ChangesBy-ref 𝓛 1 0 tt (plain (λ _. R)), (ChangesBy-blank 𝓛 1 (plain (λ _. L)) yes (λ κs x f. tt), tt)) #self fn
+    proved_at 𝓛 En hs c 𝓜 𝓡 (Goes-ref 𝓛 1 0 tt (plain (λ _. R)), (Goes-blank 𝓛 1 (plain (λ _. L)) yes (λ κs x f. tt), tt)) #self fn
     (code.unfolded 𝓤 H 𝓜 𝓡 wired) (λ z are.
     let κ = z.0.0.0 in let q = z.0.1.0 in let a = z.0.3.0 in let rb = a.ref_ptr.0 in let ro = a.ref_ptr.1 in let h : SciObject = a.now in
     let v = z.0.3.1.0 in let Post : Val → SProp 𝓤 = (walk_of 𝓛 En hs c).post z in let Run : List Val → SProp 𝓤 = λ ws. WpFn 𝓤 H 𝓣.C 𝓣.Λ fn ws Post in
