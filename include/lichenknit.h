@@ -18,8 +18,7 @@
 **
 ** All else is looked at. Any number may be passed in any field, and what can't be done is answered by a status.
 **
-** MEMORY AND STACK. A call takes memory only if SCI_NO_MEMORY is among its statuses. sci_logs_explain and sci_logs_wanted take at most
-** 24 KB of stack; sci_logs_read and sci_trace_judge 16 KB; sci_logs_order and sci_logs_order_kind 12 KB; all others 8 KB.
+** MEMORY AND STACK. A call takes memory only if SCI_NO_MEMORY is among its statuses, and at most 8 KB of stack.
 **
 ** TIME. On one x86-64 processor an operation that is issued and performed took 59 ns, a turn with nothing to do and a request that isn't
 ** enabled 16 ns each, and a packet of 88 bytes 14 ns to write and 20 ns to read (`make calls`).

@@ -1,5 +1,5 @@
-/* No call takes more stack than lichenknit.h says. Each is made on a stack of its own, which is filled before it; what isn't as it was
-** then has been used. With an argument it prints what each call took. */
+/* No call takes more than the 8 KB of stack that lichenknit.h states. Each is made on a stack of its own, which is filled before it; what
+** isn't as it was then has been used. With an argument it prints what each call took. */
 #define _XOPEN_SOURCE 700
 #include <stdio.h>
 #include <string.h>
@@ -8,6 +8,7 @@
 #include "lichenknit.h"
 
 #define ROOM 0x40000
+#define STATED 0x2000
 #define FILL 0xA5
 
 static _Alignas(64) unsigned char stack[ROOM];
@@ -218,23 +219,6 @@ static size_t taken(void) {
     return sizeof stack - free_bytes;
 }
 
-/* The stack that the header states for a call, in bytes. */
-static size_t stated(const char *name) {
-    static const struct {
-        const char *name;
-        size_t kilobytes;
-    } deep[] = {
-        { "sci_logs_explain", 24 }, { "sci_logs_wanted", 24 }, { "sci_logs_read", 16 },
-        { "sci_trace_judge", 16 },  { "sci_logs_order", 12 },  { "sci_logs_order_kind", 12 },
-    };
-    for (size_t i = 0; i < sizeof deep / sizeof *deep; i++) {
-        if (strcmp(name, deep[i].name) == 0) {
-            return deep[i].kilobytes * 1024;
-        }
-    }
-    return 8 * 1024;
-}
-
 int main(int count, char **arguments) {
     static const char *const names[] = {
 #define CALL(name, ...) #name,
@@ -253,7 +237,7 @@ int main(int count, char **arguments) {
             printf("%s: %s\n", names[place], sci_status_text(status));
             failed = 1;
         }
-        if (bytes_taken > stated(names[place])) {
+        if (bytes_taken > STATED) {
             printf("%s takes %zu bytes of stack\n", names[place], bytes_taken);
             failed = 1;
         }

@@ -93,10 +93,9 @@ pub extern "C" fn sci_logs_read(
         return SCI_MISUSE;
     }
     match logs_of(alloc, text) {
-        Ok((nodes, logs, last)) => match Box::new(alloc, last) {
-            Ok(last) => opened(alloc, object, Thing::Logs(Journal::of(nodes, logs, last))),
-            Err(_) => SCI_NO_MEMORY,
-        },
+        Ok((nodes, logs, last)) => {
+            opened(alloc, object, Thing::Logs(Journal::of(nodes, logs, last)))
+        }
         Err(refused) => status_of_text(refused, fault),
     }
 }

@@ -7,7 +7,7 @@ ghost use Rattle.sci_reports.specs.ReadLog.{IsReadLog};
 use crate::numbered::{entries_before, lines_before};
 use sci_command::{Refusal, logs_of};
 use sci_history::{Last, Logs};
-use std::alloc::{AllocError, Global};
+use std::alloc::Global;
 
 /// A log that was read from its text.
 #[derive(Drop)]
@@ -30,10 +30,6 @@ impl ReadLog {
     {
         let (nodes, logs, last) = logs_of(alloc, text)?;
         let before = lines_before(text, &last);
-        let last = match Box::new(alloc, last) {
-            Ok(last) => last,
-            Err(refused) => return Err(AllocError::from(refused).into()),
-        };
         Ok(ReadLog {
             nodes,
             logs,

@@ -17,7 +17,7 @@ use crate::number::Number;
 use crate::operation::after;
 use sci_history::{Last, Logs, PushFault};
 use sci_words::{MAX_LINES, Stamped};
-use std::alloc::Global;
+use std::alloc::{AllocError, Global};
 
 /// Whether a number of a text is `n`.
 fn is_number(number: Number, n: u64) -> bool
@@ -145,18 +145,19 @@ fn push_entry<'a>(
     }
 }
 
-/// The last contents of these lines.
-fn last_of(contents: &[Stamped]) -> Last
+/// The last contents of these lines, on the heap, as they take some KB. Refused if memory is.
+#[inline(never)]
+fn last_of(alloc: Global, contents: &[Stamped]) -> Result<Box<Last, Global>, AllocError>
     requires some { 1 ≤ length contents.now }
     requires few { length contents.now ≤ MAX_LINES }
-    ensures { result ≡ contents.now }
+    ensures { IfOk result (λ last. last.value ≡ contents.now) }
 {
     let lines = contents.len() as u8;
-    let mut last = Last::zero(lines);
+    let mut last = Box::new(alloc, Last::zero(lines))?;
     for line in 0..lines {
         last.set(line, contents[line as usize]);
     }
-    last
+    Ok(last)
 }
 
 /// Reads the logs of a text from its front, some lines at a time.
@@ -208,34 +209,38 @@ impl LogReader {
         Ok(rest)
     }
 
-    /// The number of nodes, the logs and the last contents of a text that was read to its end.
-    fn finish(self) -> (u8, Logs, Last)
+    /// The number of nodes, the logs and the last contents of a text that was read to its end. Refused if memory is.
+    fn finish(self, alloc: Global) -> Result<(u8, Logs, Box<Last, Global>), AllocError>
         requires { (input : List ℕ) × HasRead input self [] }
         ensures logs { (input : List ℕ) → HasRead input self [] →
-            IsLogs input result.0 result.1 result.2 }
-        ensures good { AreLogs result.0 result.1 result.2 }
+            IfOk result (λ x. IsLogs input x.0 x.1 x.2.value) }
+        ensures good { IfOk result (λ x. AreLogs x.0 x.1 x.2.value) }
     {
-        (self.form.nodes, self.logs, last_of(&self.last))
+        let last = last_of(alloc, &self.last)?;
+        Ok((self.form.nodes, self.logs, last))
     }
 }
 
 /// The logs and the last contents whose text the bytes are, in either format, with the number of nodes. A refusal names the
 /// first line with a fault, or has line 0 if memory was refused; an input that is too long isn't refused here.
-pub fn logs_of(alloc: Global, input: &[u8]) -> Result<(u8, Logs, Last), TextFault>
-    ensures ok { IfOk result (λ x. IsLogs input.now x.0 x.1 x.2) }
-    ensures good { IfOk result (λ x. AreLogs x.0 x.1 x.2) }
+pub fn logs_of(alloc: Global, input: &[u8]) -> Result<(u8, Logs, Box<Last, Global>), TextFault>
+    ensures ok { IfOk result (λ x. IsLogs input.now x.0 x.1 x.2.value) }
+    ensures good { IfOk result (λ x. AreLogs x.0 x.1 x.2.value) }
     ensures fault { IfErr result (IsRefusal IsLogFault input.now) }
 {
     let (mut reader, rest) = LogReader::new(alloc, input)?;
     let _end = reader.read(rest, 0)?;
-    Ok(reader.finish())
+    Ok(reader.finish(alloc)?)
 }
 
 /// What `logs_of` answers, of a text that is given up. Once half of its entries' bytes are read, the others are copied and the
 /// text is dropped, so that the whole text and all entries are never in memory together.
-pub fn logs_of_text(alloc: Global, input: Vec<u8>) -> Result<(u8, Logs, Last), TextFault>
-    ensures ok { IfOk result (λ x. IsLogs input.items x.0 x.1 x.2) }
-    ensures good { IfOk result (λ x. AreLogs x.0 x.1 x.2) }
+pub fn logs_of_text(
+    alloc: Global,
+    input: Vec<u8>,
+) -> Result<(u8, Logs, Box<Last, Global>), TextFault>
+    ensures ok { IfOk result (λ x. IsLogs input.items x.0 x.1 x.2.value) }
+    ensures good { IfOk result (λ x. AreLogs x.0 x.1 x.2.value) }
     ensures fault { IfErr result (IsRefusal IsLogFault input.items) }
 {
     let (mut reader, rest) = LogReader::new(alloc, &input)?;
@@ -246,5 +251,5 @@ pub fn logs_of_text(alloc: Global, input: Vec<u8>) -> Result<(u8, Logs, Last), T
     copy.extend_from_slice(rest)?;
     drop(input);
     let _end = reader.read(&copy, 0)?;
-    Ok(reader.finish())
+    Ok(reader.finish(alloc)?)
 }

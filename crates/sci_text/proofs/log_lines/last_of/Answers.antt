@@ -5,4 +5,4 @@ use Rattle.sci_text.proofs.log_lines.last_of.Goals as goal
 pub returns : goal.returns
 returns c =
     let h = c.loop-line.invariant in
-    ext_get_or zero_stamped c.loop-line.last c.args.contents.now h.long (λ k lt. h.same k (omega (arith, h.long)))
+    ext_get_or zero_stamped c.loop-line.last.value c.args.contents.now h.long (λ k lt. h.same k (omega (arith, h.long)))

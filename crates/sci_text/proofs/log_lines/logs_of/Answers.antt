@@ -9,5 +9,5 @@ finish-requires c =
 pub returns-clause-ok : goal.returns-clause-ok
 returns-clause-ok c =
     let input = c.args.input.now in
-    c.finish.ensures.logs input
+    c.in_ok-finish.ensures.logs input
     (at_end input c.in_ok-_end._end.now c.read.new.self (c.in_ok-_end.ensures.ok input c.in_ok-reader.ensures.ok) c.in_ok-_end.ensures.left)

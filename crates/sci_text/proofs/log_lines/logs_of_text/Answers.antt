@@ -32,6 +32,6 @@ finish-requires c =
 pub returns-clause-ok : goal.returns-clause-ok
 returns-clause-ok c =
     let start = copied (goal.at.returns-clause-ok c).In_ok-extend_from_slice c.deref-2.result.now c.deref-2.ensures.value in
-    subst (λ (input : List ℕ). IsLogs input c.finish.result.0 c.finish.result.1 c.finish.result.2) c.deref.ensures.value
-    (c.finish.ensures.logs c.deref.result.now (at_end c.deref.result.now c.in_ok-_end._end.now c.read-2.new.self
+    subst (λ (input : List ℕ). IsLogs input c.in_ok-finish.field-0.0 c.in_ok-finish.field-0.1 c.in_ok-finish.field-0.2.value) c.deref.ensures.value
+    (c.in_ok-finish.ensures.logs c.deref.result.now (at_end c.deref.result.now c.in_ok-_end._end.now c.read-2.new.self
     (c.in_ok-_end.ensures.ok c.deref.result.now start) c.in_ok-_end.ensures.left))
