@@ -5,7 +5,8 @@ use Rattle.std.proofs.Common.{arith, inl, inr, ◌⊎◌}
 use Rattle.std.specs.{Prelude.{IfOk, IfErr}, List.{flat_map, AllByRecursion}}
 use Rattle.sci_text.specs.declared.fault.{TextFault.{TextFault}, TextFaultKind.{TextFaultKind}}
 use Rattle.sci_text.specs.declared.fault.TextFaultKind.TheVariants.{Syntax, Range, TooMany, Read, Write, Memory}
-use Rattle.sci_text.specs.FirstFault.{LineFault, FaultAfter, IsFirstFault, told_line, IsToldAt, IsRefusalOf, IsRefusal, AreRead, IsTold, GivesOnly, GivesOnlySuch}
+use Rattle.sci_text.specs.FirstFault.{LineFault, FaultAfter, IsFirstFault, told_line, IsToldAt, IsRefusalOf, IsRefusal, AreRead, IsTold, GivesOnly}
+use Rattle.sci_text.specs.FirstFault.{GivesOnlySuch}
 
 -- ---- one line
 

@@ -6,8 +6,11 @@ use Rattle.sci_reports.proofs.checking.as_log.Goals as goal
 
 pub returns-in-Ok-clause-read : goal.returns-in-Ok-clause-read
 returns-in-Ok-clause-read c =
-    let counted = count_all c.in-Ok.logs c.nodes.result c.nodes.ensures.nodes in
-    ((c.in-Ok.nodes, c.in-Ok.logs, c.in-Ok.last.value), c.in-Ok.ensures.ok, rw (c.lines.ensures.lines, c.deref.ensures, c.entries_before.ensures.count, counted) refl)
+    let counted = count_all c.in-Ok.logs c.nodes.result c.nodes.ensures.nodes in (
+      (c.in-Ok.nodes, c.in-Ok.logs, c.in-Ok.last.value),
+      c.in-Ok.ensures.ok,
+      rw (c.lines.ensures.lines, c.deref.ensures, c.entries_before.ensures.count, counted) refl,
+    )
 
 pub returns-in-Err-clause-read : goal.returns-in-Err-clause-read
 returns-in-Err-clause-read c =
