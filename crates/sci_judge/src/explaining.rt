@@ -80,7 +80,11 @@ impl Site<'_> {
     /// The contents that versions lead to: the word that the operation with the greatest version leaves, and that version. They
     /// stand on the heap, as they take some KB. Refused if memory is.
     #[inline(never)]
-    fn contents_with(&self, alloc: Global, versions: &[u64]) -> Result<Box<Last, Global>, AllocError>
+    fn contents_with(
+        &self,
+        alloc: Global,
+        versions: &[u64],
+    ) -> Result<Box<Last, Global>, AllocError>
         ensures { IfOk result (λ last. length last.value ≡ 1) }
     {
         let mut word = 0;

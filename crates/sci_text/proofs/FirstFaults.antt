@@ -6,7 +6,6 @@ use Rattle.std.specs.{Prelude.{IfOk, IfErr}, List.{flat_map, AllByRecursion}}
 use Rattle.sci_text.specs.declared.fault.{TextFault.{TextFault}, TextFaultKind.{TextFaultKind}}
 use Rattle.sci_text.specs.declared.fault.TextFaultKind.TheVariants.{Syntax, Range, TooMany, Read, Write, Memory}
 use Rattle.sci_text.specs.FirstFault.{LineFault, FaultAfter, IsFirstFault, told_line, IsToldAt, IsRefusalOf, IsRefusal, AreRead, IsTold, GivesOnly}
-use Rattle.sci_text.specs.FirstFault.{GivesOnlySuch}
 
 -- ---- one line
 
@@ -185,16 +184,11 @@ module _ (is_first : List ℕ → ℕ → TextFaultKind → Type 0) (input : Lis
   refused_only Write line fault = absurd fault
   refused_only Memory line fault = inr refl
 
-  -- a text without a fault is read
-  pub read_such : {T : Type 0} (is_such : T → Type 0) (result : Result T TextFault) → IfOk result is_such → IfErr result (IsRefusal is_first input)
-      → GivesOnlySuch is_such result
-  read_such is_such (Ok read) is fault = is
-  read_such is_such (Err f) is fault = refused_only f.kind f.line fault
-
-  -- as its value
+  -- a text without a fault is read as its value
   pub read_as : {T : Type 0} (value : T) (result : Result T TextFault) → IfOk result (λ read. read ≡ value) → IfErr result (IsRefusal is_first input)
       → GivesOnly value result
-  read_as value result = read_such (λ read. read ≡ value) result
+  read_as value (Ok read) is fault = is
+  read_as value (Err f) is fault = refused_only f.kind f.line fault
 
 -- ---- what comes of a reader's input
 

@@ -5,10 +5,10 @@ use Rattle.std.specs.Prelude.{IfOk, IfErr}
 use Rattle.sci_words.specs.declared.stamped.Stamped.{Stamped}
 use Rattle.sci_history.specs.declared.entry.Entry.{Entry}
 use Rattle.sci_text.specs.declared.{log_form.Form.{Form}, fault.{TextFault.{TextFault}, TextFaultKind.{TextFaultKind}}}
-use Rattle.sci_text.specs.FirstFault.{IsRefusal, GivesOnlySuch, HasNoFault}
+use Rattle.sci_text.specs.FirstFault.{IsRefusal, GivesOnly, HasNoFault}
 use Rattle.sci_text.specs.LogValue.{Front, front_of, front_text, IsFront, HasAllLines, IsLogs}
 use Rattle.sci_text.specs.LogFault.{BeginsFront, HasMore, line_count, SaysNext, NextFits, HasNoRoomFor, LogLineFault, SizeFault, IsLogFault}
-use Rattle.sci_text.proofs.FirstFaults.{IsFaultless, Meets, IsGrammar, one_line_fault, one_first_fault, no_first_fault, read_such}
+use Rattle.sci_text.proofs.FirstFaults.{IsFaultless, Meets, IsGrammar, one_line_fault, one_first_fault, no_first_fault, read_as}
 use Rattle.sci_text.proofs.{LogUnique.{OnePartition}, LogMeets.{OwnEntries, meet_fronts, one_log_line}}
 use Rattle.sci_text.proofs.LogForms.{one_size_fault, size_right, same_forms, whole_first}
 
@@ -92,26 +92,33 @@ no_log_fault one own input nodes logs last line kind h fault =
     ended f last whole (inl some) = absurd (omega arith)
     ended f last whole (inr few) = few whole
 
+-- what comes of a log's text in memory
+abbrev Log : Type 0
+Log = ℕ × List (List Entry) × List Stamped
+
 abbrev OneLog : Type 0
 OneLog = (input : List ℕ) (n m : ℕ) (a b : List (List Entry)) (x y : List Stamped) → IsLogs input n a x → IsLogs input m b y → (n ≡ m) × (a ≡ b) × (x ≡ y)
 
 abbrev NoLogFault : Type 0
 NoLogFault = (input : List ℕ) (nodes : ℕ) (logs : List (List Entry)) (last : List Stamped) → IsLogs input nodes logs last → HasNoFault IsLogFault input
 
--- what comes of a log's text in memory, if a value has such parts
-pub log_read_as : {T : Type 0} (nodes_in : T → ℕ) (logs_in : T → List (List Entry)) (last_in : T → List Stamped) → OneLog → NoLogFault
-    → (input bytes : List ℕ) (nodes : ℕ) (logs : List (List Entry)) (last : List Stamped) (result : Result T TextFault)
+pub log_read_as : OneLog → NoLogFault
+    → (input bytes : List ℕ) (nodes : ℕ) (logs : List (List Entry)) (last : List Stamped) (result : Result (ℕ × List (List Entry) × List Stamped) TextFault)
     → IsLogs input nodes logs last → bytes ≡ input
-    → IfOk result (λ x. IsLogs bytes (nodes_in x) (logs_in x) (last_in x)) → IfErr result (IsRefusal IsLogFault bytes)
-    → GivesOnlySuch (λ x. (nodes_in x ≡ nodes) × (logs_in x ≡ logs) × (last_in x ≡ last)) result
-log_read_as {T} nodes_in logs_in last_in one none input bytes nodes logs last result is same text fault =
-    read_such IsLogFault bytes (λ line kind f. none bytes nodes logs last here line kind f)
-    (λ (x : T). (nodes_in x ≡ nodes) × (logs_in x ≡ logs) × (last_in x ≡ last)) result (read_is result text) fault
+    → IfOk result (λ x. IsLogs bytes x.0 x.1 x.2) → IfErr result (IsRefusal IsLogFault bytes)
+    → GivesOnly {T = ℕ × List (List Entry) × List Stamped} (nodes, logs, last) result
+log_read_as one none input bytes nodes logs last result is same text fault =
+    read_as IsLogFault bytes (λ line kind f. none bytes nodes logs last here line kind f) (nodes, logs, last) result (read_is result text) fault
   where
     here : IsLogs bytes nodes logs last
     here = subst (λ (l : List ℕ). IsLogs l nodes logs last) (sym same) is
 
-    read_is : (result : Result T TextFault) → IfOk result (λ x. IsLogs bytes (nodes_in x) (logs_in x) (last_in x))
-        → IfOk result (λ x. (nodes_in x ≡ nodes) × (logs_in x ≡ logs) × (last_in x ≡ last))
-    read_is (Ok read) text = one bytes (nodes_in read) nodes (logs_in read) logs (last_in read) last text here
+    value_of : ℕ → List (List Entry) → List Stamped → Log
+    value_of n ls l = (n, ls, l)
+
+    read_is : (result : Result Log TextFault) → IfOk result (λ x. IsLogs bytes x.0 x.1 x.2) → IfOk {T = Log} result (λ read. read ≡ (nodes, logs, last))
+    read_is (Ok read) text =
+        let is_one = one bytes read.0 nodes read.1 logs read.2 last text here in
+        ap (λ (n : ℕ). value_of n read.1 read.2) is_one.0 ∙ ap (λ (ls : List (List Entry)). value_of nodes ls read.2) is_one.1
+        ∙ ap (value_of nodes logs) is_one.2
     read_is (Err f) text = tt

@@ -106,14 +106,10 @@ IsTold is_first Range known failed line = (failed ≡ false) × IsFaultyLine is_
 IsTold is_first TooMany known failed line = (failed ≡ false) × IsTooMany is_first known line
 IsTold is_first Write known failed line = ⊥
 
--- the result is such a value, unless the reader failed or memory was refused
-abbrev pub GivesOnlySuch : {T : Type 0} → (T → Type 0) → Result T TextFault → Type 0
-GivesOnlySuch is_such (Ok read) = is_such read
-GivesOnlySuch is_such (Err fault) = (fault.kind ≡ Read) ⊎ (fault.kind ≡ Memory)
-
--- it is this value
+-- the result is the value, unless the reader failed or memory was refused
 abbrev pub GivesOnly : {T : Type 0} → T → Result T TextFault → Type 0
-GivesOnly value result = GivesOnlySuch (λ read. read ≡ value) result
+GivesOnly value (Ok read) = read ≡ value
+GivesOnly value (Err fault) = (fault.kind ≡ Read) ⊎ (fault.kind ≡ Memory)
 
 -- ---- laws
 

@@ -7,7 +7,7 @@ ghost use Rattle.sci_history.specs.Audit.{AreWithin};
 use crate::readers::{MEMORY, again};
 use sci_history::{Last, Logs, OrderVerdict, Verdict, audit, sequential_order};
 use sci_text::{Tap, TextFault, read_logs};
-use std::alloc::{AllocError, Global};
+use std::alloc::AllocError;
 use std::process::Abort;
 use std::test::*;
 
@@ -20,8 +20,8 @@ const STALE: &str =
     "log 2 2 2\nlast 0 @1 1 0 0 0 0 0 0 0\nlast 1 @1 1 0 0 0 0 0 0 0\n0 0 store 0 0 1 = - @1\n0 1 load 1 0 = 0 @0\n1 0 store 1 0 1 = - @1\n1 1 load 0 0 = 0 @0\n";
 
 /// The logs of a text.
-fn logs_of(rt: &(impl Abort + AllocGlobal), log: &str) -> Result<(Logs, Box<Last, Global>), TextFault>
-    ensures { IfOk result (λ read. AreWithin (length read.1.value) read.0) }
+fn logs_of(rt: &(impl Abort + AllocGlobal), log: &str) -> Result<(Logs, Last), TextFault>
+    ensures { IfOk result (λ read. AreWithin (length read.1) read.0) }
 {
     let (_nodes, logs, last) =
         again!(rt; read_logs(rt.alloc(), &mut Tap::new(log.as_bytes())), MEMORY)?;

@@ -20,8 +20,8 @@ use std::test::*;
 const ONCE: &str = "log 2 4 2\nlast 0 @1 1 0 0 0 0 0 0 0\nlast 1 @1 1 0 0 0 0 0 0 0\n";
 
 /// The logs of a row.
-fn read(alloc: Global, row: &str) -> Result<(Logs, Box<Last, Global>), Fail>
-    ensures { IfOk result (λ read. AreWithin (length read.1.value) read.0) }
+fn read(alloc: Global, row: &str) -> Result<(Logs, Last), Fail>
+    ensures { IfOk result (λ read. AreWithin (length read.1) read.0) }
 {
     let first = if row.contains("log ") { "" } else { ONCE };
     let mut log = String::from_str(alloc, first)?;

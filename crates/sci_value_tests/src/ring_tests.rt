@@ -13,8 +13,8 @@ use std::test::*;
 const LONG_AND_SHORT: [u8; 16] = [1, 2, 3, 4, 5, 6, 7, 8, 9, 10, 11, 12, 13, 0, 15, 14];
 
 /// The logs of rings, in which each node loads the line of the node that stands after it, and of more entries.
-fn rings(alloc: Global, after: &[u8], more: &str) -> Result<(Logs, Box<Last, Global>), Fail>
-    ensures { IfOk result (λ read. AreWithin (length read.1.value) read.0) }
+fn rings(alloc: Global, after: &[u8], more: &str) -> Result<(Logs, Last), Fail>
+    ensures { IfOk result (λ read. AreWithin (length read.1) read.0) }
 {
     let nodes = after.len();
     let mut text = format!(in alloc; "log 2 {nodes} {nodes}\n")?.into_bytes();
