@@ -16,7 +16,7 @@ use Rattle.sci_policy.proofs.Alone.{beyond_out}
 use Rattle.sci_policy.specs.{Lines.{can_drain, state_on}, Policy.{PolicyOf}, Turn.{is_ask}}
 use Rattle.sci_fair.specs.{Rank.{can_perform, work_on}, Steady.{AreSteadyTurns, HasWindows, IsSteadyTurn, Working, WorksByTurns}}
 use Rattle.sci_fair.proofs.Awaiting.{answered_core, taking_no_accept, taking_no_ask, waiting_step}
-use Rattle.sci_fair.proofs.Descents.{Comes, Falls, Stays, descend, turns_join, windows_after, windows_fewer}
+use Rattle.sci_fair.proofs.Descents.{Comes, Falls, descend, turns_join, windows_after, windows_fewer}
 use Rattle.sci_fair.proofs.{FirstWants.{performs_can}, Kept.{kept_along, leads, performable}, LaneTurns.{asks_keep}}
 use Rattle.sci_fair.proofs.{ReadCarries.{AsksAs, ask_as}, Requests.{good_along, size_along}, Retries.{never_purge}}
 use Rattle.sci_fair.proofs.StateSteps.{By_accept, By_ask, By_serve, StateStep, Stays as Remains, ask_one, state_step}
@@ -34,22 +34,11 @@ pub record Ahead (count : ℕ) (w last : Working) : Type 0 where
   pub windows : HasWindows w.core.size.nodes count order
 
 pub fewer : (few many : ℕ) (w last : Working) → few ≤ many → Ahead many w last → Ahead few w last
-fewer few many w last le ahead = record {
-  good = ahead.good;
-  order = ahead.order;
-  turns = ahead.turns;
-  windows = windows_fewer w.core.size.nodes few many ahead.order le ahead.windows;
-}
+fewer few many w last le ahead = grind (arith, windows_fewer)
 
 -- before some of them, as many are ahead
 pub earlier : (count : ℕ) (order : List ℕ) (w mid last : Working) → WorksByTurns w.core → AreSteadyTurns order w mid → Ahead count mid last → Ahead count w last
-earlier count order w mid last good turns ahead = record {
-  good = good;
-  order = order ++ ahead.order;
-  turns = turns_join IsSteadyTurn order ahead.order w mid last turns ahead.turns;
-  windows = windows_after w.core.size.nodes count order ahead.order
-      (subst (λ (z : Size). HasWindows z.nodes count ahead.order) (size_along order w mid good turns) ahead.windows);
-}
+earlier count order w mid last good turns ahead = grind (arith, turns_join, windows_after, size_along)
 
 -- behind a turn that comes
 pub after_it : (Done : ℕ → Working → Working → Type 0) (count : ℕ) (order : List ℕ) (first last : Working) → WorksByTurns first.core
@@ -99,10 +88,7 @@ on_from many count order w mid last amid turns ahead = record {
 -- ---- the next turn of a node
 
 own_comes : (size : Size) (n : ℕ) (k h i : ℕ) (old new : Working) → h ≡ n → IsSteadyTurn i old new → (i ≡ n) ⊎ Falls (λ less m w. m ≡ n) k h i new
-own_comes size n k h i old new same turn = elim (cases_eq i n) [
-  | inl own ↦ inl own
-  | inr other ↦ inr (Stays (λ e. other (e ∙ same)) same)
-]
+own_comes size n k h i old new same turn = grind (arith, cases_eq)
 
 -- in each window each node takes a turn
 pub turn_comes : (n count : ℕ) (w last : Working) → n < w.core.size.nodes → (ahead : Ahead (suc count) w last)
@@ -160,12 +146,7 @@ firm_step : (e : Event) (line : ℕ) (s t : CacheState) → StateStep e line s t
 firm_step e line s t (Remains same) kind is = same
 firm_step e line s t (By_accept accept a accepts) kind is = absurd (taking_no_accept e kind accept)
 firm_step e line s t (By_ask ask k asked asks next) kind is = absurd (taking_no_ask e kind ask)
-firm_step e line s t (By_serve service m r b serves) kind is = elim (cases_Bool (firm s)) [
-  | inl leads_ ↦ of_some (λ (served : CacheState × Body). served.0 ≡ s) (serving s m r) (t, b) serves (firm_served s m r leads_)
-  | inr not_so ↦
-      let never = of_some (λ (served : CacheState × Body). firm served.0 ≡ false) (serving s m r) (t, b) serves (other_served s m r not_so) in
-      let clash : true ≡ false = sym is ∙ never in cc
-]
+firm_step e line s t (By_serve service m r b serves) kind is = grind (arith, cases_Bool, of_some, firm_served, other_served)
 
 firm_taken : (n line : ℕ) (p : PolicyOf) (x : Core) (events : List Event) (q : PolicyOf) (y : Core) → AreAll is_taking events → Steadily n p x events q y
     → firm (state_on (node_at y n) line) ≡ true → state_on (node_at y n) line ≡ state_on (node_at x n) line
@@ -201,10 +182,7 @@ firm_lane core n line reached some inside free never waiting = elim (where_is co
 ]
 
 pub lines_inside : (core : Core) (n line : ℕ) → IsReached core → n < core.size.nodes → waits (state_on (node_at core n) line) ≡ true → line < core.size.lines
-lines_inside core n line reached some waiting = elim (cases_lt line core.size.lines) [
-  | inl inside ↦ inside
-  | inr past ↦ absurd (beyond_out core n line reached some past waiting)
-]
+lines_inside core n line reached some waiting = grind (arith, cases_lt, beyond_out)
 
 -- if it waits when the node asks, it waited when the turn began, and its request was in a lane then
 pub firm_before : (n line : ℕ) (old new : Working) → WorksByTurns old.core → (held : Held n old new) → n < old.core.size.nodes

@@ -73,10 +73,7 @@ accepts_one n from core new reached some steps =
     (stepped core new n (event.Accept from n) (side (node_at core n) (event.Accept from n)) some refl refl steps)
 
 shorter_by : (letter : Letter) (rest lane now : List Letter) → lane ≡ letter ∷ rest → now ≡ rest → length now < length lane
-shorter_by letter rest lane now was is =
-    let long : length lane ≡ suc (length rest) = ap length was in
-    let short : length now ≡ length rest = ap length is in
-    omega (arith, long, short)
+shorter_by letter rest lane now was is = grind arith
 
 pub accept_step : (n from : ℕ) (old core new : Core) → n < old.size.nodes → HasAccepted n old core → stepping core (event.Accept from n) ≡ Some new
     → HasAccepted n old new
@@ -116,9 +113,7 @@ none_of_none [] few = refl
 none_of_none (letter ∷ lane) few = absurd (omega (arith, few))
 
 found_none : (n from : ℕ) (old : Core) (a b : Stage) → On n (HasAccepted n old) a → FindsNoAnswer from a b → lane_of b.post.core Answers from n ≡ []
-found_none n from old a b on none =
-    let on_b = on_none n (HasAccepted n old) a b on none.0 in
-    subst (λ (m : ℕ). lane_of b.post.core Answers from m ≡ []) on_b.0.me none.1
+found_none n from old a b on none = grind (arith, on_none)
 
 emptied_one : (k n from : ℕ) (old : Core) (a b : Stage) → n < old.size.nodes → from < old.size.nodes → On n (HasAccepted n old) a
     → length (lane_of a.post.core Answers from n) ≤ k → UpTo k (Accepts from) (FindsNoAnswer from) a b → lane_of b.post.core Answers from n ≡ []
@@ -327,11 +322,7 @@ reply_step n j old core new some f is steps =
 
 pub held_never : (n j : ℕ) (old core : Core) → HasServed n j old core
     → IfSome (node_at core n).waiting (λ answer. 4 ≤ length (lane_of core Answers n answer.target)) → ⊥
-held_never n j old core is held =
-    let full : 4 ≤ length (lane_of core Answers n is.answer.target) =
-    of_some (λ (a : Letter). 4 ≤ length (lane_of core Answers n a.target)) (node_at core n).waiting is.answer is.waits held in
-    let there : 4 ≤ length (lane_of core Answers n j) = subst (λ (k : ℕ). 4 ≤ length (lane_of core Answers n k)) is.to full in
-    let less = is.less in absurd (omega (arith, there, less))
+held_never n j old core is held = grind (arith, of_some)
 
 -- ---- the node asks
 
@@ -398,64 +389,10 @@ of_range P (suc count) first from some few all = elim (cases_eq first from) [
 
 pub taken_first : (n : ℕ) (old core : Core) → n < old.size.nodes → IsBetweenTurns old → HasAccepted n old core
     → ((b : ℕ) → b < old.size.nodes → lane_of core Answers b n ≡ []) → HasTaken n old core
-taken_first n old core some between so none = record {
-  so = record {
-    since = so.since;
-    answered = λ b t other. none b t;
-    requests = λ a b f t other. so.requests a b f t;
-    answers = λ a b f t other another. so.answers a b f t another;
-  };
-  free = so.free;
-  room = λ j f. (
-      let requests = ap length (so.requests j n f some) in
-      elim (cases_eq j n) [
-        | inl own ↦
-            let empty : length (lane_of core Answers n j) ≡ 0 = ap length (subst (λ (k : ℕ). lane_of core Answers n k ≡ []) (sym own) (none n some)) in
-            let short = between.short (lane_place old.size.nodes Requests j n) in
-            omega (arith, requests, empty, short)
-        | inr other ↦
-            let sent = ap length (so.answers n j some f other) in
-            let room = between.room j n f some other in
-            omega (arith, requests, sent, room)
-      ]
-      );
-}
+taken_first n old core some between so none = grind (arith, cases_eq)
 
 pub asked_first : (n : ℕ) (old core : Core) → n < old.size.nodes → HasTaken n old core → HasAsked n old core
-asked_first n old core some is = record {
-  since = is.so.since;
-  free = is.free;
-  answered = is.so.answered;
-  apart = λ a b f t other another. (is.so.requests a b f t another, is.so.answers a b f t other another);
-  room = λ j f other. is.room j f;
-}
+asked_first n old core some is = grind arith
 
 pub between_last : (n : ℕ) (old new : Core) → n < old.size.nodes → IsBetweenTurns old → AreShort new → HasAsked n old new → IsBetweenTurns new
-between_last n old new some between short is = record {
-  free = λ m. elim (cases_eq m n) [
-    | inl same ↦ subst (λ (k : ℕ). (node_at new k).waiting ≡ None) (sym same) is.free
-    | inr other ↦ ap (λ (part : NodeOf). part.waiting) (is.since.others m other) ∙ between.free m
-  ];
-  short = short;
-  room = λ a b g u apart. (
-      let f : a < old.size.nodes = subst (λ (z : Size). a < z.nodes) is.since.size g in
-      let t : b < old.size.nodes = subst (λ (z : Size). b < z.nodes) is.since.size u in
-      elim (cases_eq a n) [
-        | inl own ↦
-            let empty : length (lane_of new Answers b a) ≡ 0 =
-            ap length (subst (λ (k : ℕ). lane_of new Answers b k ≡ []) (sym own) (is.answered b t (λ e. apart (own ∙ sym e)))) in
-            let few : length (lane_of new Requests a b) ≤ 4 = short (lane_place new.size.nodes Requests a b) in
-            omega (arith, empty, few)
-        | inr other ↦ elim (cases_eq b n) [
-          | inl to ↦ subst (λ (k : ℕ). length (lane_of new Requests a k) + length (lane_of new Answers k a) ≤ 4) (sym to) (is.room a f other)
-          | inr another ↦
-              let lanes = is.apart a b f t other another in
-              let back = is.apart b a t f another other in
-              let requests = ap length lanes.0 in
-              let answers = ap length back.1 in
-              let was = between.room a b f t apart in
-              omega (arith, requests, answers, was)
-        ]
-      ]
-      );
-}
+between_last n old new some between short is = grind (arith, cases_eq)

@@ -1,13 +1,13 @@
 -- A line that awaits its home's word, in steady turns: it awaits it until the answer is accepted. Then it is a head that would serve a
 -- Cread, and no steady event serves one.
-use Rattle.std.proofs.Common.{◌≡◌, ◌<◌, ◌==◌, ℕ, Bool, true, false, List, [], ◌∷◌}
+use Rattle.std.proofs.Common.{◌≡◌, ◌<◌, ◌==◌, ℕ, Bool, true, false, List, [], ◌∷◌, arith}
 use Rattle.std.proofs.Common.{Option, Some, None, sym, ap, subst, ◌∙◌, ◌⊎◌, inl, inr, rules, get_or-set_same}
 use Rattle.std.proofs.lemmas.Bool.{cases_Bool, cases_eq, eq-eqb}
 use Rattle.std.specs.Prelude.{IfSome}
 use Rattle.sci_words.specs.declared.event.{AskKind.{AskKind}, Event.{Event}}
 use Rattle.sci_packets.specs.{declared.body.Body.{Body, TheVariants.{Cread}}, Table.{is_request}}
 use Rattle.sci_home.specs.{Serving.{is_for_home}}
-use Rattle.sci_cache.specs.{State.{CacheState, FreshHead, Head, Out, waits}, Accepting.{accepting}, Asking.{Asked, asking}, Serving.{serving}}
+use Rattle.sci_cache.specs.{State.{CacheState, FreshHead, Head, Out, waits}, Accepting.{accepting}, Asking.{asking}, Serving.{serving}}
 use Rattle.sci_cache.specs.{Line.{LineState, line_in, untouched}, Cache.{Letter, line_of}}
 use Rattle.sci_core.specs.declared.lane.LaneKind.TheVariants.{Requests, Answers}
 use Rattle.sci_history.specs.Seen.{IsAmong}
@@ -97,9 +97,7 @@ pub waiting_step : (e : Event) (line : ℕ) (s t : CacheState) → StateStep e l
 waiting_step e line s t (Stays same) kind waiting = same
 waiting_step e line s t (By_accept is a accepts) kind waiting = absurd (ask_no_accept e kind is)
 waiting_step e line s t (By_serve is m r b serves) kind waiting = absurd (service_no_ask e is kind)
-waiting_step e line s t (By_ask is k asked asks next) kind waiting =
-    let free = of_some (λ (a : Asked). waits s ≡ false) (asking s k) asked asks (asks_free s k) in
-    let clash : true ≡ false = sym waiting ∙ free in cc
+waiting_step e line s t (By_ask is k asked asks next) kind waiting = grind (arith, of_some, asks_free)
 
 -- the line awaits its home's word
 abbrev pub Awaits : ℕ → ℕ → Core → Type 0
@@ -136,17 +134,13 @@ step_accepts e line work s t (By_ask is k asked asks next) kind keeps either = a
 step_opens : (e : Event) (line : ℕ) (work : Option Bool) (s t : CacheState) → StateStep e line s t → is_taking e ≡ true
     → (rank work t == rank work s) ≡ true → is_open_head work s ≡ true → is_open_head work t ≡ true
 step_opens e line work s t (Stays same) kind keeps opened = subst (λ (r : CacheState). is_open_head work r ≡ true) (sym same) opened
-step_opens e line work s t (By_serve is m r b serves) kind keeps opened =
-    of_some (λ (served : CacheState × Body). (rank work served.0 == rank work s) ≡ true → is_open_head work served.0 ≡ true) (serving s m r) (t, b) serves
-    (open_serves work s m r opened) keeps
+step_opens e line work s t (By_serve is m r b serves) kind keeps opened = grind (arith, of_some, open_serves)
 step_opens e line work s t (By_accept is a accepts) kind keeps opened = absurd (taking_no_accept e kind is)
 step_opens e line work s t (By_ask is k asked asks next) kind keeps opened = absurd (taking_no_ask e kind is)
 
 step_awaits : (e : Event) (line : ℕ) (s t : CacheState) → StateStep e line s t → (is_accept e ≡ true → ⊥) → awaits_home s ≡ true → awaits_home t ≡ true
 step_awaits e line s t (Stays same) never awaits = subst (λ (r : CacheState). awaits_home r ≡ true) (sym same) awaits
-step_awaits e line s t (By_serve is m r b serves) never awaits =
-    let same = of_some (λ (served : CacheState × Body). served.0 ≡ s) (serving s m r) (t, b) serves (awaiting_serves s m r awaits) in
-    subst (λ (r_ : CacheState). awaits_home r_ ≡ true) (sym same) awaits
+step_awaits e line s t (By_serve is m r b serves) never awaits = grind (arith, of_some, awaiting_serves)
 step_awaits e line s t (By_accept is a accepts) never awaits = absurd (never is)
 step_awaits e line s t (By_ask is k asked asks next) never awaits =
     absurd (let clash : None ≡ Some asked = sym (awaiting_asks s k awaits) ∙ asks in cc)
@@ -211,10 +205,7 @@ module _ (n line : ℕ) where
 
 pub answered_core : {K : Change} (n : ℕ) (old new : Working) → WorksByTurns old.core → (held : HeldBy K n old new) → (m : ℕ)
     → (node_at held.trace.c1 m).waiting ≡ None
-answered_core n old new good held m = elim (cases_eq m n) [
-  | inl same ↦ subst (λ (k : ℕ). (node_at held.trace.c1 k).waiting ≡ None) (sym same) held.trace.accepted.free
-  | inr other ↦ ap (λ (part : NodeOf). part.waiting) (held.trace.accepted.since.others m other) ∙ good.between.free m
-]
+answered_core n old new good held m = grind (arith, cases_eq)
 
 never_where : {K : Change} (n from line : ℕ) (old new : Working) (answer : Letter) → WorksByTurns old.core → (held : HeldBy K n old new)
     → n < old.core.size.nodes
@@ -228,11 +219,7 @@ never_where n from line old new answer good held some inside f answers about amo
     (lane_packets old.core Requests n to n line letter good.reached some t asked was)
     (lane_packets old.core Answers from n n line answer good.reached f some about among) in
     let clash : true ≡ false = sym asks ∙ (ap (λ (l : Letter). is_request l.body) same ∙ answers) in cc
-never_where n from line old new answer good held some inside f answers about among (Answered_from i letter g is asked there) =
-    let since = held.trace.accepted.since in
-    let t : i < old.core.size.nodes = subst (λ (z : Size). i < z.nodes) since.size g in
-    let none : IsAmong letter [] = subst (IsAmong letter) (held.trace.empty i t) there in
-    elim none [ ]
+never_where n from line old new answer good held some inside f answers about among (Answered_from i letter g is asked there) = grind arith
 
 -- an answer that has come is accepted: where one is under way to a line, the line doesn't wait when the turn has accepted
 pub accepted_idle : {K : Change} (n from line : ℕ) (old new : Working) (answer : Letter) → WorksByTurns old.core → (held : HeldBy K n old new)

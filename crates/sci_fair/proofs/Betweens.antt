@@ -5,7 +5,7 @@ use Rattle.std.specs.Prelude.{IfSome}
 use Rattle.sci_words.specs.declared.event.Event.{Event}
 use Rattle.sci_cache.specs.Cache.{Letter}
 use Rattle.sci_core.specs.declared.lane.LaneKind.TheVariants.{Requests, Answers}
-use Rattle.sci_core.specs.Core.{Core, lane_at, lane_of, node_at, opening, side, stepping, with_node}
+use Rattle.sci_core.specs.Core.{Core, lane_of, node_at, opening, side, stepping, with_node}
 use Rattle.sci_core.specs.Node.{NodeOf, may_issue, node_issuing, node_performing}
 use Rattle.sci_core.specs.{Draining.{IsDrained}, Reached.{IsReached}, Size.{Size}}
 use Rattle.sci_core.proofs.{Basics.Options.{of_some}, Settling.Drains.{some_node}, Step.NodeSides.{PerformedAs, perform_as}}
@@ -23,11 +23,7 @@ both_empty one two none nothing =
     let first : length one ≡ 0 = ap length none in let second : length two ≡ 0 = ap length nothing in omega (arith, first, second)
 
 pub drained_between : (core : Core) → IsDrained core → IsBetweenTurns core
-drained_between core drained = record {
-  free = drained.waiting;
-  short = λ place. empty_short (lane_at core place) (drained.lanes place);
-  room = λ a b f t apart. both_empty _ _ (drained.lanes _) (drained.lanes _);
-}
+drained_between core drained = grind (arith, empty_short, both_empty)
 
 pub opening_between : (size : Size) → IsBetweenTurns (opening size)
 opening_between size = drained_between (opening size) (record { waiting = opening_waits size; lanes = none_there (2 * size.nodes * size.nodes) })

@@ -1,5 +1,5 @@
 -- The node directly before the one that leads a list, and who joins when an answer has come.
-use Rattle.std.proofs.Common.{◌≡◌, ◌<◌, ◌==◌, ℕ, Bool, true, List, [], ◌∷◌}
+use Rattle.std.proofs.Common.{◌≡◌, ◌<◌, ◌==◌, ℕ, Bool, true, List, [], ◌∷◌, arith}
 use Rattle.std.proofs.Common.{Option, Some, None, refl, sym, ap, ◌∙◌, inl, inr, rules}
 use Rattle.std.proofs.lemmas.Bool.{eq-eqb}
 use Rattle.std.specs.Prelude.{IfSome}
@@ -88,10 +88,7 @@ settled_joins work s t (By_answer b accepts keeps) is =
 
 joining_settled : (work : Option Bool) (s t : CacheState) → SettlesTo work s t → joins t ≡ true → (joins s ≡ true) × (link_of s ≡ link_of t)
 joining_settled work s t (As_it_is same) is = (ap joins (sym same) ∙ is, ap link_of (sym same))
-joining_settled work s t (By_answer b accepts keeps) is = (
-  of_some (λ r. (rank work r == rank work s) ≡ true → joins r ≡ true → joins s ≡ true) (accepting s b) t accepts (joined_before work s b) keeps is,
-  of_some (λ r. (rank work r == rank work s) ≡ true → joins r ≡ true → link_of s ≡ link_of r) (accepting s b) t accepts (joined_link work s b) keeps is,
-)
+joining_settled work s t (By_answer b accepts keeps) is = grind (arith, of_some, joined_before, joined_link)
 
 leading_settled : (work : Option Bool) (s t : CacheState) → SettlesTo work s t → leads t ≡ true → leads s ≡ true
 leading_settled work s t (As_it_is same) is = ap leads (sym same) ∙ is

@@ -16,14 +16,9 @@ use Rattle.sci_fair.proofs.{Whereabouts.{in_lane, lane_packets, request_about}, 
 -- a linked list goes on behind each entry that has a next one
 next_behind : (link : ℕ → Option (Option ℕ)) (first : Option ℕ) (a : ℕ) (ns : List ℕ) (x n : ℕ) → LinkedFrom link first (a ∷ ns) → IsAmong x (a ∷ ns)
     → link x ≡ Some (Some n) → IsAmong n ns
-next_behind link first a [] x n linked (inl same) is =
-    let next : linked.1.0 ≡ Some n = (let at : Some linked.1.0 ≡ Some (Some n) = sym linked.1.1 ∙ (ap link (sym same) ∙ is) in cc) in
-    let clash : None ≡ Some n = sym linked.1.2 ∙ next in cc
+next_behind link first a [] x n linked (inl same) is = grind arith
 next_behind link first a [] x n linked (inr among) is = elim among [ ]
-next_behind link first a (b ∷ ns) x n linked (inl same) is =
-    let next : linked.1.0 ≡ Some n = (let at : Some linked.1.0 ≡ Some (Some n) = sym linked.1.1 ∙ (ap link (sym same) ∙ is) in cc) in
-    let here : n ≡ b = (let at : Some n ≡ Some b = sym next ∙ linked.1.2.0 in cc) in
-    inl here
+next_behind link first a (b ∷ ns) x n linked (inl same) is = grind arith
 next_behind link first a (b ∷ ns) x n linked (inr among) is = inr (next_behind link linked.1.0 b ns x n linked.1.2 among is)
 
 -- behind the front stands nobody with the same next entry

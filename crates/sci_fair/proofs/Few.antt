@@ -1,5 +1,5 @@
 -- Between two Performs few steps change the rank of a line: each that does makes the machine worth less, and no step makes it worth more.
-use Rattle.std.proofs.Common.{◌≡◌, ◌≢◌, ◌≤◌, ◌<◌, ◌+◌, ◌*◌, ◌&&◌, if◌then◌else◌, ℕ, zero, suc, Bool, true, false, arith, rules, List, [], ◌∷◌}
+use Rattle.std.proofs.Common.{◌≡◌, ◌≢◌, ◌≤◌, ◌<◌, ◌+◌, ◌&&◌, if◌then◌else◌, ℕ, zero, suc, Bool, true, false, arith, rules, List, [], ◌∷◌}
 use Rattle.std.proofs.Common.{Option, Some, None, Ok, refl, sym, ap, subst, ◌∙◌, inl, inr}
 use Rattle.std.proofs.lemmas.{Bool.{cases_Bool, cases_eq, cases_lt}, List.{get_or_past}}
 use Rattle.sci_words.specs.{declared.{event.Event.{Event, TheVariants.{Issue}}, operation.Op.{Op}}, Operation.{is_maker}}
@@ -47,14 +47,7 @@ reserve_within true = omega arith
 reserve_within false = omega arith
 
 pub worth_within : (w : Working) → worth w ≤ most_changes w.core.size
-worth_within w =
-    sum_most (worth_at w) (141 * w.core.size.lines) w.core.size.nodes (λ n.
-    sum_most (line_worth (w.policies n) (node_at w.core n)) 141 w.core.size.lines (λ line. (
-    let node = node_at w.core n in
-    let levels = level_within (has (w.policies n).used line) (work_on node line) (state_on node line) in
-    let more = reserve_within (can_on node line) in
-    omega (arith, levels, more)
-    )))
+worth_within w = grind (arith, sum_most, level_within, reserve_within)
 
 -- ---- one line of a node that can perform nothing
 
@@ -65,18 +58,12 @@ pub record LineKept (p q : PolicyOf) (node next : NodeOf) (line : ℕ) : Type 0 
 
 pub kept_lower : (p q : PolicyOf) (node next : NodeOf) (line : ℕ) → CannotPerform node → level_on q next line ≤ level_on p node line
     → LineKept p q node next line
-kept_lower p q node next line cannot lower =
-    let full : reserve (can_on node line) ≡ 48 = ap reserve (cannot line) in
-    let most = reserve_within (can_on next line) in
-    record { low = omega (arith, lower, full, most); same = λ same. omega (arith, lower, full, most, same) }
+kept_lower p q node next line cannot lower = grind (arith, reserve_within)
 
 -- it may be used anew, but then it is ready
 pub kept_ready : (p q : PolicyOf) (node next : NodeOf) (line : ℕ) → CannotPerform node → can_on next line ≡ true
     → level_on q next line ≤ level_on p node line + 47 → LineKept p q node next line
-kept_ready p q node next line cannot can lower =
-    let full : reserve (can_on node line) ≡ 48 = ap reserve (cannot line) in
-    let gone : reserve (can_on next line) ≡ 0 = ap reserve can in
-    record { low = omega (arith, lower, full, gone); same = λ same. absurd (omega (arith, lower, full, gone, same)) }
+kept_ready p q node next line cannot can lower = grind arith
 
 -- ---- an Issue
 
@@ -96,16 +83,7 @@ size_of_step core new e reached steps = size_either {T = ℕ} {E = ℕ} (Ok 0) c
 
 pub pending_inside : (core : Core) (n line : ℕ) (p : Pending) → IsReached core → n < core.size.nodes → pending_on (node_at core n) line ≡ Some p
     → line < core.size.lines
-pending_inside core n line p reached some is = elim (cases_lt line core.size.lines) [
-  | inl inside ↦ inside
-  | inr past ↦
-      let part = (reached_well core reached).each_part n some in
-      let long = part.fits.pending in
-      let all = part.each in
-      let none : pending_on (node_at core n) line ≡ None = get_or_past (node_at core n).pending line None (omega (arith, past, long, all)) in
-      let clash : None ≡ Some p = sym none ∙ is in
-      cc
-]
+pending_inside core n line p reached some is = grind (arith, cases_lt, reached_well, get_or_past)
 
 pub issued : (old new : Core) (n : ℕ) (op : Op) → IsReached old → stepping old (Issue n op) ≡ Some new → Issued old new n op
 issued old new n op reached steps =
@@ -156,24 +134,11 @@ issued_reserve old new n op is line = elim (cases_eq line op.line) [
 
 issued_level : (old new : Core) (n : ℕ) (op : Op) (policy : PolicyOf) → Issued old new n op → (line : ℕ) → line ≢ op.line
     → level_on policy (node_at new n) line ≡ level_on policy (node_at old n) line
-issued_level old new n op policy is line other =
-    ap (λ (w : Option Bool). level (has policy.used line) w (state_on (node_at new n) line)) (is.work line other)
-    ∙ ap (level (has policy.used line) (work_on (node_at old n) line)) (is.state line)
+issued_level old new n op policy is line other = grind arith
 
 issued_falls : (old new : Core) (n : ℕ) (op : Op) (policy : PolicyOf) → Issued old new n op
     → level_on policy (node_at new n) op.line < level_on policy (node_at old n) op.line
-issued_falls old new n op policy is =
-    let used = has policy.used op.line in
-    let s = state_on (node_at old n) op.line in
-    let now : level_on policy (node_at new n) op.line ≡ level used (Some (is_maker op)) s =
-    ap (λ (w : Option Bool). level used w (state_on (node_at new n) op.line)) is.now ∙ ap (level used (Some (is_maker op))) (is.state op.line) in
-    let was : level_on policy (node_at old n) op.line ≡ level used None s = ap (λ (w : Option Bool). level used w s) is.was in
-    let less = level_less (counts_use s && used) (rank (Some (is_maker op)) s) (rank None s) (issue_lowers (is_maker op) s) in
-    omega (arith, now, was, less)
-  where
-    level_less : (b : Bool) (m n : ℕ) → m < n → (if b then 47 else 0) + m < (if b then 47 else 0) + n
-    level_less true m n lt = omega (arith, lt)
-    level_less false m n lt = omega (arith, lt)
+issued_falls old new n op policy is = grind (arith, issue_lowers)
 
 -- an Issue makes the machine worth less
 pub issue_falls : (old new : Working) (n : ℕ) (op : Op) → IsReached old.core → stepping old.core (Issue n op) ≡ Some new.core → new.policies ≡ old.policies
@@ -357,7 +322,4 @@ few_by (suc count) first (next ∷ later) good steps =
 
 pub changes_few : (count : ℕ) (first : Working) (later : List Working) → WorksByTurns first.core → AreSteps count first later
     → count ≤ most_changes first.core.size
-changes_few count first later good steps =
-    let few = few_by count first later good steps in
-    let most = worth_within first in
-    omega (arith, few, most)
+changes_few count first later good steps = grind (arith, few_by, worth_within)

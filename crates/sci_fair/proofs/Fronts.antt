@@ -7,10 +7,10 @@ use Rattle.sci_words.specs.Operation.{is_maker}
 use Rattle.sci_packets.specs.declared.body.Body.{TheVariants.{Cread}}
 use Rattle.sci_cache.specs.{State.{CacheState}, Cache.{Letter}}
 use Rattle.sci_core.specs.declared.{lane.LaneKind.TheVariants.{Requests}, pending.Pending.{Pending}}
-use Rattle.sci_core.specs.{Core.{lane_of, node_at}, Node.{NodeOf, pending_on}, Size.{Size}}
+use Rattle.sci_core.specs.{Core.{lane_of, node_at}, Node.{NodeOf}, Size.{Size}}
 use Rattle.sci_policy.proofs.PolicyLaws.{kept_no, serve_if}
-use Rattle.sci_policy.specs.Lines.{can_drain, has_maker, is_head, is_maker_of, state_on}
-use Rattle.sci_policy.specs.Policy.{PolicyOf, awaits_home, decided, is_busy_now, is_cread, is_held, kept_by, refused_by, turned}
+use Rattle.sci_policy.specs.Lines.{can_drain, is_head, is_maker_of, state_on}
+use Rattle.sci_policy.specs.Policy.{PolicyOf, awaits_home, decided, is_busy_now, turned}
 use Rattle.sci_policy.specs.Turn.{decided_event}
 use Rattle.sci_fair.specs.{Rank.{work_in, work_on}, Steady.{AreTurns, HasWindows, IsSteadyTurn, Working}}
 use Rattle.sci_fair.specs.Steady.{WorksByTurns}
@@ -55,16 +55,7 @@ refused_no c h d m one two = search rules
 
 pub opens_serve : (policy : PolicyOf) (node : NodeOf) (request : Letter) → is_open_head (work_on node request.line) (state_on node request.line) ≡ true
     → decided policy node request ≡ decision.Serve
-opens_serve policy node request opened =
-    let work = work_on node request.line in
-    let s = state_on node request.line in
-    let refused : refused_by policy node request ≡ false =
-    refused_no (is_cread request.body) _ (can_drain s) (is_held policy node request.line) (open_drain work s opened)
-    (held_no (is_head s) (has_maker node request.line) _ (open_maker (pending_on node request.line) s opened)) in
-    let kept : kept_by policy node request ≡ false =
-    kept_no (is_cread request.body) _ (awaits_home s) _ (is_busy_now s) (refused_by policy node request) (open_awaits work s opened) (open_busy work s opened)
-    refused in
-    serve_if (kept_by policy node request) (refused_by policy node request) kept refused
+opens_serve policy node request opened = grind (arith, refused_no, open_drain, held_no, open_maker, kept_no, open_awaits, open_busy, serve_if)
 
 -- ---- what is helpful while the front is kept
 

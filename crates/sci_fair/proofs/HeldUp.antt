@@ -137,17 +137,7 @@ held_full n old new line k good held some same wants ends =
 
 own_quiet : (n : ℕ) (old new : Working) → IsSteadyTurn n old new → (held : Held n old new) → held.trace.c2 ≡ new.core
     → ((b : ℕ) × (b < old.core.size.nodes) × (b ≢ n) × (4 ≤ length (lane_of old.core Requests n b))) → QuietTurn n n old new
-own_quiet n old new turn held same full = record {
-  steady = turn;
-  size = held.size;
-  lanes = λ b below other. (
-      let lane : lane_of new.core Requests n b ≡ lane_of old.core Requests n b =
-      subst (λ (c : Core). lane_of c Requests n b ≡ lane_of old.core Requests n b) same (held.trace.taken.so.requests n b turn.alone.some below other) in
-      let long = ap length lane in
-      omega (arith, long)
-      );
-  full = λ own. full;
-}
+own_quiet n old new turn held same full = grind arith
 
 own_ended : (n : ℕ) (old new : Working) (want : Option Want) → WorksByTurns old.core → IsSteadyTurn n old new → (held : Held n old new)
     → held.trace.c2 ≡ new.core → next_wanted held.trace.p2 (node_at held.trace.c2 n) ≡ want → IfSome want (EndsAt (post_at n new.core))

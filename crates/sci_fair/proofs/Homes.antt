@@ -85,15 +85,9 @@ home_word (at.Fresh p d) (Claiming f c) n at_home letter awaits sent head fresh 
     let same : p ≡ n = cc in
     subst (λ (b : Body). IfSome (home_serving (at.Fresh p d) n b) (λ (served : HomeState × Body). served.1 ≡ Wbok)) (sym sent.0)
     (wbok_if (p == n) (at.Gone n) (at.Fresh p d) (eq-eqb p n same))
-home_word (at.Fresh p d) (Clearing c) n at_home letter awaits sent head fresh =
-    let same : p ≡ n = cc in
-    subst (λ (b : Body). IfSome (home_serving (at.Fresh p d) n b) (λ (served : HomeState × Body). served.1 ≡ Wbok)) (sym sent.0)
-    (wbok_if (p == n) (at.Home d) (at.Fresh p d) (eq-eqb p n same))
+home_word (at.Fresh p d) (Clearing c) n at_home letter awaits sent head fresh = grind (arith, wbok_if, eq-eqb)
 home_word (at.Fresh p d) (Returning c) n at_home letter awaits sent head fresh = cc
-home_word (at.Gone p) (Returning c) n at_home letter awaits sent head fresh =
-    let same : p ≡ n = cc in
-    subst (λ (b : Body). IfSome (home_serving (at.Gone p) n b) (λ (served : HomeState × Body). served.1 ≡ Wbok)) (sym sent.0)
-    (wbok_if (p == n) (at.Home c) (at.Gone p) (eq-eqb p n same))
+home_word (at.Gone p) (Returning c) n at_home letter awaits sent head fresh = grind (arith, wbok_if, eq-eqb)
 home_word (at.Gone p) (Claiming f c) n at_home letter awaits sent head fresh = cc
 home_word (at.Gone p) (Clearing c) n at_home letter awaits sent head fresh = cc
 home_word home s n at_home letter awaits sent head fresh = absurd (grind arith)

@@ -11,7 +11,7 @@ use Rattle.sci_words.specs.declared.{event.{AskKind.{AskKind}, Event.{Event}}}
 use Rattle.sci_packets.specs.{declared.body.Body.{Body, TheVariants.{Cread}}}
 use Rattle.sci_cache.specs.State.{CacheState, FreshJoining, Joining, Telling, waits}
 use Rattle.sci_cache.specs.{Accepting.{accepting}, Asking.{Asked, asking}}
-use Rattle.sci_cache.specs.{Kinds.{joins, must_send}, Serving.{serving}, Line.{LineState, untouched}, Cache.{Letter, line_of}}
+use Rattle.sci_cache.specs.{Kinds.{joins, must_send}, Serving.{serving}, Cache.{Letter}}
 use Rattle.sci_core.specs.declared.lane.LaneKind.TheVariants.{Requests}
 use Rattle.sci_core.specs.Core.{Core, lane_of, lane_place, node_at}
 use Rattle.sci_core.specs.{Node.{NodeOf, lines_of}, Reached.{IsReached}, Rounds.{is_telling, joins_before}, Sharing.{is_about}}
@@ -20,7 +20,7 @@ use Rattle.sci_core.proofs.{Basics.Options.{of_some}, Step.Places.{place_request
 use Rattle.sci_core.proofs.{Tidy.TidySteps.{about_line}, WellFormed.WellFormedSteps.{reached_well}}
 use Rattle.sci_policy.specs.declared.{decision.Decision.{Decision}, want.Want.TheVariants.{Ask}}
 use Rattle.sci_policy.specs.Lines.{can_drain, has_maker, least, own_ask, state_on}
-use Rattle.sci_policy.specs.{Policy.{PolicyOf, asks_home_to_change, awaits_home, decided, is_cread, kept_by, refused_by, ticked}, Turn.{decided_event}}
+use Rattle.sci_policy.specs.{Policy.{PolicyOf, asks_home_to_change, awaits_home, decided, ticked}, Turn.{decided_event}}
 use Rattle.sci_policy.proofs.{Found.{least_fits}, Least.{least_first}}
 use Rattle.sci_turn.specs.Moves.{taken_next, taking_event}
 use Rattle.sci_fair.specs.{Rank.{can_perform, rank, work_on}, Retries.{is_tried_once}, Steady.{AreSteadyTurns, IsSteadyTurn, Working, WorksByTurns}}
@@ -205,10 +205,7 @@ keep_if k r is = search rules
 
 keeps_cread : (policy : PolicyOf) (node : NodeOf) (request : Letter) → request.body ≡ Cread → request.source ≢ node.cache.me
     → awaits_home (state_on node request.line) ≡ true → decided policy node request ≡ decision.Keep
-keeps_cread policy node request cread other awaits =
-    keep_if (kept_by policy node request) (refused_by policy node request)
-    (kept_cread (is_cread request.body) (not (request.source == node.cache.me)) (awaits_home (state_on node request.line)) _ (ap is_cread cread)
-    (other_source request.source node.cache.me other) awaits)
+keeps_cread policy node request cread other awaits = grind (arith, keep_if, kept_cread, other_source)
 
 pub taken_by_it : (a j : ℕ) (p : PolicyOf) (x : Core) (e : Event) (q : PolicyOf) (y : Core) → IsSteady a p x e q y
     → (e ≡ event.Serve j a) ⊎ (e ≡ event.Refuse j a) → taken_next p x j a ≡ Some e
@@ -318,12 +315,7 @@ no_telling n line w last some inside ahead lower tells =
 -- what is kept of the taker's line until it takes a request
 pub taker_keeps : (class : Class) (n to line i : ℕ) (old new : Working) (letter : Letter) (taken : LetterTaken n to letter i old new)
     → IsIn class to line old.core → IsIn class to line taken.took.x
-taker_keeps class n to line i old new letter taken is =
-    let t = taken.held.trace in
-    let took = taken.took in
-    let begun : IsIn class i line old.core = subst (λ (m : ℕ). IsIn class m line old.core) (sym taken.server) is in
-    let accepted = (kept_in class i line old new taken.held).accepted begun in
-    kept_events class to line t.p1 t.c1 took.earlier took.p took.x took.before (subst (λ (m : ℕ). IsIn class m line t.c1) taken.server accepted)
+taker_keeps class n to line i old new letter taken is = grind (arith, kept_in, kept_events)
 
 -- and from then on to the end of its turn
 pub taker_ends : (class : Class) (n to line i : ℕ) (old new : Working) (letter : Letter) (taken : LetterTaken n to letter i old new)
@@ -411,13 +403,7 @@ needy_cases (FreshJoining p sent c) is = inr refl
 needy_cases _ is = cc
 
 needy_inside : (core : Core) (n line : ℕ) → IsReached core → n < core.size.nodes → is_needy (state_on (node_at core n) line) ≡ true → line < core.size.lines
-needy_inside core n line reached some needs = elim (cases_lt line core.size.lines) [
-  | inl inside ↦ inside
-  | inr past ↦
-      let all = ((reached_well core reached).each_part n some).each in
-      let none : line_of (node_at core n).cache line ≡ untouched = get_or_past (node_at core n).cache.lines line untouched (omega (arith, past, all)) in
-      let clash : true ≡ false = sym needs ∙ ap (λ (l : LineState). is_needy l.state) none in cc
-]
+needy_inside core n line reached some needs = grind (arith, cases_lt, reached_well, get_or_past, is_needy)
 
 none_needy_below : (bound line n : ℕ) (w last : Working) → Amid 632 w last → n < w.core.size.nodes → line < bound
     → is_needy (state_on (node_at w.core n) line) ≡ false

@@ -68,11 +68,7 @@ filtered_long p xs ys = ap length (filter-append p xs ys) ∙ length-append (fil
 
 two_kept : {X : Type 0} (p : X → Bool) (x y : X) (before after : List X) → p x ≡ true → p y ≡ true → IsAmong y after
     → 2 ≤ length (filter p (before ++ x ∷ after))
-two_kept p x y before after one two among =
-    let whole = filtered_long p before (x ∷ after) in
-    let first = kept_one (p x) x (filter p after) one in
-    let some = some_kept p y after two among in
-    omega (arith, whole, first, some)
+two_kept p x y before after one two among = grind (arith, filtered_long, kept_one, some_kept)
 
 pub no_two : (core : Core) (n to line : ℕ) (one two : Letter) (before after : List Letter) → IsReached core → n < core.size.nodes → to < core.size.nodes
     → line < core.size.lines → lane_of core Requests n to ≡ before ++ one ∷ after → is_about n line one ≡ true → is_about n line two ≡ true → IsAmong two after

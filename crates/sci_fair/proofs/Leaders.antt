@@ -1,6 +1,7 @@
 -- What becomes of a line in a turn of its node that keeps a Cread for it: a line that leads a list of its own goes on to lead it, or is
 -- left for good. So it awaits its home once more at most.
-use Rattle.std.proofs.Common.{◌≡◌, ◌≢◌, ◌<◌, ◌==◌, ◌&&◌, ◌||◌, ℕ, Bool, true, false, not, List, [], ◌∷◌, Option, Some, None, refl, sym, ap, subst, ◌∙◌, inl}
+use Rattle.std.proofs.Common.{◌≡◌, ◌≢◌, ◌<◌, ◌&&◌, ◌||◌, ℕ, Bool, true, false, List, [], ◌∷◌, Option, Some, None, refl, sym, ap, subst, ◌∙◌, inl}
+use Rattle.std.proofs.Common.{arith}
 use Rattle.std.proofs.Common.{inr, rules}
 use Rattle.std.proofs.lemmas.Bool.{cases_Bool}
 use Rattle.std.specs.Prelude.{IfSome}
@@ -14,7 +15,7 @@ use Rattle.sci_core.specs.declared.lane.LaneKind.TheVariants.{Requests}
 use Rattle.sci_core.specs.{Core.{Core, lane_of, node_at}, Node.{NodeOf, node_asking, node_refusing, node_serving}, Size.{Size}}
 use Rattle.sci_core.proofs.{Basics.{Lists.{at_place_set}, Options.{of_some}}}
 use Rattle.sci_core.proofs.Step.NodeSides.{At_home, In_cache, RefusedAs, ServedAs, refuse_as, serve_as}
-use Rattle.sci_policy.specs.{Lines.{can_drain, has_maker, is_head, state_on}, Policy.{PolicyOf, awaits_home, has, is_busy_now, is_cread, kept_by}}
+use Rattle.sci_policy.specs.{Lines.{can_drain, is_head, state_on}, Policy.{PolicyOf, awaits_home, is_busy_now, is_cread, kept_by}}
 use Rattle.sci_policy.specs.{Turn.{is_accept, is_ask, is_service}}
 use Rattle.sci_fair.specs.Rank.{can_perform, work_in, work_on}
 use Rattle.sci_fair.proofs.Awaiting.{is_open_head, is_settled}
@@ -134,10 +135,7 @@ keep_needs : (c o a t b x y h g : Bool) → ((c && o) && (a || (t && (b || (c &&
 keep_needs c o a t b x y h g kept = search rules
 
 pub kept_may : (policy : PolicyOf) (node : NodeOf) (request : Letter) → kept_by policy node request ≡ true → may_keep (state_on node request.line) ≡ true
-kept_may policy node request kept =
-    let s = state_on node request.line in
-    keep_needs (is_cread request.body) (not (request.source == node.cache.me)) (awaits_home s) (not (policy.turns == 0)) (is_busy_now s)
-    (has policy.draining request.line) (can_drain s) (is_head s) (has_maker node request.line && not (policy.turns == 0 && has policy.used request.line)) kept
+kept_may policy node request kept = grind (arith, keep_needs)
 
 cread_is : (b : Body) → is_cread b ≡ true → b ≡ Cread
 cread_is b is = search rules

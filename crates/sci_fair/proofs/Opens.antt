@@ -12,7 +12,7 @@ use Rattle.sci_cache.specs.State.{CacheState}
 use Rattle.sci_cache.specs.{Asking.{Asked, asking}, Kinds.{joins}, Line.{LineState, ask_or_fault}, Cache.{Letter, cache_asked, line_of}}
 use Rattle.sci_core.specs.declared.lane.LaneKind.{LaneKind, TheVariants.{Requests, Answers}}
 use Rattle.sci_core.specs.Core.{Core, Side, Idle, Changes, Sends, Takes, changes, lane_at, lane_of, lane_place, node_at, node_of, opening, performs, sends}
-use Rattle.sci_core.specs.Core.{sent_by, side, step_by, stepping, with_node}
+use Rattle.sci_core.specs.Core.{side, step_by, stepping, with_node}
 use Rattle.sci_core.specs.Node.{NodeOf, asked_by, lines_of, node_asking, node_issuing, node_performing, node_replying}
 use Rattle.sci_core.specs.{Draining.{IsDrained}, Reached.{IsReached}, Sharing.{is_about, packets_of}, Size.{Size}}
 use Rattle.sci_core.specs.{Tidy.{HasItsPackets, IsSentIn}, WellFormed.{IsInLane}}
@@ -177,11 +177,7 @@ side_open core new n Idle opened fits is = cc
 side_open core new n (Changes next) opened fits is =
     let made : with_node core n next ≡ new = cc in
     lanes_same core new opened (ap (λ (c : Core). c.lanes) (sym made))
-side_open core new n (Sends kind next letter) opened fits is =
-    let made : sent_by core n kind next letter ≡ new = cc in
-    let place = lane_place core.size.nodes kind n letter.target in
-    lane_changed core new place (lane_at core place ++ letter ∷ []) opened (ap (λ (c : Core). c.lanes) (sym made))
-    (open_push (lane_at core place) letter (opened place) fits)
+side_open core new n (Sends kind next letter) opened fits is = grind (arith, lane_changed, open_push)
 side_open core new n (Takes kind from taking) opened fits is = grind (arith, lane_changed, open_rest)
 
 sends_fit : (core : Core) (n : ℕ) (kind : LaneKind) (o : Option (NodeOf × Letter))

@@ -84,19 +84,7 @@ stopped_behind m n line (i ∷ before) order first mid last leads stopped =
 
 stopped_before : (m : Marking) (n line : ℕ) (order rest : List ℕ) (first mid last : Working) → AreSteadyTurns rest mid last
     → Stopped m n line order first mid → Stopped m n line (order ++ rest) first last
-stopped_before m n line order rest first mid last later stopped = record {
-  before = stopped.before;
-  after = stopped.after ++ rest;
-  whole = ap (λ (l : List ℕ). l ++ rest) stopped.whole ∙ append_assoc stopped.before (n ∷ stopped.after) rest;
-  old = stopped.old;
-  new = stopped.new;
-  leads = stopped.leads;
-  turn = stopped.turn;
-  turns = turns_join IsSteadyTurn stopped.after rest stopped.new mid last stopped.turns later;
-  good = stopped.good;
-  held = stopped.held;
-  stops = stopped.stops;
-}
+stopped_before m n line order rest first mid last later stopped = grind (arith, append_assoc, turns_join)
 
 module _ (m : Marking) (n line : ℕ) (small : line < MAX_LINES) where
   counted : (j k : ℕ) (p : PolicyOf) (x : Core) → nat_lt (p.patience + 1) PATIENCE ≡ true → k ≡ suc j → 63 ≤ p.patience + j

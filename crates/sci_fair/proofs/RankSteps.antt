@@ -1,9 +1,9 @@
 -- No event of a turn raises the level of any line of its node, but for the exception. It changes the node by one row of a table.
-use Rattle.std.proofs.Common.{◌≡◌, ◌<◌, ℕ, ◌∷◌, All, Bool, true, false, ◌&&◌, ◌||◌, if◌then◌else◌, List, Option, Some, None, refl, sym, ap, subst, rules}
+use Rattle.std.proofs.Common.{◌≡◌, ◌<◌, ℕ, ◌∷◌, All, Bool, true, false, ◌&&◌, ◌||◌, if◌then◌else◌, List, Option, Some, None, refl, sym, ap, subst, rules, arith}
 use Rattle.std.proofs.Common.{◌∙◌, not}
 use Rattle.std.proofs.lemmas.List.Elements.{All-head}
 use Rattle.std.specs.List.{AllByRecursion}
-use Rattle.std.specs.Prelude.{IfSome, is_some, slice_get, ◌==◌}
+use Rattle.std.specs.Prelude.{IfSome, is_some, slice_get}
 use Rattle.sci_words.specs.{declared.event.{AskKind.{AskKind}, Event.{Event}}, Operation.{is_maker}}
 use Rattle.sci_packets.specs.declared.body.Body.{Body}
 use Rattle.sci_cache.specs.{State.{CacheState, Asking, is_out}, Asking.{Asked, asking}, Accepting.{accepting}}
@@ -17,7 +17,7 @@ use Rattle.sci_core.proofs.Basics.{Lists.{at_place_set}, Options.{if_below, of_s
 use Rattle.sci_core.proofs.Step.NodeSides.{AcceptedAs, At_home, In_cache, RefusedAs, ServedAs, accept_as, refuse_as, reply_as, serve_as}
 use Rattle.sci_policy.specs.declared.decision.Decision.{Decision}
 use Rattle.sci_policy.specs.{Lines.{is_head, is_maker_of, state_on}, Turn.{decided_event}}
-use Rattle.sci_policy.specs.Policy.{PolicyOf, decided, has, is_cread, kept_by, next_policy, refused_by, still_draining}
+use Rattle.sci_policy.specs.Policy.{PolicyOf, decided, has, is_cread, next_policy}
 use Rattle.sci_turn.specs.Moves.{IsOwn, taking_event}
 use Rattle.sci_turn.proofs.Working.{own_node, stepped}
 use Rattle.sci_fair.specs.Rank.{IsHeldFor, answers_well, fits_read, never_rises, used_after, work_in, work_on}
@@ -57,9 +57,7 @@ held_last last = search rules
 held_work : (used last b cread drains : Bool) (s : CacheState) (request : Body) → is_cread request ≡ cread
     → (cread && (drains || (is_head s && (b && not (last && used))))) ≡ false → IsHeldFor used (Some b) s request
 held_work true last b cread drains s request is none = tt
-held_work false last true cread drains s request is none =
-    ap (λ (c : Bool). c && is_head s) is
-    ∙ held_bits cread drains (is_head s) (subst (λ (h : Bool). (cread && (drains || (is_head s && h))) ≡ false) (held_last last) none)
+held_work false last true cread drains s request is none = grind (arith, held_bits, held_last)
 held_work false last false cread drains s request is none = tt
 
 held_by : (used last : Bool) (o : Option Pending) (cread drains : Bool) (s : CacheState) (request : Body) → is_cread request ≡ cread
@@ -70,9 +68,7 @@ held_by false last (Some p) cread drains s request is none = held_work false las
 
 pub serve_held : (policy : PolicyOf) (node : NodeOf) (request : Letter) → decided policy node request ≡ decision.Serve
     → IsHeldFor (has policy.used request.line) (work_on node request.line) (state_on node request.line) request.body
-serve_held policy node request serves =
-    held_by (has policy.used request.line) (policy.turns == 0) (pending_on node request.line) (is_cread request.body) (still_draining policy node request.line)
-    (state_on node request.line) request.body refl (served_if (kept_by policy node request) (refused_by policy node request) serves)
+serve_held policy node request serves = grind (arith, held_by, served_if)
 
 -- ---- each side
 

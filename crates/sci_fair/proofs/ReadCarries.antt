@@ -1,17 +1,17 @@
 -- What a step of one node leaves of the reads that are under way in a machine that works by turns: each packet stays as it is, and so does
 -- its asker, or it no longer awaits a read.
 use Rattle.std.proofs.Common.{◌≡◌, ◌≢◌, ◌<◌, ◌⊎◌, ℕ, zero, suc, Bool, true, false, if◌then◌else◌, cond, arith, List, [], ◌∷◌, filter, get_or, length, set}
-use Rattle.std.proofs.Common.{Option, Some, None, refl, sym, ap, subst, ◌∙◌, inl, inr, rules, get_or-set_other, ◌&&◌, not, ◌%◌}
+use Rattle.std.proofs.Common.{Option, Some, None, refl, sym, ap, subst, ◌∙◌, inl, inr, rules, get_or-set_other, ◌%◌}
 use Rattle.std.proofs.lemmas.{Bool.{cases_eq, cases_lt}, List.{get_or_past}}
 use Rattle.std.specs.{Prelude.{IfSome, option_to_list}, List.{AllByRecursion, flat_map}}
 use Rattle.sci_words.specs.declared.{event.{AskKind.{AskKind}}, operation.Op.{Op}}
 use Rattle.sci_history.specs.declared.entry.Entry.{Entry}
-use Rattle.sci_packets.specs.{declared.body.Body.{Body, TheVariants.{Busy}}, Table.{is_request}}
+use Rattle.sci_packets.specs.{declared.body.Body.{Body}, Table.{is_request}}
 use Rattle.sci_home.specs.{declared.state.HomeState.{HomeState}, Serving.{home_serving}}
-use Rattle.sci_cache.specs.{State.{CacheState, Asking, is_out, waits}, Accepting.{accepting}, Asking.{Asked, asking}, Performing.{Performed, performing}}
+use Rattle.sci_cache.specs.{State.{CacheState, Asking, waits}, Accepting.{accepting}, Asking.{Asked, asking}, Performing.{Performed, performing}}
 use Rattle.sci_cache.specs.Serving.{serving}
 use Rattle.sci_cache.specs.Line.{LineState, ask_or_fault, line_asked, line_in, untouched}
-use Rattle.sci_cache.specs.Cache.{CacheOf, Letter, cache_asked, cache_asking, has_slot, letter_asking}
+use Rattle.sci_cache.specs.Cache.{CacheOf, Letter, cache_asked, letter_asking}
 use Rattle.sci_cache.specs.Cache.{line_of, with_line}
 use Rattle.sci_core.specs.Core.{Core, lane_at, node_at, with_node}
 use Rattle.sci_core.specs.Node.{IsNode, IsPendingOn, NodeOf, answering, asked_by, lines_of, may_issue, no_node, node_issued}
@@ -113,11 +113,7 @@ pub record CarriesAll (core : Core) (n : ℕ) (next : NodeOf) : Type 0 where
   pub lanes : (place : ℕ) → AllByRecursion (λ letter. asker_of letter ≡ n → Carries (node_at core n) next letter.line) (lane_at core place)
 
 pub each_line : (core : Core) (n : ℕ) (next : NodeOf) → ((line : ℕ) → Carries (node_at core n) next line) → CarriesAll core n next
-each_line core n next carries = record {
-  waiting = λ m. any_of (λ letter. asker_of letter ≡ n → Carries (node_at core n) next letter.line) (λ letter own. carries letter.line)
-      (node_at core m).waiting;
-  lanes = λ place. all_of (λ letter. asker_of letter ≡ n → Carries (node_at core n) next letter.line) (λ letter own. carries letter.line) (lane_at core place);
-}
+each_line core n next carries = grind (arith, any_of, all_of)
 
 -- the others, and this node, after its change
 pub record Changed (core new : Core) (n : ℕ) (next : NodeOf) : Type 0 where
@@ -179,18 +175,10 @@ state_carried node line part was =
 pub serve_carries : (node next : NodeOf) (request : Letter) → ServedAs node request next → (line : ℕ) → Carries node next line
 serve_carries node next request (At_home served home is made) line =
     subst (λ (part : NodeOf). Carries node part line) made (λ asking. (asking, inl refl))
-serve_carries node next request (In_cache served is made) line =
-    let was = of_some (λ (r : CacheState × Body). r.0 ≡ Asking → state_on node request.line ≡ Asking) _ served is
-    (serves_none (state_on node request.line) request.source request.body) in
-    subst (λ (part : NodeOf). Carries node part line) made
-    (λ asking. (state_carried node request.line (line_in (line_of node.cache request.line) served.0) was line asking, inl refl))
+serve_carries node next request (In_cache served is made) line = grind (arith, of_some, serves_none, state_carried)
 
 pub accept_carries : (node next : NodeOf) (answer : Letter) → AcceptedAs node answer next → (line : ℕ) → Carries node next line
-accept_carries node next answer does line =
-    let never = of_some (λ (s : CacheState). s ≡ Asking → ⊥) (accepting (state_on node answer.line) answer.body) does.state does.accepts
-    (accepts_none (state_on node answer.line) answer.body) in
-    subst (λ (part : NodeOf). Carries node part line) does.then_
-    (λ asking. (state_carried node answer.line (line_in (line_of node.cache answer.line) does.state) (λ is. absurd (never is)) line asking, inl refl))
+accept_carries node next answer does line = grind (arith, of_some, accepts_none, state_carried)
 
 pub issued_cache : (b : Bool) (node : NodeOf) (op : Op) → IfSome (if b then Some (node_issued node op) else None) (λ next. next.cache ≡ node.cache)
 issued_cache true node op = refl
@@ -253,9 +241,7 @@ made_as node line k true (Some asked) is below = tt
 made_as node line k false (Some asked) is below = record { asked = asked; asks = is; next = refl; letter = refl; below = below }
 
 pub ask_as : (node : NodeOf) (line : ℕ) (k : AskKind) → IfSome (node_asking node line k) (AsksAs node line k)
-ask_as node line k =
-    if_below line (lines_of node) (AsksAs node line k) (asked_by node (cache_asking node.cache line k)) (λ below.
-    made_as node line k (is_out (state_on node line) && not (has_slot node.cache)) (asking (state_on node line) k) refl below)
+ask_as node line k = grind (arith, if_below, made_as)
 
 pub asks_free : (state : CacheState) (k : AskKind) → IfSome (asking state k) (λ (asked : Asked). waits state ≡ false)
 asks_free state k = search rules
@@ -338,13 +324,7 @@ module _ (core : Core) (n line : ℕ) (part : LineState) (reached : IsReached co
 
 answer_fits : (core : Core) (request : Letter) (body : Body) → is_request request.body ≡ true → is_request body ≡ false
     → ((work : Option Bool) → fits_read work request.body ≡ true → fits_read work body ≡ true) → FitsRead core request → FitsRead core (answering request body)
-answer_fits core request body asks answers fits_on fit = λ asking.
-    let target : asker_of (answering request body) ≡ request.source = answer_asker (answering request body) answers in
-    let source : asker_of request ≡ request.source = request_asker request asks in
-    subst (λ (m : ℕ). fits_read (work_on (node_at core m) request.line) body ≡ true) (sym target)
-    (fits_on (work_on (node_at core request.source) request.line)
-    (subst (λ (m : ℕ). fits_read (work_on (node_at core m) request.line) request.body ≡ true) source
-    (fit (subst (λ (m : ℕ). state_on (node_at core m) request.line ≡ Asking) (target ∙ sym source) asking))))
+answer_fits core request body asks answers fits_on fit = grind (arith, answer_asker, request_asker)
 
 home_answers : (home : HomeState) (n : ℕ) (body : Body) → IfSome (home_serving home n body) (λ (served : HomeState × Body). is_request served.1 ≡ false)
 home_answers home n body = search rules
@@ -360,15 +340,9 @@ served_waiting core node next request asks fit (At_home served home is made) =
     subst (λ (part : NodeOf). IfSome part.waiting (FitsRead core)) made
     (answer_fits core request served.1 asks answers (λ work fits.
     of_some (λ (r : HomeState × Body). fits_read work r.1 ≡ true) _ served is (home_fits work _ request.source request.body fits)) fit)
-served_waiting core node next request asks fit (In_cache served is made) =
-    let answers = of_some (λ (r : CacheState × Body). is_request r.1 ≡ false) _ served is (cache_answers _ request.source request.body) in
-    subst (λ (part : NodeOf). IfSome part.waiting (FitsRead core)) made
-    (answer_fits core request served.1 asks answers (λ work fits.
-    let clash : None ≡ Some served = sym (cache_none work (state_on node request.line) request.source request.body fits) ∙ is in cc) fit)
+served_waiting core node next request asks fit (In_cache served is made) = grind (arith, of_some, cache_answers, answer_fits, cache_none)
 
 pub refused_waiting : (core : Core) (node later : NodeOf) (request : Letter) → is_request request.body ≡ true → is_cread request.body ≡ true
     → FitsRead core request
     → RefusedAs node request later → IfSome later.waiting (FitsRead core)
-refused_waiting core node later request asks cread fit does =
-    subst (λ (part : NodeOf). IfSome part.waiting (FitsRead core)) does.then_
-    (answer_fits core request Busy asks refl (λ work fits. absurd (fits_no_cread work request.body fits cread)) fit)
+refused_waiting core node later request asks cread fit does = grind (arith, answer_fits, fits_no_cread)

@@ -210,10 +210,7 @@ turn_reads core new n before after (event.Perform i line) reached fit some own s
 -- ---- where it begins, and what is issued and performed
 
 pub drained_reads : (core : Core) → IsDrained core → ReadsFit core
-drained_reads core drained = record {
-  waiting = λ n. subst (λ (o : Option Letter). IfSome o (FitsRead core)) (sym (drained.waiting n)) tt;
-  lanes = λ place. subst (AllByRecursion (FitsRead core)) (sym (drained.lanes place)) tt;
-}
+drained_reads core drained = grind arith
 
 -- a machine that opens is drained
 pub opening_waits : (size : Size) (n : ℕ) → (node_at (opening size) n).waiting ≡ None

@@ -7,7 +7,7 @@ use Rattle.sci_history.specs.Seen.{IsAmong}
 use Rattle.sci_words.specs.declared.event.Event.{Event}
 use Rattle.sci_cache.specs.{Cache.{Letter}}
 use Rattle.sci_core.specs.declared.lane.LaneKind.{LaneKind, TheVariants.{Requests}}
-use Rattle.sci_core.specs.{Core.{Core, lane_of, lane_place}, Size.{Size}}
+use Rattle.sci_core.specs.{Core.{Core, lane_of}, Size.{Size}}
 use Rattle.sci_policy.specs.{Policy.{PolicyOf}}
 use Rattle.sci_fair.specs.Steady.{AreSteadyTurns, AreTurns, HasWindows, IsSteadyTurn, Working}
 use Rattle.sci_fair.specs.{Between.{IsBetweenTurns}, Steady.{WorksByTurns}}
@@ -30,11 +30,7 @@ pub record StandsIn (core : Core) (n to : ℕ) (letter : Letter) (k : ℕ) (afte
 
 stands_gained : (old new : Core) (n to k : ℕ) (letter : Letter) (after : List Letter) → StandsIn old n to letter k after
     → (gained : HasGained (lane_of old Requests n to) (lane_of new Requests n to)) → StandsIn new n to letter k (after ++ gained.0)
-stands_gained old new n to k letter after at gained = record {
-  before = at.before;
-  lane = gained.1 ∙ (ap (λ (l : List Letter). l ++ gained.0) at.lane ∙ append_assoc at.before (letter ∷ after) gained.0);
-  few = at.few;
-}
+stands_gained old new n to k letter after at gained = grind (arith, append_assoc)
 
 -- Among these events by which requests are taken, one takes the request, which is the front of its lane. Then no more of the lane is
 -- left than at last.
@@ -199,25 +195,12 @@ letter_turn i n to k old new letter good held here some t at = elim (cases_eq i 
 -- ---- it is taken
 
 pub three_before : (before after : List Letter) (letter : Letter) (lane : List Letter) → lane ≡ before ++ letter ∷ after → length lane ≤ 4 → length before ≤ 3
-three_before before after letter lane is short =
-    let whole : length lane ≡ length (before ++ letter ∷ after) = ap length is in
-    let parts = length-append before (letter ∷ after) in
-    omega (arith, whole, parts, short)
+three_before before after letter lane is short = grind (arith, length-append)
 
 -- a packet of a lane between turns has three before it at most
 pub stands_in : (core : Core) (n to : ℕ) (letter : Letter) → IsBetweenTurns core → IsAmong letter (lane_of core Requests n to)
     → Stands_on core n to letter 3
-stands_in core n to letter between among =
-    let lane = lane_of core Requests n to in
-    let at = stands letter lane among in
-    record {
-      after = at.after;
-      at = record {
-        before = at.before;
-        lane = at.whole;
-        few = three_before at.before at.after letter lane at.whole (between.short (lane_place core.size.nodes Requests n to));
-      };
-    }
+stands_in core n to letter between among = grind (arith, stands, three_before)
 
 -- turns keep the size, and what is good
 pub size_along : (order : List ℕ) (first last : Working) → WorksByTurns first.core → AreSteadyTurns order first last → last.core.size ≡ first.core.size
@@ -255,10 +238,7 @@ pub record Parts (K : Change) (i : ℕ) (old new : Working) : Type 0 where
 
 -- a request that stands further ahead counts less, wherever the fronts are
 further : (q p k l most : ℕ) → q < p → k ≤ most → q * suc most + k < p * suc most + l
-further q p k l most lt few =
-    let more = mul-le-mul_right {m = suc q} {n = p} (suc most) (omega (arith, lt)) in
-    let one = suc-mul q (suc most) in
-    omega (arith, more, one, few)
+further q p k l most lt few = grind (arith, mul-le-mul_right, suc-mul)
 
 most_far : (p position k most : ℕ) → position ≤ p → k ≤ most → position * suc most + k ≤ p * suc most + most
 most_far p position k most few low = let all = mul-le-mul_right {m = position} {n = p} (suc most) few in omega (arith, all, low)

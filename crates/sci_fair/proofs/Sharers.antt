@@ -1,10 +1,10 @@
 -- In steady turns no list that may write has two entries for long: patience marks its head, which then purges; and no Purge is under way for
 -- long.
-use Rattle.std.proofs.Common.{◌≡◌, ◌<◌, ◌&&◌, ◌||◌, ℕ, Bool, true, false, arith, List, [], ◌∷◌, Some, None, refl, sym, ap, subst, ◌∙◌, inl, inr, rules}
+use Rattle.std.proofs.Common.{◌≡◌, ◌<◌, ◌&&◌, ◌||◌, ℕ, Bool, true, false, arith, List, [], ◌∷◌, Some, None, refl, sym, subst, ◌∙◌, inl, inr, rules}
 use Rattle.std.proofs.lemmas.{Bool.{cases_Bool, cases_lt}, List.{get_or_past}}
 use Rattle.std.specs.Prelude.{IfSome, is_some}
 use Rattle.sci_words.specs.declared.{event.AskKind.{AskKind}, limits.TheConstants.{MAX_LINES}}
-use Rattle.sci_cache.specs.{State.{CacheState, waits}, Asking.{Asked, asking}, Kinds.{has_sharers}, Line.{LineState, untouched}, Cache.{line_of}}
+use Rattle.sci_cache.specs.{State.{CacheState, waits}, Asking.{Asked, asking}, Kinds.{has_sharers}}
 use Rattle.sci_core.specs.{Core.{Core, node_at}, Node.{lines_of, node_performing}, Reached.{IsReached}, Size.{Size}}
 use Rattle.sci_core.proofs.{Basics.Options.{of_some}, WellFormed.WellFormedSteps.{reached_well}}
 use Rattle.sci_policy.specs.declared.{want.Want.{TheVariants.{Perform, Ask}}}
@@ -85,13 +85,7 @@ none_purged n old new last held good some free ahead line below =
 -- a line beyond the machine's is in no list
 pub drains_inside : (core : Core) (n line : ℕ) → IsReached core → n < core.size.nodes → can_drain (state_on (node_at core n) line) ≡ true
     → line < core.size.lines
-drains_inside core n line reached some drains = elim (cases_lt line core.size.lines) [
-  | inl inside ↦ inside
-  | inr past ↦
-      let all = ((reached_well core reached).each_part n some).each in
-      let none : line_of (node_at core n).cache line ≡ untouched = get_or_past (node_at core n).cache.lines line untouched (omega (arith, past, all)) in
-      let clash : true ≡ false = sym drains ∙ ap (λ (l : LineState). can_drain l.state) none in cc
-]
+drains_inside core n line reached some drains = grind (arith, cases_lt, reached_well, get_or_past)
 
 purging_leads : (s : CacheState) → can_drain s ≡ true → has_sharers s ≡ false → firm s ≡ true
 purging_leads s drains none = search rules

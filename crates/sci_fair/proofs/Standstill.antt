@@ -9,7 +9,7 @@ use Rattle.sci_words.specs.declared.{event.AskKind.{AskKind}, stamped.Stamped.{S
 use Rattle.sci_packets.specs.declared.body.Body.{Body}
 use Rattle.sci_cache.specs.{State.{Below, CacheState, Claiming, FreshHead, Head, Purging, Rolling, waits}, Accepting.{accepting}, Asking.{Asked, asking}}
 use Rattle.sci_cache.specs.Kinds.{has_fresh_sharers, joins, must_send}
-use Rattle.sci_cache.specs.{Member.{link_of}, Serving.{serving}, Line.{LineState, untouched}, Cache.{line_of}}
+use Rattle.sci_cache.specs.{Member.{link_of}, Serving.{serving}}
 use Rattle.sci_core.specs.{Core.{Core, node_at}, Node.{NodeOf, lines_of, pending_on}, Reached.{IsReached}, Shape.{follows}, Sharing.{home_at, settled_at}}
 use Rattle.sci_core.specs.{declared.pending.Pending.{Pending}, SharingList.{LinkedFrom}, Size.{Size}}
 use Rattle.sci_core.proofs.{Basics.Options.{of_some}, FirstCome.Turns.{led_of}, ReachedLaws.{any_shaped}}
@@ -49,24 +49,11 @@ pub amid_of : (count : ℕ) (w last : Working) → Late count w last → Amid co
 amid_of count w last late = on_from 912 count late.order late.base w last late.amid late.came late.ahead
 
 amid_fewer : (few many : ℕ) (w last : Working) → few ≤ many → Amid many w last → Amid few w last
-amid_fewer few many w last le amid = record {
-  first = amid.first;
-  good = amid.good;
-  behind = amid.behind;
-  came = amid.came;
-  windows = amid.windows;
-  ahead = fewer few many w last le amid.ahead;
-}
+amid_fewer few many w last le amid = grind (arith, fewer)
 
 fresh_inside : (core : Core) (n line : ℕ) → IsReached core → n < core.size.nodes → has_fresh_next (state_on (node_at core n) line) ≡ true
     → line < core.size.lines
-fresh_inside core n line reached some shares = elim (cases_lt line core.size.lines) [
-  | inl inside ↦ inside
-  | inr past ↦
-      let all = ((reached_well core reached).each_part n some).each in
-      let none : line_of (node_at core n).cache line ≡ untouched = get_or_past (node_at core n).cache.lines line untouched (omega (arith, past, all)) in
-      let clash : true ≡ false = sym shares ∙ ap (λ (l : LineState). has_fresh_next l.state) none in cc
-]
+fresh_inside core n line reached some shares = grind (arith, cases_lt, reached_well, get_or_past, has_fresh_next)
 
 claiming_firm : (s : CacheState) → has_fresh_next s ≡ true → has_fresh_sharers s ≡ false → (firm s && awaits_home s) ≡ true
 claiming_firm s shares none = search rules
@@ -237,13 +224,7 @@ leads_on view c must first (x ∷ xs) n (front, inr comes) linked (inl same) rol
 leads_on view c must first (x ∷ xs) n (front, inr comes) linked (inr among) role = leads_on view c _ linked.1.0 xs n comes.1 linked.1.2 among role
 
 follows_inside : (core : Core) (n line : ℕ) → IsReached core → n < core.size.nodes → follows (state_on (node_at core n) line) ≡ true → line < core.size.lines
-follows_inside core n line reached some is = elim (cases_lt line core.size.lines) [
-  | inl inside ↦ inside
-  | inr past ↦
-      let all = ((reached_well core reached).each_part n some).each in
-      let none : line_of (node_at core n).cache line ≡ untouched = get_or_past (node_at core n).cache.lines line untouched (omega (arith, past, all)) in
-      let clash : true ≡ false = sym is ∙ ap (λ (l : LineState). follows l.state) none in cc
-]
+follows_inside core n line reached some is = grind (arith, cases_lt, reached_well, get_or_past)
 
 following_links : (t : CacheState) → role_of t ≡ Some Following → (next : Option ℕ) × (link_of t ≡ Some next)
 following_links (Below f b c) role = (f, refl)

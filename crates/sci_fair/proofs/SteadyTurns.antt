@@ -117,21 +117,10 @@ turned_alone n old new good cannot turn =
 -- ---- the level with which a turn ends
 
 pub level_fewer : (before after : Bool) (work : Option Bool) (s : CacheState) → (after ≡ true → before ≡ true) → level after work s ≤ level before work s
-level_fewer before after work s fewer = by_bits (counts_use s) before after (rank work s) fewer
-  where
-    by_bits : (c b a : Bool) (r : ℕ) → (a ≡ true → b ≡ true) → (if c && a then 47 else 0) + r ≤ (if c && b then 47 else 0) + r
-    by_bits false b a r fewer = omega arith
-    by_bits true true true r fewer = omega arith
-    by_bits true true false r fewer = omega arith
-    by_bits true false false r fewer = omega arith
-    by_bits true false true r fewer = let clash : false ≡ true = fewer refl in cc
+level_fewer before after work s fewer = grind arith
 
 pub unused_low : (used : Bool) (work : Option Bool) (s : CacheState) → used ≡ false → level used work s ≤ 46
-unused_low used work s none = subst (λ (u : Bool). level u work s ≤ 46) (sym none) (by_bit (counts_use s) (rank work s) (rank_within work s))
-  where
-    by_bit : (c : Bool) (r : ℕ) → r ≤ 46 → (if c && false then 47 else 0) + r ≤ 46
-    by_bit false r low = omega (arith, low)
-    by_bit true r low = omega (arith, low)
+unused_low used work s none = grind (arith, rank_within)
 
 used_high : (work : Option Bool) (s : CacheState) → counts_use s ≡ true → 47 ≤ level true work s
 used_high work s counts = by_bit (counts_use s) (rank work s) counts

@@ -1,17 +1,16 @@
 -- Between two Performs turns don't go on for long: what the machine is worth never rises; and where it stays for 1,253 windows, nothing is
 -- issued, all turns are steady, and nothing is pending.
-use Rattle.std.proofs.Common.{◌≡◌, ◌<◌, ◌≤◌, ◌+◌, ◌*◌, ℕ, zero, suc, Bool, arith, List, [], ◌∷◌, ◌++◌}
-use Rattle.std.proofs.Common.{Option, Some, refl, sym, ap, subst, ◌∙◌, inl, inr}
+use Rattle.std.proofs.Common.{◌≡◌, ◌<◌, ◌≤◌, ◌+◌, ◌*◌, ℕ, zero, suc, arith, List, [], ◌∷◌, ◌++◌}
+use Rattle.std.proofs.Common.{Some, refl, sym, ap, subst, ◌∙◌, inl, inr}
 use Rattle.std.proofs.Math.Nat.{one-mul, suc-mul, zero-mul}
 use Rattle.std.proofs.lemmas.{Bool.{cases_eq, cases_lt}, List.{append_assoc, get_or_past}}
 use Rattle.sci_words.specs.declared.{event.Event.{Event}, operation.Op.{Op}}
-use Rattle.sci_cache.specs.{State.{Out}, Line.{LineState, untouched}, Cache.{line_of}}
 use Rattle.sci_core.specs.{Core.{Core, node_at, stepping}, Node.{NodeOf, pending_on}, Reached.{IsReached}}
 use Rattle.sci_core.specs.Size.{Size}
 use Rattle.sci_core.proofs.WellFormed.WellFormedSteps.{reached_well}
-use Rattle.sci_policy.specs.{Lines.{state_on}, Policy.{PolicyOf, has}}
+use Rattle.sci_policy.specs.{Policy.{PolicyOf}}
 use Rattle.sci_fair.specs.{Later.{AreWorked, HasRest, IsCountedTurn, IsLaterTurn, NothingPends, Remaining, performs_in}}
-use Rattle.sci_fair.specs.Rank.{CannotPerform, level_on, rank, work_in, work_on}
+use Rattle.sci_fair.specs.Rank.{CannotPerform, level_on}
 use Rattle.sci_fair.specs.Steady.{AreSteadyTurns, AreTurns, HasWindows, IsSteadyTurn, IsTurnAlone, Working, WorksByTurns, level_at}
 use Rattle.sci_fair.specs.Steps.{most_changes}
 use Rattle.sci_fair.proofs.{Descents.{turns_join, turns_part, windows_fewer, windows_part}, Few.{TurnKept, issue_falls, size_of_step, turn_worth, worth}}
@@ -31,23 +30,11 @@ record WorkedKept (events : List Event) (policies : ℕ → PolicyOf) (old new :
 
 issue_kept : (n : ℕ) (op : Op) (events : List Event) (policies : ℕ → PolicyOf) (old mid new : Core) → WorksByTurns old
     → stepping old (event.Issue n op) ≡ Some mid → WorkedKept events policies mid new → WorkedKept (event.Issue n op ∷ events) policies old new
-issue_kept n op events policies old mid new good steps rest =
-    let falls = issue_falls (record { core = old; policies = policies }) (record { core = mid; policies = policies }) n op good.reached steps refl in
-    record {
-      good = rest.good;
-      size = rest.size ∙ size_of_step old mid (event.Issue n op) good.reached steps;
-      lower = λ none. (let low = rest.lower none in omega (arith, low, falls));
-      issues = λ none same. (let low = rest.lower none in absurd (omega (arith, low, falls, same)));
-    }
+issue_kept n op events policies old mid new good steps rest = grind (arith, issue_falls, size_of_step)
 
 perform_kept : (n line : ℕ) (events : List Event) (policies : ℕ → PolicyOf) (old mid new : Core) → WorksByTurns old
     → stepping old (event.Perform n line) ≡ Some mid → WorkedKept events policies mid new → WorkedKept (event.Perform n line ∷ events) policies old new
-perform_kept n line events policies old mid new good steps rest = record {
-  good = rest.good;
-  size = rest.size ∙ size_of_step old mid (event.Perform n line) good.reached steps;
-  lower = λ none. absurd (omega (arith, none));
-  issues = λ none same. absurd (omega (arith, none));
-}
+perform_kept n line events policies old mid new good steps rest = grind (arith, size_of_step)
 
 worked_kept : (events : List Event) (policies : ℕ → PolicyOf) (old new : Core) → WorksByTurns old → AreWorked events old new
     → WorkedKept events policies old new
@@ -75,16 +62,7 @@ worked_kept (event.Accept from n ∷ events) policies old new good worked = absu
 past_same : (old new : Core) (p q : PolicyOf) (n line : ℕ) → IsReached old → IsReached new → new.size ≡ old.size → n < old.size.nodes
     → old.size.lines ≤ line → pending_on (node_at new n) line ≡ pending_on (node_at old n) line
     → level_on q (node_at new n) line ≡ level_on p (node_at old n) line
-past_same old new p q n line one two size some past work =
-    let some_new : n < new.size.nodes = subst (λ (z : Size). n < z.nodes) (sym size) some in
-    let past_new : new.size.lines ≤ line = subst (λ (z : Size). z.lines ≤ line) (sym size) past in
-    let all = ((reached_well old one).each_part n some).each in
-    let all_new = ((reached_well new two).each_part n some_new).each in
-    let was : line_of (node_at old n).cache line ≡ untouched = get_or_past (node_at old n).cache.lines line untouched (omega (arith, past, all)) in
-    let is : line_of (node_at new n).cache line ≡ untouched = get_or_past (node_at new n).cache.lines line untouched (omega (arith, past_new, all_new)) in
-    out_level (has q.used line) (work_on (node_at new n) line) (state_on (node_at new n) line) (ap (λ (l : LineState). l.state) is)
-    ∙ (ap (λ (w : Option Bool). rank w Out) (ap work_in work)
-    ∙ sym (out_level (has p.used line) (work_on (node_at old n) line) (state_on (node_at old n) line) (ap (λ (l : LineState). l.state) was)))
+past_same old new p q n line one two size some past work = grind (arith, reached_well, get_or_past, out_level)
 
 -- where the machine is worth as much as before, the turn is steady
 turn_steady : (n : ℕ) (old new : Working) → WorksByTurns old.core → CannotPerform (node_at old.core n) → IsTurnAlone n old new → Turned n old new

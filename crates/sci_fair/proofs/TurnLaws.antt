@@ -1,5 +1,5 @@
 -- What laws of turns say of the turn that comes.
-use Rattle.std.proofs.Common.{◌≡◌, ◌<◌, ◌%◌, ℕ, Bool, true, false, if◌then◌else◌, List, [], ◌∷◌, ◌++◌, Some, None, sym, ap, subst, ◌∙◌}
+use Rattle.std.proofs.Common.{◌≡◌, ◌<◌, ◌%◌, ℕ, Bool, true, false, if◌then◌else◌, List, [], ◌∷◌, Some, None, sym, ap, ◌∙◌, arith}
 use Rattle.sci_history.specs.Seen.{IsAmong}
 use Rattle.sci_packets.specs.Table.{is_request}
 use Rattle.sci_cache.specs.Cache.{Letter, line_of}
@@ -14,17 +14,7 @@ use Rattle.sci_fair.proofs.{Whereabouts.{lane_packets, same_packet}, WholeTurns.
 pub turn_of : (IsTurn : ℕ → Working → Working → Type 0) (n : ℕ) (P : Working → Working → Type 0) (Done : ℕ → Working → Working
     → Type 0) (nodes count : ℕ) (order : List ℕ) (first last : Working)
     → (c : ComesBy IsTurn Done nodes count order first last) → c.node ≡ n → P c.old c.new → HasTurnBy IsTurn n P order first last
-turn_of IsTurn n P Done nodes count order first last c same so = record {
-  before = c.before;
-  after = c.after;
-  whole = c.whole ∙ ap (λ (i : ℕ). c.before ++ i ∷ c.after) same;
-  old = c.old;
-  new = c.new;
-  leads = c.leads;
-  turn = subst (λ (i : ℕ). IsTurn i c.old c.new) same c.turn;
-  later = c.turns;
-  so = so;
-}
+turn_of IsTurn n P Done nodes count order first last c same so = grind arith
 
 -- it isn't there when its answer is under way
 pub not_there : (core : Core) (n to line : ℕ) (letter : Letter) → WorksByTurns core → n < core.size.nodes → to < core.size.nodes → line < core.size.lines

@@ -31,19 +31,13 @@ pub record UsedAsk (line : ℕ) (kind : AskKind) (before after : List Bool) : Ty
   pub others : (k : ℕ) → k ≢ line → has after k ≡ has before k
 
 taken_out : (marks : List Bool) (line : ℕ) → has (set marks line false) line ≡ false
-taken_out marks line = elim (cases_lt line (length marks)) [
-  | inl below ↦ get_or-set_same marks line false false below
-  | inr past ↦ get_or_past (set marks line false) line false (let long = length-set marks line false in omega (arith, long, past))
-]
+taken_out marks line = grind (arith, cases_lt, get_or-set_same, get_or_past, length-set)
 
 same_used : (line : ℕ) (kind : AskKind) (marks : List Bool) → has marks line ≡ used_after kind (has marks line) → UsedAsk line kind marks marks
 same_used line kind marks own = record { own = own; others = λ k other. refl }
 
 read_used : (line : ℕ) (kind : AskKind) (marks : List Bool) → used_after kind (has marks line) ≡ false → UsedAsk line kind marks (set marks line false)
-read_used line kind marks none = record {
-  own = taken_out marks line ∙ sym none;
-  others = λ k other. get_or-set_other marks line k false false other;
-}
+read_used line kind marks none = grind (arith, taken_out, get_or-set_other)
 
 noted_used : (policy : PolicyOf) (node : NodeOf) (line : ℕ) (kind : AskKind) → UsedAsk line kind policy.used (noted policy node (Some (Ask line kind))).used
 noted_used policy node line kind.Mread = read_used line kind.Mread policy.used refl
@@ -73,12 +67,7 @@ asked_used policy node line kind wants =
 -- ---- what the policy remembers when it was asked once more
 
 pub fewer_after : (line : ℕ) (kind : AskKind) (before after : List Bool) → UsedAsk line kind before after → (k : ℕ) → has after k ≡ true → has before k ≡ true
-fewer_after line kind before after used k is = elim (cases_eq k line) [
-  | inl same ↦
-      let here = sym used.own ∙ subst (λ (j : ℕ). has after j ≡ true) same is in
-      subst (λ (j : ℕ). has before j ≡ true) (sym same) (used_before kind (has before line) here)
-  | inr other ↦ sym (used.others k other) ∙ is
-]
+fewer_after line kind before after used k is = grind (arith, cases_eq)
 
 ticks_used : (policy : PolicyOf) (node : NodeOf) (k : ℕ) → has (ticked policy node).used k ≡ has policy.used k
 ticks_used policy node k = ap (λ (marks : List Bool). has marks k) (ticked_used policy node)

@@ -164,18 +164,12 @@ lane_packets core kind from to n line letter reached f t about among =
     (among_flat (λ (l : List Letter). l) core.lanes place [] letter (lane_below core kind from to (reached_well core reached) f t) among))
 
 only_one : (one two : Letter) (packets : List Letter) → packets ≡ one ∷ [] → IsAmong two packets → two ≡ one
-only_one one two packets is among = elim (subst (IsAmong two) is among) [
-  | inl same ↦ same
-  | inr none ↦ absurd none
-]
+only_one one two packets is among = grind arith
 
 -- two packets of a line are one
 pub same_packet : (core : Core) (n line : ℕ) (one two : Letter) → IsReached core → n < core.size.nodes → line < core.size.lines
     → IsAmong one (packets_of core n line) → IsAmong two (packets_of core n line) → one ≡ two
-same_packet core n line one two reached some inside first second =
-    let alone = sole (line % core.size.nodes) (line_of (node_at core n).cache line) (packets_of core n line) one (reached_tidy core reached n line some inside)
-    first in
-    sym (only_one one two (packets_of core n line) alone.one second)
+same_packet core n line one two reached some inside first second = grind (arith, sole, reached_tidy, only_one)
 
 -- a request in a lane from a node is about its line
 pub request_about : (core : Core) (n to : ℕ) (letter : Letter) → IsReached core → n < core.size.nodes → to < core.size.nodes

@@ -11,7 +11,7 @@ use Rattle.sci_words.specs.declared.event.{AskKind.{AskKind}, Event.{Event}}
 use Rattle.sci_words.specs.declared.stamped.Stamped.{Stamped}
 use Rattle.sci_packets.specs.{declared.body.Body.{Body, TheVariants.{Purge}}, Table.{is_request}}
 use Rattle.sci_cache.specs.{State.{CacheState, Out, Below, Purging, waits}, Accepting.{accepting}, Asking.{Asked, asking}, Serving.{serving}}
-use Rattle.sci_cache.specs.{Line.{LineState, line_asked, line_in, untouched}, Cache.{Letter, line_of, with_line}}
+use Rattle.sci_cache.specs.{Line.{LineState, untouched}, Cache.{Letter, line_of, with_line}}
 use Rattle.sci_core.specs.declared.lane.LaneKind.{TheVariants.{Answers, Requests}}
 use Rattle.sci_core.specs.Core.{Core, lane_at, lane_of, lane_place, node_at, node_of, side, stepping, with_lane, with_node}
 use Rattle.sci_core.specs.Node.{NodeOf, node_accepting, node_asking, node_refusing, node_replying, node_serving, pending_on}
@@ -94,28 +94,15 @@ served_out : (node next : NodeOf) (request : Letter) (line : ℕ) → ServedAs n
     → (line ≡ request.line) × (request.body ≡ Purge)
 served_out node next request line (At_home served home is made) below out =
     absurd (same_below node next line (ap (λ (part : NodeOf). state_on part line) (sym made)) below out)
-served_out node next request line (In_cache served is made) below out =
-    let at = line_out node request.line (line_in (line_of node.cache request.line) served.0) line below
-    (ap (λ (part : NodeOf). state_on part line) made ∙ out) in
-    let here : is_below (state_on node request.line) ≡ true = subst (λ (k : ℕ). is_below (state_on node k) ≡ true) at.0 below in (
-      at.0,
-      of_some (λ (r : CacheState × Body). r.0 ≡ Out → request.body ≡ Purge) (serving (state_on node request.line) request.source request.body) served is
-          (below_served (state_on node request.line) request.source request.body here) at.1,
-    )
+served_out node next request line (In_cache served is made) below out = grind (arith, line_out, of_some, below_served)
 
 accepted_out : (node next : NodeOf) (answer : Letter) (line : ℕ) → AcceptedAs node answer next → is_below (state_on node line) ≡ true → state_on next line ≡ Out
     → ⊥
-accepted_out node next answer line does below out =
-    let at = line_out node answer.line (line_in (line_of node.cache answer.line) does.state) line below
-    (ap (λ (part : NodeOf). state_on part line) does.then_ ∙ out) in
-    let here : is_below (state_on node answer.line) ≡ true = subst (λ (k : ℕ). is_below (state_on node k) ≡ true) at.0 below in
-    let clash : None ≡ Some does.state = sym (below_accepts (state_on node answer.line) answer.body here) ∙ does.accepts in cc
+accepted_out node next answer line does below out = grind (arith, line_out, below_accepts)
 
 asked_out : (node : NodeOf) (at : ℕ) (k : AskKind) (sent : NodeOf × Letter) (line : ℕ) → AsksAs node at k sent → is_below (state_on node line) ≡ true
     → state_on sent.0 line ≡ Out → ⊥
-asked_out node at k sent line told below out =
-    let there = line_out node at (line_asked (line_of node.cache at) told.asked) line below (ap (λ (part : NodeOf). state_on part line) told.next ∙ out) in
-    of_some (λ (a : Asked). a.next ≡ Out → ⊥) (asking (state_on node at) k) told.asked told.asks (asks_out (state_on node at) k) there.1
+asked_out node at k sent line told below out = grind (arith, line_out, of_some, asks_out)
 
 pub purged_by : (core new : Core) (n : ℕ) (before after : PolicyOf) (e : Event) → IsReached core → n < core.size.nodes → IsOwn n before core e after
     → stepping core e ≡ Some new → (line : ℕ) → is_below (state_on (node_at core n) line) ≡ true → state_on (node_at new n) line ≡ Out → IsPurged core n line
@@ -196,10 +183,7 @@ pub record IsSole (home : ℕ) (line : LineState) (packets : List Letter) (lette
 pub sole : (home : ℕ) (line : LineState) (packets : List Letter) (letter : Letter) → HasItsPackets home line packets → IsAmong letter packets
     → IsSole home line packets letter
 sole home line [] letter has among = elim among [ ]
-sole home line (x ∷ []) letter has (inl same) = record {
-  one = ap (λ (l : Letter). l ∷ []) (sym same);
-  awaited = subst (IsAwaited home line) (sym same) has;
-}
+sole home line (x ∷ []) letter has (inl same) = grind arith
 sole home line (x ∷ []) letter has (inr among) = elim among [ ]
 sole home line (x ∷ y ∷ packets) letter has among = elim has [ ]
 
@@ -427,15 +411,7 @@ module _ (n : ℕ) (start : PolicyOf) (old : Core) (reached : IsReached old) (so
 
 -- a turn that begins
 pub turn_begins : (n : ℕ) (policy : PolicyOf) (core : Core) → IsReached core → ReadsFit core → HasTurned n policy core policy core
-turn_begins n policy core reached fit = record {
-  reached = reached;
-  fit = fit;
-  size = refl;
-  others = λ m other. refl;
-  work = λ line. refl;
-  lower = λ line. omega arith;
-  lost = λ j f other. ([], refl);
-}
+turn_begins n policy core reached fit = grind arith
 
 -- ---- a whole turn
 

@@ -1,5 +1,5 @@
 -- A machine works by turns from where it opens, or has nothing under way, and goes on so by whole turns, Issues and Performs.
-use Rattle.std.proofs.Common.{◌≡◌, ℕ, [], Some, refl}
+use Rattle.std.proofs.Common.{◌≡◌, ℕ, [], Some, refl, arith}
 use Rattle.sci_words.specs.declared.event.Event.{Event}
 use Rattle.sci_core.specs.{Core.{Core, opening, stepping}, Draining.{IsDrained}, Reached.{IsReached}, Size.{IsMachineSize, Size}}
 use Rattle.sci_core.proofs.WellFormed.WellFormedSteps.{reached_stepping}
@@ -8,12 +8,7 @@ use Rattle.sci_fair.proofs.{Betweens.{drained_between, opening_between, work_bet
 use Rattle.sci_fair.proofs.{ReadSteps.{drained_reads, opening_reads, work_reads}, SteadyTurns.{alone_works}}
 
 pub work_good : (old new : Core) (e : Event) → WorksByTurns old → IsWork e → stepping old e ≡ Some new → WorksByTurns new
-work_good old new e good work steps = record {
-  reached = reached_stepping old new e good.reached steps;
-  fit = work_reads old new e good.reached good.fit work steps;
-  opened = work_open old new e good.reached good.opened work steps;
-  between = work_between old new e good.reached good.between work steps;
-}
+work_good old new e good work steps = grind (arith, reached_stepping, work_reads, work_open, work_between)
 
 pub turn_works : (n : ℕ) (old new : Working) → WorksByTurns old.core → IsTurnAlone n old new → WorksByTurns new.core
 turn_works n old new good turn = (alone_works n old new good turn).0
