@@ -22,9 +22,6 @@ use Rattle.sci_words.specs.declared.event.Event.TheVariants as event
 
 -- ---- an ask
 
-used_before : (kind : AskKind) (used : Bool) → used_after kind used ≡ true → used ≡ true
-used_before kind used is = search rules
-
 -- the marks of used lines after an ask about a line
 pub record UsedAsk (line : ℕ) (kind : AskKind) (before after : List Bool) : Type 0 where
   pub own : has after line ≡ used_after kind (has before line)

@@ -131,9 +131,6 @@ set_before [] i x y below = absurd (omega arith)
 set_before (z ∷ zs) zero x y below = refl
 set_before (z ∷ zs) (suc i) x y below = ap (λ (ws : List _). z ∷ ws) (set_before zs i x y (omega arith))
 
-abbrev with_answers : Position → List (List Answer) → Position
-with_answers p answers = record p { answers = answers }
-
 -- two nodes issue in either order
 issued_twice : (p : Position) (n m : ℕ) → n ≢ m → with_issued_at (with_issued_at p n) m ≡ with_issued_at (with_issued_at p m) n
 issued_twice p n m apart = grind (arith, issued_apart, set_apart)
