@@ -62,11 +62,14 @@ pub fn logs_of(alloc: Global, input: &[u8]) -> Result<(u8, Logs, Box<Last, Globa
 }
 
 /// The same of the bytes that the reader gives, read to its end. Refused as by `read_logs` of `sci_text`.
-pub fn read_logs<R: Read>(alloc: Global, reader: &mut Tap<R>) -> Result<(u8, Logs, Last), Refusal>
+pub fn read_logs<R: Read>(
+    alloc: Global,
+    reader: &mut Tap<R>,
+) -> Result<(u8, Logs, Box<Last, Global>), Refusal>
     requires { has_failed reader.old ≡ false }
     ensures text { IfOk result (λ x. (input : List ℕ)
-        × AreRead (R.remaining (tapped reader.old)) input × IsLogs input x.0 x.1 x.2) }
-    ensures good { IfOk result (λ x. AreLogs x.0 x.1 x.2) }
+        × AreRead (R.remaining (tapped reader.old)) input × IsLogs input x.0 x.1 x.2.value) }
+    ensures good { IfOk result (λ x. AreLogs x.0 x.1 x.2.value) }
     ensures unfailed { OnOk result (has_failed reader.new ≡ false) }
     ensures fault { IfErr result (λ refusal. IsTold IsLogFault refusal.fault.kind
         (R.remaining (tapped reader.old)) (has_failed reader.new) refusal.fault.line) }

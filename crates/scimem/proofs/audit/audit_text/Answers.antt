@@ -1,7 +1,7 @@
 -- What is written is the line of the verdict of the log that was read.
-use Rattle.std.proofs.Common.{◌≡◌, sym, ◌∙◌}
+use Rattle.std.proofs.Common.{◌≡◌, subst, sym, ◌∙◌}
 use Rattle.sci_history.specs.declared.verdict.Verdict.{Verdict}
-use Rattle.sci_text.specs.{FirstFault.{IsTold}, LogFault.{IsLogFault}, Tap.{has_failed, tapped}}
+use Rattle.sci_text.specs.{FirstFault.{IsTold}, LogFault.{IsLogFault}, LogValue.{IsLogs}, Tap.{has_failed, tapped}}
 use Rattle.sci_command.specs.declared.outcome.Outcome.TheVariants.{Refused}
 use Rattle.sci_command.proofs.Answers.{answer_made}
 use Rattle.scimem.specs.LogAnswer.{IsAuditOf, outcome_of}
@@ -29,9 +29,9 @@ returns g c =
               record {
                 nodes = logs.field-0-0;
                 logs = logs.logs;
-                last = logs.last;
+                last = c.deref.result.now;
                 verdict = verdict.verdict;
-                read = text.2;
+                read = subst (IsLogs text.0 logs.field-0-0 logs.logs) (sym c.deref.ensures) text.2;
                 judged = verdict.ensures.verdict;
                 lawful = verdict.ensures.lawful;
                 written = c.in_ok-text.ensures;
