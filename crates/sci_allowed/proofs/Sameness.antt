@@ -3,7 +3,7 @@ use Rattle.std.proofs.Common.{◌≡◌, ◌&&◌, ℕ, nat_eq, Bool, true, List
 use Rattle.std.proofs.lemmas.Bool.{and_from, and_parts, eq-eqb, eqb-true}
 use Rattle.std.specs.Cmp.Lexicographic.{pointwise}
 use Rattle.sci_allowed.specs.{Outcome.{Shown, shown_of}, declared.outcome.{FinalWord.{FinalWord}, Outcome.{Outcome}, Replied.{Replied}}}
-use Rattle.sci_allowed.specs.contracts.outcome.HeldPartialEq.TheImpl as held
+use Rattle.sci_allowed.specs.contracts.outcome.FinalWordPartialEq.TheImpl as held
 use Rattle.sci_allowed.specs.contracts.outcome.OutcomePartialEq.TheImpl as outcomes
 use Rattle.sci_allowed.specs.contracts.outcome.RepliedPartialEq.TheImpl as replies
 
