@@ -84,7 +84,6 @@ IsAsked verb given asked = (command : Command) (named : Named)
     → (option_map shown_in asked ≡ Some (command, named)) ↔ Asks verb given.settings.items (texts given.alone.items) command named
 
 module _ (verb : Verb) (words : List (List ℕ)) where
-
   pub none_read : (wrong : Wrong) (complaint : Complaint) → ¬ (IsHelp words) → IsReading (options_of verb) words (Err wrong)
       → is_refused complaint ≡ lacks_memory wrong → IsChosenBy (ChoosesOf verb words) (Err complaint)
   none_read wrongs.Memory complaint other reading same = refused (ChoosesOf verb words) complaint same
@@ -162,7 +161,6 @@ version_is_no_help words is (inl help) = let same : codes "--version" ≡ codes 
 version_is_no_help words is (inr help) = let same : codes "--version" ≡ codes "-h" = ap head (sym is ∙ help) in absurd (cc)
 
 module _ (words : List (List ℕ)) where
-
   pub version : (choice : Choice) → words ≡ codes "--version" ∷ [] → shown_in choice ≡ (commands.Version, no_names) → IsChosenBy (Chooses words) (Ok choice)
   version choice is shown command named = (
     λ chosen. elim chosen [
