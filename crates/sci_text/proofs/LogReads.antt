@@ -1,5 +1,5 @@
 -- A line of a log that is written is read again, and what is read as one was written so.
-use Rattle.std.proofs.Common.{◌≡◌, ℕ, ◌^◌, ◌<◌, ◌≤◌, List, [], ◌∷◌, ◌++◌, length, Option, Some, None, refl, sym, ap, subst, ◌∙◌, append_assoc, arith}
+use Rattle.std.proofs.Common.{◌≡◌, ℕ, ◌*◌, ◌^◌, ◌<◌, ◌≤◌, zero, suc, List, [], ◌∷◌, ◌++◌, length, Option, Some, None, refl, sym, ap, subst, ◌∙◌, append_assoc, arith}
 use Rattle.std.proofs.lemmas.{Bool.{cases_lt, lt-ltb, le-ltb}, List.Elements.{All-from_recursion, recursion_from_All}}
 use Rattle.std.proofs.lemmas.Option.{some_pair_parts}
 use Rattle.std.specs.{Prelude.{codes, option_map}, List.{flat_map, AllByRecursion}, Option.{SomeIff}}
@@ -12,7 +12,7 @@ use Rattle.sci_text.specs.Operation.{act_word, act_operands, operation}
 use Rattle.sci_text.specs.Log.{reply_text, version_text, log_line, last_line, issue_text, outcome_text, entry_line}
 use Rattle.sci_text.specs.LogValue.{StampedFits, Answers, ReplyFits}
 use Rattle.sci_text.specs.Reading.{◌>>=◌, both, fitting, field_read, number_read, after, byte, command_read, pair_read, operation_read}
-use Rattle.sci_text.specs.LogReading.{version_read, eight, words_read, stamped_of, last_line_read, reply_read, serial_of, entry_of, issue_read}
+use Rattle.sci_text.specs.LogReading.{version_read, pair_and, words_read, stamped_of, last_line_read, reply_read, serial_of, entry_of, issue_read}
 use Rattle.sci_text.specs.LogReading.{outcome_read, entry_line_read, log_line_read}
 use Rattle.sci_text.proofs.Numbers.{fitting_below, fitting_above, Ends, number_again, number_found, field_again, ends_field, field_found}
 use Rattle.sci_text.proofs.Words.{after_again, after_found}
@@ -48,104 +48,57 @@ version_found bytes value rest e =
 abbrev AreWords : List ℕ → Type 0
 AreWords words = AllByRecursion (λ word. word < 2 ^ 64) words
 
-abbrev Two : Type 0
-Two = Option (ℕ × ℕ)
+joined : (pair : Option (ℕ × ℕ)) (more : Option (List ℕ)) (a b : ℕ) (words : List ℕ) → SomeIff pair ((a < 2 ^ 64) × (b < 2 ^ 64)) (a, b)
+    → SomeIff more (AreWords words) words → SomeIff (pair_and pair more) (AreWords (a ∷ b ∷ words)) (a ∷ b ∷ words)
+unfolding pair_and
+joined None more a b words h k = λ all. h (all.0, all.1.0)
+joined (Some pair) None a b words h k = λ all. k all.1.1
+joined (Some pair) (Some line) a b words h k = ((h.0.0, (h.0.1, k.0)), cc (h.1, k.1))
 
-abbrev eight_words : ℕ × ℕ → ℕ × ℕ → ℕ × ℕ → ℕ × ℕ → List ℕ
-eight_words a b c d = a.0 ∷ a.1 ∷ b.0 ∷ b.1 ∷ c.0 ∷ c.1 ∷ d.0 ∷ d.1 ∷ []
+pair_is : (a b : ℕ) (words : List ℕ) (more : Option (List ℕ)) → SomeIff more (AreWords words) words
+    → SomeIff (pair_and (both (fitting a) (fitting b)) more) (AreWords (a ∷ b ∷ words)) (a ∷ b ∷ words)
+pair_is a b words more = joined _ more a b words (both_is (a < 2 ^ 64) (b < 2 ^ 64) (fitting a) (fitting b) a b (fitting_is a) (fitting_is b))
 
-abbrev Fit : ℕ × ℕ → Type 0
-Fit p = (p.0 < 2 ^ 64) × (p.1 < 2 ^ 64)
+ends_words : (words : List ℕ) (rest : List ℕ) → Ends rest → Ends (flat_map field words ++ rest)
+ends_words [] rest ends = ends
+ends_words (w ∷ words) rest ends = rw (append_assoc (field w) (flat_map field words) rest) (ends_field w (flat_map field words ++ rest))
 
-eight_of : (o p q r : Two) (a b c d : ℕ × ℕ) → SomeIff o (Fit a) a → SomeIff p (Fit b) b → SomeIff q (Fit c) c → SomeIff r (Fit d) d
-    → SomeIff (eight o p q r) (Fit a × Fit b × Fit c × Fit d) (eight_words a b c d)
-unfolding eight
-eight_of None p q r a b c d h i j k = λ all. h all.0
-eight_of (Some w) None q r a b c d h i j k = λ all. i all.1
-eight_of (Some w) (Some x) None r a b c d h i j k = λ all. j all.2
-eight_of (Some w) (Some x) (Some y) None a b c d h i j k = λ all. k all.3
-eight_of (Some w) (Some x) (Some y) (Some z) a b c d h i j k = ((h.0, i.0, j.0, k.0), cc (h.1, i.1, j.1, k.1))
+two_text : (a b : ℕ) (words rest : List ℕ) → flat_map field (a ∷ b ∷ words) ++ rest ≡ (field a ++ field b) ++ (flat_map field words ++ rest)
+two_text a b words rest = simp append_assoc
 
-two_is : (a b : ℕ) → SomeIff (both (fitting a) (fitting b)) (Fit (a, b)) (a, b)
-two_is a b = both_is (a < 2 ^ 64) (b < 2 ^ 64) (fitting a) (fitting b) a b (fitting_is a) (fitting_is b)
-
-eight_is : (a b c d : ℕ × ℕ) → SomeIff
-    (eight (both (fitting a.0) (fitting a.1)) (both (fitting b.0) (fitting b.1)) (both (fitting c.0) (fitting c.1)) (both (fitting d.0) (fitting d.1)))
-    (AreWords (eight_words a b c d)) (eight_words a b c d)
-eight_is a b c d =
-    some_iff_as (Fit a × Fit b × Fit c × Fit d) (AreWords (eight_words a b c d))
-    (eight (both (fitting a.0) (fitting a.1)) (both (fitting b.0) (fitting b.1)) (both (fitting c.0) (fitting c.1)) (both (fitting d.0) (fitting d.1)))
-    (eight_words a b c d)
-    (λ h. (h.0.0, (h.0.1, (h.1.0, (h.1.1, (h.2.0, (h.2.1, (h.3.0, (h.3.1, tt)))))))))
-    (λ h. ((h.0, h.1.0), (h.1.1.0, h.1.1.1.0), (h.1.1.1.1.0, h.1.1.1.1.1.0), (h.1.1.1.1.1.1.0, h.1.1.1.1.1.1.1.0)))
-    (eight_of (both (fitting a.0) (fitting a.1)) (both (fitting b.0) (fitting b.1)) (both (fitting c.0) (fitting c.1)) (both (fitting d.0) (fitting d.1)) a b c
-    d (two_is a.0 a.1) (two_is b.0 b.1) (two_is c.0 c.1) (two_is d.0 d.1))
-
-abbrev pair_text : ℕ × ℕ → List ℕ
-pair_text p = field p.0 ++ field p.1
-
-ends_pair : (p : ℕ × ℕ) (rest : List ℕ) → Ends (pair_text p ++ rest)
-ends_pair p rest = rw (append_assoc (field p.0) (field p.1) rest) (ends_field p.0 (field p.1 ++ rest))
-
-eight_text : (a b c d : ℕ × ℕ) (rest : List ℕ)
-    → flat_map field (eight_words a b c d) ++ rest ≡ pair_text a ++ (pair_text b ++ (pair_text c ++ (pair_text d ++ rest)))
-eight_text a b c d rest = simp append_assoc
-
-words_again : (a b c d : ℕ × ℕ) (rest : List ℕ) → Ends rest
-    → words_read (flat_map field (eight_words a b c d) ++ rest) ≡ Some (
-      eight (both (fitting a.0) (fitting a.1)) (both (fitting b.0) (fitting b.1)) (both (fitting c.0) (fitting c.1)) (both (fitting d.0) (fitting d.1)),
-      rest,
+words_again : (pairs : ℕ) (words rest : List ℕ) → length words ≡ pairs * 2 → Ends rest
+    → (o : Option (List ℕ)) × (words_read pairs (flat_map field words ++ rest) ≡ Some (o, rest)) × SomeIff o (AreWords words) words
+unfolding words_read
+words_again zero [] rest long ends = (Some [], refl, (tt, refl))
+words_again zero (a ∷ words) rest long ends = absurd (omega arith)
+words_again (suc pairs) [] rest long ends = absurd (omega arith)
+words_again (suc pairs) (a ∷ []) rest long ends = absurd (omega arith)
+words_again (suc pairs) (a ∷ b ∷ words) rest long ends =
+    let more = words_again pairs words rest (omega arith) ends in (
+      pair_and (both (fitting a) (fitting b)) more.0,
+      rw (two_text a b words rest, pair_again a b (flat_map field words ++ rest) (ends_words words rest ends), more.1) refl,
+      pair_is a b words more.0 more.2,
     )
+
+words_found : (pairs : ℕ) (bytes : List ℕ) (o : Option (List ℕ)) (rest : List ℕ) → words_read pairs bytes ≡ Some (o, rest)
+    → (words : List ℕ) × (length words ≡ pairs * 2) × (bytes ≡ flat_map field words ++ rest) × SomeIff o (AreWords words) words
 unfolding words_read
-words_again a b c d rest ends = grind (arith, eight_text, pair_again, ends_pair)
-
--- what is read as these words
-abbrev ReadWords : List ℕ → List ℕ → Option (Option (List ℕ) × List ℕ) → Type 0
-ReadWords words rest read = (o : Option (List ℕ)) × (read ≡ Some (o, rest)) × SomeIff o (AreWords words) words
-
-eight_words_again : (words : List ℕ) (rest : List ℕ) → length words ≡ 8 → Ends rest → ReadWords words rest (words_read (flat_map field words ++ rest))
-eight_words_again [] rest e ends = absurd (omega arith)
-eight_words_again (a ∷ []) rest e ends = absurd (omega arith)
-eight_words_again (a ∷ b ∷ []) rest e ends = absurd (omega arith)
-eight_words_again (a ∷ b ∷ c ∷ []) rest e ends = absurd (omega arith)
-eight_words_again (a ∷ b ∷ c ∷ d ∷ []) rest e ends = absurd (omega arith)
-eight_words_again (a ∷ b ∷ c ∷ d ∷ f ∷ []) rest e ends = absurd (omega arith)
-eight_words_again (a ∷ b ∷ c ∷ d ∷ f ∷ g ∷ []) rest e ends = absurd (omega arith)
-eight_words_again (a ∷ b ∷ c ∷ d ∷ f ∷ g ∷ h ∷ []) rest e ends = absurd (omega arith)
-eight_words_again (a ∷ b ∷ c ∷ d ∷ f ∷ g ∷ h ∷ i ∷ []) rest e ends = (
-  eight (both (fitting a) (fitting b)) (both (fitting c) (fitting d)) (both (fitting f) (fitting g)) (both (fitting h) (fitting i)),
-  words_again (a, b) (c, d) (f, g) (h, i) rest ends,
-  eight_is (a, b) (c, d) (f, g) (h, i),
-)
-eight_words_again (a ∷ b ∷ c ∷ d ∷ f ∷ g ∷ h ∷ i ∷ j ∷ more) rest e ends = absurd (omega arith)
-
-words_found : (bytes : List ℕ) (o : Option (List ℕ)) (rest : List ℕ) → words_read bytes ≡ Some (o, rest)
-    → (words : List ℕ) × (length words ≡ 8) × (bytes ≡ flat_map field words ++ rest) × SomeIff o (AreWords words) words
-unfolding words_read
-words_found bytes o rest e =
-    let end : Two → Two → Two → Two × List ℕ → Option (Option (List ℕ) × List ℕ) = λ p q r s. Some (eight p q r s.0, s.1) in
-    let p = bind_some (pair_read bytes) (λ p. pair_read p.1 >>= λ q. pair_read q.1 >>= λ r. pair_read r.1 >>= λ s. end p.0 q.0 r.0 s) (o, rest) e in
-    let q = bind_some (pair_read p.0.1) (λ q. pair_read q.1 >>= λ r. pair_read r.1 >>= λ s. end p.0.0 q.0 r.0 s) (o, rest) p.2 in
-    let r = bind_some (pair_read q.0.1) (λ r. pair_read r.1 >>= λ s. end p.0.0 q.0.0 r.0 s) (o, rest) q.2 in
-    let s = bind_some (pair_read r.0.1) (λ s. end p.0.0 q.0.0 r.0.0 s) (o, rest) r.2 in
-    let parts = some_pair_parts (eight p.0.0 q.0.0 r.0.0 s.0.0) o s.0.1 rest s.2 in
-    let a = pair_found bytes p.0.0 p.0.1 p.1 in
-    let b = pair_found p.0.1 q.0.0 q.0.1 q.1 in
-    let c = pair_found q.0.1 r.0.0 r.0.1 r.1 in
-    let d = pair_found r.0.1 s.0.0 s.0.1 s.1 in
-    let fourth : r.0.1 ≡ pair_text (d.0, d.1) ++ rest = d.2 ∙ ap (λ (l : List ℕ). pair_text (d.0, d.1) ++ l) parts.1 in
-    let third : q.0.1 ≡ pair_text (c.0, c.1) ++ (pair_text (d.0, d.1) ++ rest) = c.2 ∙ ap (λ (l : List ℕ). pair_text (c.0, c.1) ++ l) fourth in
-    let second : p.0.1 ≡ pair_text (b.0, b.1) ++ (pair_text (c.0, c.1) ++ (pair_text (d.0, d.1) ++ rest)) =
-    b.2 ∙ ap (λ (l : List ℕ). pair_text (b.0, b.1) ++ l) third in
-    let first : bytes ≡ pair_text (a.0, a.1) ++ (pair_text (b.0, b.1) ++ (pair_text (c.0, c.1) ++ (pair_text (d.0, d.1) ++ rest))) =
-    a.2 ∙ ap (λ (l : List ℕ). pair_text (a.0, a.1) ++ l) second in
-    let words = eight_words (a.0, a.1) (b.0, b.1) (c.0, c.1) (d.0, d.1) in
-    let said : eight (both (fitting a.0) (fitting a.1)) (both (fitting b.0) (fitting b.1)) (both (fitting c.0) (fitting c.1))
-    (both (fitting d.0) (fitting d.1)) ≡ o = rw (← a.3, ← b.3, ← c.3, ← d.3) parts.0 in (
-      words,
-      refl,
-      first ∙ sym (eight_text (a.0, a.1) (b.0, b.1) (c.0, c.1) (d.0, d.1) rest),
-      subst (λ (v : Option (List ℕ)). SomeIff v (AreWords words) words) said (eight_is (a.0, a.1) (b.0, b.1) (c.0, c.1) (d.0, d.1)),
+words_found zero bytes o rest e =
+    let parts = some_pair_parts (Some []) o bytes rest e in
+    ([], refl, parts.1, subst (λ (v : Option (List ℕ)). SomeIff v (AreWords []) []) parts.0 (tt, refl))
+words_found (suc pairs) bytes o rest e =
+    let p = bind_some (pair_read bytes) (λ p. words_read pairs p.1 >>= λ r. Some (pair_and p.0 r.0, r.1)) (o, rest) e in
+    let r = bind_some (words_read pairs p.0.1) (λ r. Some (pair_and p.0.0 r.0, r.1)) (o, rest) p.2 in
+    let parts = some_pair_parts (pair_and p.0.0 r.0.0) o r.0.1 rest r.2 in
+    let two = pair_found bytes p.0.0 p.0.1 p.1 in
+    let more = words_found pairs p.0.1 r.0.0 r.0.1 r.1 in
+    let behind : p.0.1 ≡ flat_map field more.0 ++ rest = more.2 ∙ ap (λ (l : List ℕ). flat_map field more.0 ++ l) parts.1 in
+    let said : pair_and (both (fitting two.0) (fitting two.1)) r.0.0 ≡ o = rw (← two.3) parts.0 in (
+      two.0 ∷ two.1 ∷ more.0,
+      omega (arith, more.1),
+      two.2 ∙ ap (λ (l : List ℕ). (field two.0 ++ field two.1) ++ l) behind ∙ sym (two_text two.0 two.1 more.0 rest),
+      subst (λ (v : Option (List ℕ)). SomeIff v (AreWords (two.0 ∷ two.1 ∷ more.0)) (two.0 ∷ two.1 ∷ more.0)) said
+          (pair_is two.0 two.1 more.0 r.0.0 more.3),
     )
 
 -- ---- `last` lines
@@ -168,10 +121,6 @@ stamped_is (Some line) (Some version) stamped h k =
 abbrev pub LastSaid : Type 0
 LastSaid = Option ℕ × Option Stamped
 
-ends_words : (words : List ℕ) (rest : List ℕ) → Ends (flat_map field words ++ 10 ∷ rest)
-ends_words [] rest = refl
-ends_words (w ∷ words) rest = rw (append_assoc (field w) (flat_map field words) (10 ∷ rest)) (ends_field w (flat_map field words ++ 10 ∷ rest))
-
 pub last_line_again : (line : ℕ) (stamped : Stamped) (rest : List ℕ) → length stamped.line ≡ WORDS_PER_LINE
     → (o : Option Stamped) × (last_line_read (last_line line stamped ++ rest) ≡ Some ((fitting line, o), rest)) × SomeIff o (StampedFits stamped) stamped
 unfolding last_line last_line_read
@@ -181,13 +130,13 @@ last_line_again line stamped rest long =
     let tail = version_text stamped.version ++ texts in
     let regrouped : (codes "last" ++ (field line ++ (version_text stamped.version ++ (flat_map field stamped.line ++ 10 ∷ [])))) ++ rest ≡ codes "last"
     ++ (field line ++ tail) = simp append_assoc in
-    let words = eight_words_again stamped.line end long refl in (
+    let words = words_again 4 stamped.line end long refl in (
       stamped_of words.0 (fitting stamped.version),
       rw (
         regrouped,
         after_again (codes "last") (field line ++ tail),
         field_again line tail (ends_version stamped.version texts),
-        version_again stamped.version texts (ends_words stamped.line rest),
+        version_again stamped.version texts (ends_words stamped.line end refl),
         words.1,
         after_again (10 ∷ []) rest,
       ) refl,
@@ -201,15 +150,15 @@ unfolding last_line last_line_read
 last_line_found bytes l o rest e =
     let end : Option ℕ → Option ℕ → Option (List ℕ) → List ℕ → Option (LastSaid × List ℕ) =
     λ x v w t. after (10 ∷ []) t >>= λ r. Some ((x, stamped_of w v), r) in
-    let first = bind_some (after (codes "last") bytes) (λ t. field_read t >>= λ x. version_read x.1 >>= λ v. words_read v.1 >>= λ w. end x.0 v.0 w.0 w.1)
+    let first = bind_some (after (codes "last") bytes) (λ t. field_read t >>= λ x. version_read x.1 >>= λ v. words_read 4 v.1 >>= λ w. end x.0 v.0 w.0 w.1)
     ((l, o), rest) e in
-    let x = bind_some (field_read first.0) (λ x. version_read x.1 >>= λ v. words_read v.1 >>= λ w. end x.0 v.0 w.0 w.1) ((l, o), rest) first.2 in
-    let v = bind_some (version_read x.0.1) (λ v. words_read v.1 >>= λ w. end x.0.0 v.0 w.0 w.1) ((l, o), rest) x.2 in
-    let w = bind_some (words_read v.0.1) (λ w. end x.0.0 v.0.0 w.0 w.1) ((l, o), rest) v.2 in
+    let x = bind_some (field_read first.0) (λ x. version_read x.1 >>= λ v. words_read 4 v.1 >>= λ w. end x.0 v.0 w.0 w.1) ((l, o), rest) first.2 in
+    let v = bind_some (version_read x.0.1) (λ v. words_read 4 v.1 >>= λ w. end x.0.0 v.0 w.0 w.1) ((l, o), rest) x.2 in
+    let w = bind_some (words_read 4 v.0.1) (λ w. end x.0.0 v.0.0 w.0 w.1) ((l, o), rest) v.2 in
     let r = bind_some (after (10 ∷ []) w.0.1) (λ r. Some ((x.0.0, stamped_of w.0.0 v.0.0), r)) ((l, o), rest) w.2 in
     let line = field_found first.0 x.0.0 x.0.1 x.1 in
     let version = version_found x.0.1 v.0.0 v.0.1 v.1 in
-    let words = words_found v.0.1 w.0.0 w.0.1 w.1 in
+    let words = words_found 4 v.0.1 w.0.0 w.0.1 w.1 in
     let parts = some_pair_parts {A = LastSaid} (x.0.0, stamped_of w.0.0 v.0.0) (l, o) r.0 rest r.2 in
     let last : w.0.1 ≡ 10 ∷ rest = after_found (10 ∷ []) w.0.1 r.0 r.1 ∙ ap (λ (t : List ℕ). 10 ∷ t) parts.1 in
     let third : v.0.1 ≡ flat_map field words.0 ++ 10 ∷ rest = words.2 ∙ ap (λ (t : List ℕ). flat_map field words.0 ++ t) last in

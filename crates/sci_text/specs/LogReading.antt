@@ -1,6 +1,6 @@
 -- What the private readers of logs' lines answer: what is read, and the bytes after it; and what comes of a line that
 -- was read. No public contract rests on these words; laws in proofs/ join them to the texts.
-use Rattle.std.specs.Prelude.{◌≡◌, ℕ, ◌+◌, ◌<◌, ◌≤◌, ◌^◌, List, [], ◌∷◌, ◌++◌, length, codes, Option, Some, None, option_map, replicate, slice_set, nat_lt}
+use Rattle.std.specs.Prelude.{◌≡◌, ℕ, zero, suc, ◌+◌, ◌<◌, ◌≤◌, ◌^◌, List, [], ◌∷◌, ◌++◌, length, codes, Option, Some, None, option_map, replicate, slice_set, nat_lt}
 use Rattle.std.specs.Prelude.{if◌then◌else◌}
 use Rattle.sci_words.specs.declared.operation.{Op.{Op}, Reply.{Reply, TheVariants.{Stored, Got}}}
 use Rattle.sci_words.specs.declared.stamped.Stamped.{Stamped}
@@ -17,22 +17,20 @@ use Rattle.sci_text.specs.declared.operation.Command.TheVariants as commands
 unfoldable pub version_read : List ℕ → Option (Option ℕ × List ℕ)
 version_read bytes = after (codes " @") bytes >>= number_read
 
--- a line's eight words, if each is below 2^64
-unfoldable pub eight : Option (ℕ × ℕ) → Option (ℕ × ℕ) → Option (ℕ × ℕ) → Option (ℕ × ℕ) → Option (List ℕ)
-eight first second third fourth = do
-  a ← first
-  b ← second
-  c ← third
-  d ← fourth
-  Some (a.0 ∷ a.1 ∷ b.0 ∷ b.1 ∷ c.0 ∷ c.1 ∷ d.0 ∷ d.1 ∷ [])
+-- a pair of words before others, if each is below 2^64
+unfoldable pub pair_and : Option (ℕ × ℕ) → Option (List ℕ) → Option (List ℕ)
+pair_and pair more = do
+  two ← pair
+  words ← more
+  Some (two.0 ∷ two.1 ∷ words)
 
-unfoldable pub words_read : List ℕ → Option (Option (List ℕ) × List ℕ)
-words_read bytes = do
+-- the words of this many pairs
+unfoldable pub words_read : ℕ → List ℕ → Option (Option (List ℕ) × List ℕ)
+words_read zero bytes = Some (Some [], bytes)
+words_read (suc pairs) bytes = do
   first ← pair_read bytes
-  second ← pair_read first.1
-  third ← pair_read second.1
-  fourth ← pair_read third.1
-  Some (eight first.0 second.0 third.0 fourth.0, fourth.1)
+  more ← words_read pairs first.1
+  Some (pair_and first.0 more.0, more.1)
 
 unfoldable pub stamped_of : Option (List ℕ) → Option ℕ → Option Stamped
 stamped_of words version = do
@@ -45,7 +43,7 @@ last_line_read bytes = do
   first ← after (codes "last") bytes
   line ← field_read first
   version ← version_read line.1
-  words ← words_read version.1
+  words ← words_read 4 version.1
   rest ← after (10 ∷ []) words.1
   Some ((line.0, stamped_of words.0 version.0), rest)
 

@@ -1,8 +1,8 @@
 //! The lines of a log, each read from left to right.
 
-ghost use Rattle.std.specs.Prelude.{◌≡◌};
+ghost use Rattle.std.specs.Prelude.{◌≡◌, [], Some};
 ghost use Rattle.sci_text.specs.Reading.{Gives};
-ghost use Rattle.sci_text.specs.LogReading.{version_read, eight, words_read, stamped_of, last_line_read, reply_read, serial_of, entry_of, issue_read};
+ghost use Rattle.sci_text.specs.LogReading.{version_read, pair_and, words_read, stamped_of, last_line_read, reply_read, serial_of, entry_of, issue_read};
 ghost use Rattle.sci_text.specs.LogReading.{outcome_read, entry_line_read, log_line_read};
 
 use crate::number::{Number, field, number};
@@ -22,9 +22,9 @@ fn version(bytes: &[u8]) -> Option<(Number, &[u8])>
 }
 
 /// The line of eight words.
-#[tactic(auto, unfolding(crate::specs::LogReading::eight))]
+#[tactic(auto, unfolding(crate::specs::LogReading::pair_and))]
 fn line_of(first: Words, second: Words, third: Words, fourth: Words) -> Option<Line>
-    ensures { result ≡ eight first second third fourth }
+    ensures { result ≡ pair_and first (pair_and second (pair_and third (pair_and fourth (Some [])))) }
 {
     let a = first?;
     let b = second?;
@@ -36,7 +36,7 @@ fn line_of(first: Words, second: Words, third: Words, fourth: Words) -> Option<L
 /// The eight words at the front of `bytes`, each behind a space, and the bytes after them.
 #[tactic(auto, unfolding(crate::specs::LogReading::words_read))]
 fn words(bytes: &[u8]) -> Option<(Option<Line>, &[u8])>
-    ensures { Gives (λ x. (x.0, x.1.now)) result (words_read bytes.now) }
+    ensures { Gives (λ x. (x.0, x.1.now)) result (words_read 4 bytes.now) }
 {
     let (first, rest) = pair(bytes)?;
     let (second, rest) = pair(rest)?;
