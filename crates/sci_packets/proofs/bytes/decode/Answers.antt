@@ -5,11 +5,7 @@ use Rattle.sci_packets.proofs.bytes.decode.Goals.{After-size_of-len}
 use Rattle.sci_packets.proofs.bytes.decode.Goals as goal
 
 found : (c : After-size_of-len) → Found c.in_ok-packet.packet c.size_of-len.result c.args.bytes.now
-found c =
-    let bytes = c.args.bytes.now in
-    let known = c.in_ok-packet.ensures in
-    is_found c.in_ok-packet.packet c.size_of-len.result bytes (λ i. omega (arith, c.type_inv.bytes i)) known.header known.contents known.nodes
-    known.identifier known.fault c.size_of-len.ensures
+found c = grind (arith, is_found)
 
 pub returns-then-bytes-lt-SHORT-clause-only : goal.returns-then-bytes-lt-SHORT-clause-only
 returns-then-bytes-lt-SHORT-clause-only c =
@@ -45,6 +41,4 @@ returns-clause-only c =
     c.in_ok-packet.ensures.fault
 
 pub returns-clause-none : goal.returns-clause-none
-returns-clause-none c =
-    none_found c.args.bytes.now (Ok (c.in_ok-packet.packet, c.size_of-len.result)) (λ i. omega (arith, c.type_inv.bytes i)) (found c).spells (found c).within
-    c.in_ok-packet.ensures.fault
+returns-clause-none c = grind (arith, none_found, found)

@@ -6,9 +6,7 @@ pub returns-then-words-lt-LONG_WORDS-clause-fault : goal.returns-then-words-lt-L
 returns-then-words-lt-LONG_WORDS-clause-fault c = rw (short_words c.args.words.now 11 (omega arith)) refl
 
 pub returns-clause-contents : goal.returns-clause-contents
-returns-clause-contents c =
-    contents_read c.args.words.now c.of_words.result (λ i. omega (arith, c.type_inv.words i)) (omega arith)
-    (c.of_words.ensures ∙ c.copy_from_slice.ensures.after)
+returns-clause-contents c = grind (arith, contents_read)
 
 pub returns-clause-fault : goal.returns-clause-fault
 returns-clause-fault c = rw (long_words c.args.words.now 11 (omega arith)) refl

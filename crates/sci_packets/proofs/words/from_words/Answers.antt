@@ -39,16 +39,10 @@ returns-in_err-packet-clause-none c =
 
 pub returns-in_err-packet-clause-fault : goal.returns-in_err-packet-clause-fault
 unfolding fault_of_words
-returns-in_err-packet-clause-fault c =
-    let e = err_from_is_err_and c.from_residual.result c.from_residual.ensures.1 in
-    rw (e.1, e.2) c.in_err-packet.ensures.fault
+returns-in_err-packet-clause-fault c = grind (arith, err_from_is_err_and)
 
 found : (c : After-size_of) → Found c.in_ok-packet.packet c.size_of.result (word_bytes c.args.words.now)
-found c =
-    let bytes = word_bytes c.args.words.now in
-    let known = c.in_ok-packet.ensures in
-    is_found c.in_ok-packet.packet c.size_of.result bytes (word_bytes-fits c.args.words.now) known.header known.contents known.nodes known.identifier
-    known.fault c.size_of.ensures
+found c = grind (arith, is_found, word_bytes-fits)
 
 begins : (c : After-size_of) → BeginsWords c.in_ok-packet.packet (c.size_of.result / 8) c.args.words.now
 begins c =
