@@ -41,128 +41,69 @@ pub enum Verb {
     Random,
 }
 
-const BY_SERIAL: OptionRow = OptionRow {
-    name: OptionName::BySerial,
-    argument: Argument::Nothing,
-};
+/// A row of the table of options: of an option alone, of one with a number within limits, or of one with another argument.
+macro_rules! option_row {
+    ($name:ident) => {
+        option_row!($name, Argument::Nothing)
+    };
+    ($name:ident, $least:literal..=$greatest:expr) => {
+        option_row!(
+            $name,
+            Argument::Number {
+                least: $least,
+                greatest: $greatest,
+            }
+        )
+    };
+    ($name:ident, $argument:expr) => {
+        OptionRow {
+            name: OptionName::$name,
+            argument: $argument,
+        }
+    };
+}
 
-const DEAD: OptionRow = OptionRow {
-    name: OptionName::Dead,
-    argument: Argument::Number {
-        least: 0,
-        greatest: 100,
-    },
-};
+const BY_SERIAL: OptionRow = option_row!(BySerial);
 
-const EVENTS: OptionRow = OptionRow {
-    name: OptionName::Events,
-    argument: Argument::TwoNumbers,
-};
+const DEAD: OptionRow = option_row!(Dead, 0..=100);
 
-const ALL_OUTCOMES: OptionRow = OptionRow {
-    name: OptionName::AllOutcomes,
-    argument: Argument::Nothing,
-};
+const EVENTS: OptionRow = option_row!(Events, Argument::TwoNumbers);
 
-const IN_ORDER: OptionRow = OptionRow {
-    name: OptionName::InOrder,
-    argument: Argument::Nothing,
-};
+const ALL_OUTCOMES: OptionRow = option_row!(AllOutcomes);
 
-const JSON: OptionRow = OptionRow {
-    name: OptionName::Json,
-    argument: Argument::Nothing,
-};
+const IN_ORDER: OptionRow = option_row!(InOrder);
 
-const LIMIT: OptionRow = OptionRow {
-    name: OptionName::Limit,
-    argument: Argument::Number {
-        least: 0,
-        greatest: u64::MAX,
-    },
-};
+const JSON: OptionRow = option_row!(Json);
 
-const LINE: OptionRow = OptionRow {
-    name: OptionName::Line,
-    argument: Argument::Place { count: MAX_LINES },
-};
+const LIMIT: OptionRow = option_row!(Limit, 0..=u64::MAX);
 
-const LOG: OptionRow = OptionRow {
-    name: OptionName::Log,
-    argument: Argument::Nothing,
-};
+const LINE: OptionRow = option_row!(Line, Argument::Place { count: MAX_LINES });
 
-const NODE: OptionRow = OptionRow {
-    name: OptionName::Node,
-    argument: Argument::Place { count: MAX_NODES },
-};
+const LOG: OptionRow = option_row!(Log);
 
-const ORDER: OptionRow = OptionRow {
-    name: OptionName::Order,
-    argument: Argument::Nothing,
-};
+const NODE: OptionRow = option_row!(Node, Argument::Place { count: MAX_NODES });
 
-const RUNS: OptionRow = OptionRow {
-    name: OptionName::Runs,
-    argument: Argument::Number {
-        least: 1,
-        greatest: MAX_RUNS,
-    },
-};
+const ORDER: OptionRow = option_row!(Order);
 
-const SEED: OptionRow = OptionRow {
-    name: OptionName::Seed,
-    argument: Argument::Number {
-        least: 0,
-        greatest: u64::MAX,
-    },
-};
+const RUNS: OptionRow = option_row!(Runs, 1..=MAX_RUNS);
 
-const SHOW: OptionRow = OptionRow {
-    name: OptionName::Show,
-    argument: Argument::Nothing,
-};
+const SEED: OptionRow = option_row!(Seed, 0..=u64::MAX);
 
-const SHOW_ROW: OptionRow = OptionRow {
-    name: OptionName::Show,
-    argument: Argument::Number {
-        least: 1,
-        greatest: u64::MAX,
-    },
-};
+const SHOW: OptionRow = option_row!(Show);
 
-const STRICT: OptionRow = OptionRow {
-    name: OptionName::Strict,
-    argument: Argument::Nothing,
-};
+const SHOW_ROW: OptionRow = option_row!(Show, 1..=u64::MAX);
 
-const THREADS: OptionRow = OptionRow {
-    name: OptionName::Threads,
-    argument: Argument::Nothing,
-};
+const STRICT: OptionRow = option_row!(Strict);
 
-const TIMES: OptionRow = OptionRow {
-    name: OptionName::Times,
-    argument: Argument::Nothing,
-};
+const THREADS: OptionRow = option_row!(Threads);
 
-const TITLE: OptionRow = OptionRow {
-    name: OptionName::Title,
-    argument: Argument::Nothing,
-};
+const TIMES: OptionRow = option_row!(Times);
 
-const TRANSITIONS: OptionRow = OptionRow {
-    name: OptionName::Transitions,
-    argument: Argument::Nothing,
-};
+const TITLE: OptionRow = option_row!(Title);
 
-const TURNS: OptionRow = OptionRow {
-    name: OptionName::Turns,
-    argument: Argument::Number {
-        least: 0,
-        greatest: u64::MAX,
-    },
-};
+const TRANSITIONS: OptionRow = option_row!(Transitions);
+
+const TURNS: OptionRow = option_row!(Turns, 0..=u64::MAX);
 
 impl Verb {
     /// The command that a word chooses. None if it chooses none.
