@@ -1,9 +1,9 @@
 -- What the audit of a line needs of its entries, and what lines that are found lawful say of all.
-use Rattle.std.proofs.Common.{◌≡◌, ◌↔◌, ℕ, suc, ◌+◌, ◌<◌, ◌≤◌, false, List, [], ◌∷◌, ◌++◌, length, Option, Some, None, refl, sym, subst, arith, inl, inr}
+use Rattle.std.proofs.Common.{◌≡◌, ◌↔◌, ℕ, zero, suc, ◌+◌, ◌<◌, ◌≤◌, false, List, [], ◌∷◌, ◌++◌, length, Option, Some, None, refl, sym, subst, arith, inl, inr}
 use Rattle.std.proofs.{Common.{below_more}, lemmas.Bool.{cases_lt, ne_eqb}}
 use Rattle.std.proofs.lemmas.List.{get_or_past, get_or_append_left, get_or_push, length-append}
 use Rattle.std.proofs.lemmas.List.Elements.{All-from_recursion, recursion_from_All}
-use Rattle.std.specs.{Prelude.{All}, List.{flat_map, AllByRecursion}}
+use Rattle.std.specs.{Prelude.{All, is_some, slice_index_or}, List.{flat_map, list_any, AllByRecursion}}
 use Rattle.sci_words.specs.declared.{limits.TheConstants.{MAX_NODES, WORDS_PER_LINE}, stamped.Stamped.{Stamped}}
 use Rattle.sci_words.specs.Stamped.{zero_stamped}
 use Rattle.sci_history.specs.declared.{entry.Entry.{Entry}, verdict.{FaultKind.{FaultKind}, Verdict.{Verdict}}}
@@ -97,6 +97,34 @@ pub faults_more : (logs : List (List Entry)) (last : List Stamped) (faults : Lis
     (entries : List Entry) (here : Stamped) → AreFound logs last line faults → entries ≡ on_line line logs → here ≡ stamped_at last line
     → IsFound entries here fault → AreFound logs last (line + 1) (faults ++ fault ∷ [])
 faults_more logs last faults line fault entries here below is read found = grind (arith, length-append, below_more, get_or_append_left, get_or_push)
+
+-- ---- the faults of all lines
+
+no_fault_at : (faults : List (Option LineFault)) → list_any is_some faults ≡ false → (line : ℕ) → slice_index_or faults line None ≡ None
+no_fault_at [] clean line = refl
+no_fault_at (None ∷ faults) clean zero = refl
+no_fault_at (None ∷ faults) clean (suc line) = no_fault_at faults clean line
+no_fault_at (Some fault ∷ faults) clean line = absurd cc
+
+no_fault_if : (faults : List (Option LineFault)) → ((line : ℕ) → line < length faults → slice_index_or faults line None ≡ None) → list_any is_some faults ≡ false
+no_fault_if [] none = refl
+no_fault_if (None ∷ faults) none = no_fault_if faults (λ line lt. none (suc line) (omega arith))
+no_fault_if (Some fault ∷ faults) none = let some : Some fault ≡ None = none 0 (omega arith) in absurd cc
+
+none_if_lawful : (entries : List Entry) (here : Stamped) (found : Option LineFault) → HasNoFault entries here → IsFound entries here found → found ≡ None
+none_if_lawful entries here None clean found = refl
+none_if_lawful entries here (Some fault) clean found = absurd (fault_or_none entries here fault.kind fault.at found clean)
+
+-- logs are lawful exactly if no line has a fault
+pub lawful_if_none : (logs : List (List Entry)) (last : List Stamped) (faults : List (Option LineFault)) → AreOwn logs → length logs ≡ MAX_NODES
+    → AreWithin (length last) logs → AreFound logs last (length last) faults → (list_any is_some faults ≡ false) ↔ Lawful logs last
+lawful_if_none logs last faults own sixteen within found = (
+  λ clean. lawful_all logs last own sixteen within (λ line lt.
+      lawful_from_found logs last line (on_line line logs) _ _ own sixteen refl refl (no_fault_at faults clean line) (found.each line lt)),
+  λ lawful. no_fault_if faults (λ line lt.
+      none_if_lawful (on_line line logs) (stamped_at last line) (slice_index_or faults line None)
+      (no_fault logs line (stamped_at last line) own sixteen (lawful line)) (found.each line (rw found.many at lt))),
+)
 
 -- ---- the verdict
 

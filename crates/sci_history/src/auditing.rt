@@ -1,6 +1,6 @@
 //! The audit of logs: whether they are lawful, or the first rule that they break.
 
-ghost use Rattle.std.specs.Prelude.{◌≡◌, ◌↔◌, IfOk, length};
+ghost use Rattle.std.specs.{Prelude.{◌≡◌, ◌↔◌, IfOk, false, is_some, length}, List.{list_any}};
 ghost use Rattle.sci_history.specs.{Audit.{AreFound, AreWithin, IsVerdict}, Lawful.{Lawful}};
 
 use crate::by_line::by_line;
@@ -34,16 +34,18 @@ pub fn audit(alloc: Global, logs: &Logs, last: &Last) -> Result<Verdict, AllocEr
     Ok(Verdict::Lawful)
 }
 
-/// The fault of each line, or None where a line has none: on each line the first kind that fails. Refused only if a growth
-/// was. It takes the time of an audit. Requires that each entry's line is one of `last`, and its word below 8.
+/// The fault of each line, or None where a line has none: on each line the first kind that fails. The logs are lawful exactly
+/// if no line has one. Refused only if a growth was. It takes the time of an audit. Requires that each entry's line is one of `last`, and its word below 8.
 pub fn line_faults(
     alloc: Global,
     logs: &Logs,
     last: &Last,
 ) -> Result<Vec<Option<LineFault>>, AllocError>
     requires { AreWithin (length last.now) logs.now }
-    ensures { IfOk result (λ faults.
+    ensures found { IfOk result (λ faults.
         AreFound logs.now last.now (length last.now) faults.items) }
+    ensures lawful { IfOk result
+        (λ faults. (list_any is_some faults.items ≡ false) ↔ Lawful logs.now last.now) }
 {
     let lines = last.lines();
     let lists = by_line(alloc, logs, lines)?;

@@ -1,8 +1,8 @@
 //! The command `explain`: what is wrong with a log, line by line, and what would be right.
 
-ghost use Rattle.std.specs.{Prelude.{◌≡◌, ◌+◌, ◌≤◌, ◌<◌, ℕ, List, Option, false, length, IfOk}, List.{flat_map}};
+ghost use Rattle.std.specs.{Prelude.{◌≡◌, ◌+◌, ◌≤◌, ◌<◌, ℕ, List, false, is_some, length, IfOk}, List.{flat_map, list_any}};
 ghost use Rattle.sci_words.specs.declared.limits.TheConstants.{MAX_LINES, MAX_OPERATIONS};
-ghost use Rattle.sci_history.specs.declared.{entry.Entry.{Entry}, faults.LineFault.{LineFault}};
+ghost use Rattle.sci_history.specs.declared.entry.Entry.{Entry};
 ghost use Rattle.sci_history.specs.{Audit.{AreFound, AreWithin}, Placed.{log_of}};
 ghost use Rattle.sci_text.specs.{FirstFault.{IsTold}, LogFault.{IsLogFault}, Tap.{has_failed}};
 ghost use Rattle.sci_command.specs.Answer.{HasAnswered};
@@ -16,7 +16,7 @@ use crate::note::push_finding;
 use crate::numbered::{Numbered, entries_by_line};
 use crate::read_log::ReadLog;
 use sci_command::{Answer, Answered, Outcome, verdict_line};
-use sci_history::{Last, Logs, Verdict, audit, line_faults};
+use sci_history::{Last, LineFault, Verdict, line_faults};
 use sci_text::{Tap, read_input};
 use std::alloc::{AllocError, Global};
 use std::io::Read;
@@ -43,32 +43,32 @@ pub(crate) fn subject_of<'a>(
     }
 }
 
-/// What is found on all lines of memory that have a fault, of a log with this many lines of text before its entries.
+/// What is found on all lines of memory that have a fault, of a log whose lines have these faults.
 fn findings<'a>(
     alloc: Global,
-    before: usize,
-    logs: &'a Logs,
-    last: &Last,
+    log: &'a ReadLog,
+    faults: &[Option<LineFault>],
 ) -> Result<Vec<Finding<'a>>, AllocError>
-    requires within { AreWithin (length last.now) logs.now }
-    requires lines { length last.now ≤ before }
-    requires before { before ≤ MAX_LINES + 1 }
-    requires few { (n : ℕ) → length (log_of logs.now n) ≤ MAX_OPERATIONS }
-    ensures { IfOk result (λ findings. (faults : List (Option LineFault))
-        × AreFound logs.now last.now (length last.now) faults
-        × AreFindings before logs.now last.now 0 faults findings.items) }
+    requires within { AreWithin (length log.now.last.value) log.now.logs }
+    requires lines { length log.now.last.value ≤ log.now.before }
+    requires before { log.now.before ≤ MAX_LINES + 1 }
+    requires few { (n : ℕ) → length (log_of log.now.logs n) ≤ MAX_OPERATIONS }
+    requires found { AreFound log.now.logs log.now.last.value (length log.now.last.value) faults.now }
+    ensures { IfOk result (λ findings.
+        AreFindings log.now.before log.now.logs log.now.last.value 0 faults.now findings.items) }
 {
+    let logs = &log.logs;
+    let last: &Last = &log.last;
     // Read, so that the prover knows that there are sixteen logs, and that each has its own node's entries.
     let _nodes = logs.nodes();
-    let faults = line_faults(alloc, logs, last)?;
-    let mut lists = entries_by_line(alloc, logs, before, last.lines())?;
+    let mut lists = entries_by_line(alloc, logs, log.before, last.lines())?;
     let mut findings = Vec::new(alloc);
     for line in 0..last.lines() {
         let Some(fault) = faults[line as usize] else {
             continue;
         };
         let entries = replace(&mut lists[line as usize], Vec::new(alloc));
-        let subject = subject_of(before, last, line, entries);
+        let subject = subject_of(log.before, last, line, entries);
         let finding = Finding::of(alloc, fault, subject)?;
         findings.push(finding)?;
     }
@@ -108,6 +108,13 @@ fn findings_shown(alloc: Global, json: bool, findings: &[Finding]) -> Result<Vec
     }
 }
 
+/// Whether a line has a fault.
+fn has_fault(faults: &[Option<LineFault>]) -> bool
+    ensures { result ≡ list_any is_some faults.now }
+{
+    faults.iter().any(|fault| fault.is_some())
+}
+
 /// What is written of a log, and how the command ends.
 fn explained(alloc: Global, json: bool, log: &ReadLog) -> Result<Answer, AllocError>
     requires within { AreWithin (length log.now.last.value) log.now.logs }
@@ -117,19 +124,18 @@ fn explained(alloc: Global, json: bool, log: &ReadLog) -> Result<Answer, AllocEr
     ensures { IfOk result (λ x.
         IsExplained json log.now.before log.now.logs log.now.last.value x.text.items x.outcome) }
 {
-    match audit(alloc, &log.logs, &log.last)? {
-        Verdict::Lawful => Ok(Answer {
+    let faults = line_faults(alloc, &log.logs, &log.last)?;
+    if !has_fault(&faults) {
+        return Ok(Answer {
             text: lawful_shown(alloc, json)?,
             outcome: Outcome::Done,
-        }),
-        Verdict::Fault { .. } => {
-            let findings = findings(alloc, log.before, &log.logs, &log.last)?;
-            Ok(Answer {
-                text: findings_shown(alloc, json, &findings)?,
-                outcome: Outcome::Unlawful,
-            })
-        }
+        });
     }
+    let findings = findings(alloc, log, &faults)?;
+    Ok(Answer {
+        text: findings_shown(alloc, json, &findings)?,
+        outcome: Outcome::Unlawful,
+    })
 }
 
 impl ReadLog {

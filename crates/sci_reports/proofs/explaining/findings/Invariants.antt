@@ -5,7 +5,7 @@ use Rattle.sci_reports.proofs.explaining.findings.Given as goal
 -- what is found on the lines so far, and the lists of entries that are left
 abbrev pub invariant-loop-line : goal.invariant-loop-line
 invariant-loop-line l = record {
-  found : AreFindings l.before l.logs l.last 0 (take l.line l.faults.items) l.findings.items;
-  lines : length l.lists.items ≡ length l.last;
-  left : (other : ℕ) → l.line ≤ other → other < length l.last → get_or (numbered_lists l.lists.items) other [] ≡ numbered_on other l.before l.logs;
+  found : AreFindings l.log.before l.log.logs l.log.last.value 0 (take l.line l.faults) l.findings.items;
+  lines : length l.lists.items ≡ length l.log.last.value;
+  left : (other : ℕ) → l.line ≤ other → other < length l.log.last.value → get_or (numbered_lists l.lists.items) other [] ≡ numbered_on other l.log.before l.log.logs;
 }
