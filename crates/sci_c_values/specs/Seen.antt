@@ -1,5 +1,5 @@
 -- What a struct says of a step.
-use Rattle.std.specs.Prelude.{◌≡◌, ℕ, Option, Some, None, replicate}
+use Rattle.std.specs.Prelude.{◌≡◌, Option, Some, None, replicate}
 use Rattle.sci_packets.specs.declared.packet.Packet.{Packet}
 use Rattle.sci_history.specs.declared.entry.Entry.{Entry}
 use Rattle.sci_cache.specs.Cache.{Letter, letter_of}

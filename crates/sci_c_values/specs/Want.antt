@@ -1,20 +1,8 @@
 -- The structs and numbers of what a policy decides.
 use Rattle.std.specs.Prelude.{ℕ, Option, Some, None}
-use Rattle.sci_words.specs.declared.event.AskKind.{AskKind, TheVariants.{Mread, Fread, Cread, Claim, Clear, Purge, Roll, Wback, Setback}}
+use Rattle.sci_words.specs.Event.{ask_number}
 use Rattle.sci_policy.specs.declared.{decision.Decision.{Decision, TheVariants.{Keep, Refuse, Serve}}, want.Want.{Want, TheVariants.{Perform, Ask}}}
 use Rattle.sci_c_values.specs.declared.want.SciWant.{SciWant}
-
--- the number of a kind is its place among all
-abbrev pub ask_number : AskKind → ℕ
-ask_number Mread = 0
-ask_number Fread = 1
-ask_number Cread = 2
-ask_number Claim = 3
-ask_number Clear = 4
-ask_number Purge = 5
-ask_number Roll = 6
-ask_number Wback = 7
-ask_number Setback = 8
 
 abbrev pub want_of : ℕ → ℕ → ℕ → SciWant
 want_of kind line ask = record { kind = kind; line = line; ask = ask; reserved = 0 }

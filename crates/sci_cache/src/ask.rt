@@ -69,7 +69,7 @@ impl HeadState {
 }
 
 impl FreshHead {
-    /// Goes on to await the home's answer to this kind of request, a Claim or a Clear.
+    /// Goes on to await the home's answer to a request of this kind.
     pub(crate) fn ask(self, kind: AskKind) -> Held
         ensures { IfSome (asking (FreshHead_of self.forward self.contents) kind)
             (λ asked. state_of result ≡ asked.next) }

@@ -279,7 +279,7 @@ impl Node {
 
     /// Serves a request: its answer waits then. False, unchanged, if an answer waits already.
     /// Requires that the request is for this node and about a line of the machine, and that the home of the
-    /// line is here if it is an Mread, Fread, Claim, Clear or Wback.
+    /// line is here if the request is one for a home.
     pub fn serve(&mut self, request: &Packet) -> bool
         requires { IsServable self.old (letter_of request.now) }
         ensures served { IsTrue result →

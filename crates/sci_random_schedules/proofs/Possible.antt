@@ -2,7 +2,8 @@
 use Rattle.std.proofs.Common.{◌≡◌, ◌<◌, ◌≤◌, ◌+◌, ◌-◌, ◌*◌, ◌/◌, ◌%◌, ℕ, zero, suc, Bool, true, false, length, Option, Some, None, refl, sym, ap, subst, ◌∙◌}
 use Rattle.std.proofs.{Common.{arith, inl, inr}, Math.{Arith.{digits_div, digits_mod}, Nat.{mod-eq_of_lt}}, lemmas.Bool.{cases_lt, le-ltb, lt-ltb}}
 use Rattle.std.specs.Prelude.{◌⊎◌, IsSome, nat_lt, slice_index_or}
-use Rattle.sci_words.specs.declared.event.{AskKind.{AskKind}, Event.{Event}, TheConstants.AskKind.{ALL}}
+use Rattle.sci_words.specs.{declared.event.{AskKind.{AskKind}, Event.{Event}, TheConstants.AskKind.{ALL}}, Event.{ask_number}}
+use Rattle.sci_statistics.proofs.Counts.{ask_small}
 use Rattle.sci_cache.specs.{Cache.{Letter}, State.{Out}}
 use Rattle.sci_core.proofs.Basics.Options.{found}
 use Rattle.sci_core.proofs.Settling.{Emptying.{next_lowers}, EmptyRuns.{all_out_beyond}, Moves.{accept_found, nothing_found, reply_found, serve_found}}
@@ -16,45 +17,15 @@ use Rattle.sci_random_schedules.specs.Walking.{IsFound, looked_for, moved_to, pa
 use Rattle.sci_words.specs.declared.event.AskKind.TheVariants as kind
 use Rattle.sci_words.specs.declared.event.Event.TheVariants as event
 
--- the place of a kind among all
-abbrev place_of : AskKind → ℕ
-place_of kind.Mread = 0
-place_of kind.Fread = 1
-place_of kind.Cread = 2
-place_of kind.Claim = 3
-place_of kind.Clear = 4
-place_of kind.Purge = 5
-place_of kind.Roll = 6
-place_of kind.Wback = 7
-place_of kind.Setback = 8
-
-kind_at : (ask : AskKind) → slice_index_or ALL (place_of ask) kind.Mread ≡ ask
+kind_at : (ask : AskKind) → slice_index_or ALL (ask_number ask) kind.Mread ≡ ask
 kind_at kind.Mread = refl
-kind_at kind.Fread = refl
-kind_at kind.Cread = refl
-kind_at kind.Claim = refl
-kind_at kind.Clear = refl
-kind_at kind.Purge = refl
-kind_at kind.Roll = refl
-kind_at kind.Wback = refl
-kind_at kind.Setback = refl
-
-is_one_of_nine : (ask : AskKind) → place_of ask < 9
-is_one_of_nine kind.Mread = omega arith
-is_one_of_nine kind.Fread = omega arith
-is_one_of_nine kind.Cread = omega arith
-is_one_of_nine kind.Claim = omega arith
-is_one_of_nine kind.Clear = omega arith
-is_one_of_nine kind.Purge = omega arith
-is_one_of_nine kind.Roll = omega arith
-is_one_of_nine kind.Wback = omega arith
-is_one_of_nine kind.Setback = omega arith
+kind_at _ = refl
 
 -- where each event is looked for
-ask_at : (lines line : ℕ) (ask : AskKind) → line < lines → looked_for lines (line * 9 + place_of ask) ≡ event.Ask 0 line ask
+ask_at : (lines line : ℕ) (ask : AskKind) → line < lines → looked_for lines (line * 9 + ask_number ask) ≡ event.Ask 0 line ask
 ask_at lines line ask inside =
-    let small = is_one_of_nine ask in
-    let within : nat_lt (line * 9 + place_of ask) (9 * lines) ≡ true = lt-ltb (line * 9 + place_of ask) (9 * lines) (omega arith) in
+    let small = ask_small ask in
+    let within : nat_lt (line * 9 + ask_number ask) (9 * lines) ≡ true = lt-ltb (line * 9 + ask_number ask) (9 * lines) (omega arith) in
     rw (within, digits_div line small, digits_mod line small, kind_at ask) refl
 
 passing_at : (lines from sort : ℕ) → sort < 3 → looked_for lines (9 * lines + (from * 3 + sort)) ≡ passing from sort
@@ -86,8 +57,8 @@ module _ (core : Core) (reached : IsReached core)
 
   no_ask : (n line : ℕ) (ask : AskKind) → n < core.size.nodes → line < core.size.lines → stepping core (event.Ask n line ask) ≡ None
   no_ask n line ask below inside =
-      let small = is_one_of_nine ask in
-      nowhere (line * 9 + place_of ask) n (event.Ask 0 line ask) (omega arith) (ask_at core.size.lines line ask inside) refl below
+      let small = ask_small ask in
+      nowhere (line * 9 + ask_number ask) n (event.Ask 0 line ask) (omega arith) (ask_at core.size.lines line ask inside) refl below
 
   no_serve : (from n : ℕ) → from < core.size.nodes → n < core.size.nodes → stepping core (event.Serve from n) ≡ None
   no_serve from n f below =

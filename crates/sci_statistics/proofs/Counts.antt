@@ -4,12 +4,12 @@ use Rattle.std.proofs.Common.{length, min, get_or, set, arith, sym, ap, refl, �
 use Rattle.std.proofs.Common.{◌≢◌, length-set, subst}
 use Rattle.std.proofs.lemmas.Bool.{eqb-true, eqb-false}
 use Rattle.std.specs.Prelude.{cond}
-use Rattle.sci_words.specs.declared.event.AskKind.{AskKind}
+use Rattle.sci_words.specs.{declared.event.AskKind.{AskKind}, Event.{ask_number}}
 use Rattle.sci_packets.specs.declared.command.Command.{Command}
 use Rattle.sci_statistics.specs.declared.kind.Access.{Access}
 use Rattle.sci_statistics.specs.declared.transition.{Met.{Met}, StateKind.{StateKind}, Transition.{Transition}}
 use Rattle.sci_statistics.specs.{Kinds.{access_place}, Coverage.{capped}}
-use Rattle.sci_statistics.specs.Transitions.{ask_place, command_place, met_place, state_place, transition_place}
+use Rattle.sci_statistics.specs.Transitions.{command_place, met_place, state_place, transition_place}
 use Rattle.sci_packets.specs.declared.command.Command.TheVariants as command
 use Rattle.sci_statistics.specs.declared.kind.Access.TheVariants as access
 use Rattle.sci_statistics.specs.declared.transition.Met.TheVariants as met
@@ -22,7 +22,7 @@ pub state_small : (state : StateKind) → state_place state ≤ 16
 state_small kind.Out = omega arith
 state_small _ = omega arith
 
-pub ask_small : (kind : AskKind) → ask_place kind ≤ 8
+pub ask_small : (kind : AskKind) → ask_number kind ≤ 8
 ask_small ask.Mread = omega arith
 ask_small _ = omega arith
 

@@ -1,10 +1,11 @@
 -- Two transitions have two places.
 use Rattle.std.proofs.Common.{◌≡◌, arith, refl, rules, ap, ◌∙◌, sym}
-use Rattle.std.specs.Prelude.{List, [], ◌∷◌, get_or}
-use Rattle.sci_words.specs.declared.event.AskKind.{AskKind}
+use Rattle.std.specs.Prelude.{ℕ, ◌+◌, ◌-◌, nat_lt, if◌then◌else◌, get_or, Some}
+use Rattle.sci_words.specs.{declared.event.AskKind.{AskKind}, Event.{ask_number}}
+use Rattle.sci_packets.specs.Table.{command_with}
 use Rattle.sci_packets.specs.declared.command.Command.{Command}
 use Rattle.sci_statistics.specs.declared.{kind.Access.{Access}, transition.{Met.{Met}, StateKind.{StateKind}, Transition.{Transition}}}
-use Rattle.sci_statistics.specs.{Kinds.{access_place}, Transitions.{ask_place, command_place, met_place, state_place, transition_place}}
+use Rattle.sci_statistics.specs.{Kinds.{access_place}, Transitions.{command_place, met_place, state_place, transition_place}}
 use Rattle.sci_statistics.specs.declared.transition.TheConstants.StateKind.{ALL as all_states}
 use Rattle.sci_words.specs.declared.event.TheConstants.AskKind.{ALL as all_asks}
 use Rattle.sci_packets.specs.declared.command.Command.TheVariants as command
@@ -21,25 +22,24 @@ state_at _ = refl
 one_state : (s t : StateKind) → state_place s ≡ state_place t → s ≡ t
 one_state s t same = sym (state_at s) ∙ (ap (λ k. get_or all_states k kind.Out) same ∙ state_at t)
 
-ask_at : (s : AskKind) → get_or all_asks (ask_place s) ask.Mread ≡ s
+ask_at : (s : AskKind) → get_or all_asks (ask_number s) ask.Mread ≡ s
 ask_at ask.Mread = refl
 ask_at _ = refl
 
-one_ask : (s t : AskKind) → ask_place s ≡ ask_place t → s ≡ t
+one_ask : (s t : AskKind) → ask_number s ≡ ask_number t → s ≡ t
 one_ask s t same = sym (ask_at s) ∙ (ap (λ k. get_or all_asks k ask.Mread) same ∙ ask_at t)
 
--- the commands in the order of their places
-abbrev commands : List Command
-commands = command.Mread ∷ command.Cread ∷ command.Purge ∷ command.Roll ∷ command.Wback ∷ command.Setback ∷ command.Fread ∷ command.Claim ∷ command.Clear
-    ∷ command.Mdata ∷ command.Mgone ∷ command.Cdata ∷ command.Purged ∷ command.Rolled ∷ command.Wbok ∷ command.Wbno ∷ command.Told ∷ command.Busy
-    ∷ command.Fdata ∷ []
+-- the number of the command at a place
+abbrev number_at : ℕ → ℕ
+number_at place = if nat_lt place 9 then place + 1 else place + 0x101 - 9
 
-command_at : (s : Command) → get_or commands (command_place s) command.Mread ≡ s
+command_at : (s : Command) → command_with (number_at (command_place s)) ≡ Some s
+unfolding command_with
 command_at command.Mread = refl
 command_at _ = refl
 
 one_command : (s t : Command) → command_place s ≡ command_place t → s ≡ t
-one_command s t same = sym (command_at s) ∙ (ap (λ k. get_or commands k command.Mread) same ∙ command_at t)
+one_command s t same = let one : Some s ≡ Some t = sym (command_at s) ∙ (ap (λ k. command_with (number_at k)) same ∙ command_at t) in cc
 
 one_access : (s t : Access) → access_place s ≡ access_place t → s ≡ t
 one_access access.Load access.Load same = refl

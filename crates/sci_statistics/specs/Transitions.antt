@@ -3,7 +3,7 @@ use Rattle.std.specs.Prelude.{ℕ, ◌+◌, ◌-◌, ◌*◌, ◌==◌, nat_lt, 
 use Rattle.std.specs.Prelude.{Some, None}
 use Rattle.std.specs.List.{flat_map, list_any}
 use Rattle.sci_words.specs.declared.{event.AskKind.{AskKind}, operation.{Op.{Op}, Act.TheVariants.{Load, Store}}}
-use Rattle.sci_words.specs.Stamped.{zero_stamped}
+use Rattle.sci_words.specs.{Event.{ask_number}, Stamped.{zero_stamped}}
 use Rattle.sci_packets.specs.{declared.{body.Body.{Body}, command.Command.{Command}}, Table.{command_number}}
 use Rattle.sci_home.specs.{declared.state.HomeState.{HomeState}, Serving.{home_serving}}
 use Rattle.sci_cache.specs.State.{CacheState, Out, Asking, Joining, FreshJoining, Head, FreshHead, Below, Purging, Claiming, Clearing, Returning, Rolling}
@@ -18,7 +18,6 @@ use Rattle.sci_packets.specs.declared.command.Command.TheVariants as command
 use Rattle.sci_statistics.specs.declared.kind.Access.TheVariants as access
 use Rattle.sci_statistics.specs.declared.transition.Met.TheVariants as met
 use Rattle.sci_statistics.specs.declared.transition.StateKind.TheVariants as kind
-use Rattle.sci_words.specs.declared.event.AskKind.TheVariants as ask
 
 -- ---- states
 
@@ -172,23 +171,12 @@ state_place kind.Home = 14
 state_place kind.Fresh = 15
 state_place kind.Gone = 16
 
-abbrev pub ask_place : AskKind → ℕ
-ask_place ask.Mread = 0
-ask_place ask.Fread = 1
-ask_place ask.Cread = 2
-ask_place ask.Claim = 3
-ask_place ask.Clear = 4
-ask_place ask.Purge = 5
-ask_place ask.Roll = 6
-ask_place ask.Wback = 7
-ask_place ask.Setback = 8
-
 -- the requests, and behind them the answers
 abbrev pub command_place : Command → ℕ
 command_place command = if nat_lt (command_number command) 0x100 then command_number command - 1 else command_number command - 0x101 + 9
 
 abbrev pub met_place : Met → ℕ
-met_place (met.Ask kind) = ask_place kind
+met_place (met.Ask kind) = ask_number kind
 met_place (met.Serve request) = 9 + command_place request
 met_place (met.Accept answer) = 28 + command_place answer
 met_place (met.Perform access) = 47 + access_place access

@@ -16,6 +16,18 @@ kind_word Roll = codes "roll"
 kind_word Wback = codes "wback"
 kind_word Setback = codes "setback"
 
+-- the number of a kind of requests, its place among all
+abbrev pub ask_number : AskKind → ℕ
+ask_number Mread = 0
+ask_number Fread = 1
+ask_number Cread = 2
+ask_number Claim = 3
+ask_number Clear = 4
+ask_number Purge = 5
+ask_number Roll = 6
+ask_number Wback = 7
+ask_number Setback = 8
+
 abbrev pub kind_of : Event → EventKind
 kind_of (event.Issue n op) = Issue
 kind_of (event.Perform n line) = Perform
