@@ -19,11 +19,6 @@ use Rattle.sci_text.proofs.Words.{after_again, after_found}
 use Rattle.sci_text.proofs.Operations.{fitting_is, mapped, number_as, number_made, both_is, byte_is, bind_some, pair_again, pair_found, command_of}
 use Rattle.sci_text.proofs.Operations.{command_again, OpFits, operation_again, operation_found}
 
--- the same value under a condition that says the same
-pub some_iff_as : {A : Type 0} (P Q : Type 0) (o : Option A) (x : A) → (P → Q) → (Q → P) → SomeIff o P x → SomeIff o Q x
-some_iff_as P Q None x f g h = λ q. h (g q)
-some_iff_as P Q (Some y) x f g h = (f h.0, h.1)
-
 -- ---- versions
 
 pub ends_version : (version : ℕ) (rest : List ℕ) → Ends (version_text version ++ rest)
