@@ -24,7 +24,8 @@ kind_at _ = refl
 -- where each event is looked for
 ask_at : (lines line : ℕ) (ask : AskKind) → line < lines → looked_for lines (line * 9 + ask_number ask) ≡ event.Ask 0 line ask
 ask_at lines line ask inside =
-    let small = ask_small ask in
+    let few = ask_small ask in
+    let small : ask_number ask < 9 = omega (arith, few) in
     let within : nat_lt (line * 9 + ask_number ask) (9 * lines) ≡ true = lt-ltb (line * 9 + ask_number ask) (9 * lines) (omega arith) in
     rw (within, digits_div line small, digits_mod line small, kind_at ask) refl
 
@@ -57,7 +58,7 @@ module _ (core : Core) (reached : IsReached core)
 
   no_ask : (n line : ℕ) (ask : AskKind) → n < core.size.nodes → line < core.size.lines → stepping core (event.Ask n line ask) ≡ None
   no_ask n line ask below inside =
-      let small = ask_small ask in
+      let few = ask_small ask in
       nowhere (line * 9 + ask_number ask) n (event.Ask 0 line ask) (omega arith) (ask_at core.size.lines line ask inside) refl below
 
   no_serve : (from n : ℕ) → from < core.size.nodes → n < core.size.nodes → stepping core (event.Serve from n) ≡ None
