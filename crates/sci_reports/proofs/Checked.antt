@@ -60,9 +60,7 @@ pub script_said : (readings : Readings) (size : TextSize) → readings.script �
 script_said readings size is e = said_some Script size readings.script (said_of Schedule readings.schedule ++ said_of Log readings.log) is e
 
 pub schedule_said : (readings : Readings) (size : TextSize) → readings.schedule ≡ Size size → known_text readings ≡ [] → ⊥
-schedule_said readings size is e =
-    said_some Schedule size readings.schedule (said_of Log readings.log) is
-    (right_nil (said_of Script readings.script) (said_of Schedule readings.schedule ++ said_of Log readings.log) e)
+schedule_said readings size is e = grind (arith, said_some, right_nil)
 
 pub log_said : (readings : Readings) (size : TextSize) → readings.log ≡ Size size → known_text readings ≡ [] → ⊥
 log_said readings size is e = grind (arith, right_nil, said_some, append-nil)
@@ -164,9 +162,7 @@ pub checked_answers : (known : Option (List ℕ)) (failed : Bool) (bytes slice :
     → IfErr result (λ refusal. IsRefusal IsLastFault slice refusal.fault) → IsAnswered IsCheckAnswer (IsTold IsLastFault) known failed result
 checked_answers known failed bytes slice (Ok x) ok read same checked refused =
     (λ is. (let apart = checked.0 in cc), rw checked.0 (ok, (bytes, read, subst (λ (i : List ℕ). IsKnown i x.text.items) same checked.1)))
-checked_answers known failed bytes slice (Err refusal) ok read same checked refused =
-    let result : Result Answer Refusal = Err refusal in
-    answer_refused IsCheckAnswer IsLastFault known failed bytes result ok read refl (subst (λ (i : List ℕ). IsRefusal IsLastFault i refusal.fault) same refused)
+checked_answers known failed bytes slice (Err refusal) ok read same checked refused = grind (arith, answer_refused)
 
 -- ---- counting entries
 

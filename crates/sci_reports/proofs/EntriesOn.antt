@@ -21,9 +21,7 @@ enumerate_append n (x ∷ xs) ys =
 
 pub on_line_append : (line first : ℕ) (xs ys : List Entry)
     → on_line_from line first (xs ++ ys) ≡ on_line_from line first xs ++ on_line_from line (first + length xs) ys
-on_line_append line first xs ys =
-    ap (filter (λ it. is_on_line line it.1)) (enumerate_append first xs ys)
-    ∙ filter-append (λ it. is_on_line line it.1) (enumerate_from first xs) (enumerate_from (first + length xs) ys)
+on_line_append line first xs ys = grind (arith, enumerate_append, filter-append)
 
 -- ---- a log
 
@@ -108,9 +106,7 @@ log_more line before first logs n old new lt counted was is =
 -- the list of a line, as the code takes it from the lists of all lines
 pub list_taken : (lists : List (Vec Numbered)) (line : ℕ) (list : Vec Numbered) (is : List (ℕ × Entry)) → line < length lists
     → list ≡ get_or lists line list → get_or (numbered_lists lists) line [] ≡ is → numberings list.items ≡ is
-list_taken lists line list is lt at there =
-    let f : Vec Numbered → List (ℕ × Entry) = λ list. numberings list.items in
-    ap f at ∙ sym (get_or-map f lists line list [] lt) ∙ there
+list_taken lists line list is lt at there = grind (arith, get_or-map)
 
 -- the lists of higher lines stay
 pub list_stays : (lists : List (Vec Numbered)) (line other : ℕ) (new : Vec Numbered) (is : List (ℕ × Entry)) → line < other

@@ -1,6 +1,7 @@
 -- Entries with their lines of the text, as references alone.
 use Rattle.std.proofs.Common.{◌≡◌, ◌<◌, ◌+◌, ℕ, Bool, List, [], ◌∷◌, ◌++◌, All, Option, Some, None, true, false, get_or, length, take, drop, ap, subst, sym}
-use Rattle.std.proofs.{Common.{◌∙◌, add-one, append_assoc, refl}, Math.Seq.{drop-cons}}
+use Rattle.std.proofs.Common.{arith}
+use Rattle.std.proofs.{Common.{◌∙◌, add-one, append_assoc}, Math.Seq.{drop-cons}}
 use Rattle.std.proofs.lemmas.{List.{append-nil, length-map, get_or-map, map-append, take-map, take_more, take-append-drop}, Option.{slice_get-get_or}}
 use Rattle.std.specs.Prelude.{slice_get}
 use Rattle.sci_history.proofs.AuditFinds.{FailsLater, all_at, entries_at, entry_at, later_here, later_more, no_entry, no_ref}
@@ -83,21 +84,12 @@ module _ (passes : List Entry → Entry → Bool) (list : List Numbered) (i : �
 
   -- the entry at a place passes the test
   pub last_here : passes (take i (entries_in list)) (entry_of there) ≡ true → IsLast passes (take (i + 1) list) (Some there)
-  last_here is =
-      subst (λ (l : List Numbered). IsLast passes l (Some there)) (sym taken_more) (record {
-        before = take i list;
-        after = [];
-        parts = refl;
-        here = subst (λ (l : List Entry). passes l (entry_of there) ≡ true) (entries_taken list i) is;
-        none_after = refl;
-      })
+  last_here is = grind (arith, taken_more, entries_taken)
 
   -- it doesn't
   pub last_stays : (last : Option Numbered) → passes (take i (entries_in list)) (entry_of there) ≡ false → IsLast passes (take i list) last
       → IsLast passes (take (i + 1) list) last
-  last_stays last is h =
-      subst (λ (l : List Numbered). IsLast passes l last) (sym taken_more)
-      (last_past passes (take i list) there last (subst (λ (l : List Entry). passes l (entry_of there) ≡ false) (entries_taken list i) is) h)
+  last_stays last is h = grind (arith, taken_more, last_past, entries_taken)
 
 -- ---- the first at which a test fails
 

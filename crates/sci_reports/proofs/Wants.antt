@@ -1,15 +1,14 @@
 -- The cause of a wrong reply is another word.
-use Rattle.std.proofs.Common.{◌≡◌, ℕ, suc, ◌<◌, List, [], Option, Some, None, sym, ap, subst, ◌∙◌, arith, refl}
-use Rattle.std.specs.Prelude.{All, option_map}
+use Rattle.std.proofs.Common.{◌≡◌, ℕ, List, Option, Some, None, sym, ap, subst, ◌∙◌, arith, refl}
+use Rattle.std.specs.Prelude.{option_map}
 use Rattle.sci_words.specs.declared.stamped.Stamped.{Stamped}
 use Rattle.sci_history.specs.declared.{entry.Entry.{Entry}, verdict.FaultKind.TheVariants.{WrongReply}}
-use Rattle.sci_history.specs.Audit.{IsFault, Names, first_failing, first_wrong, is_reply_wrong}
-use Rattle.sci_history.specs.Placed.{maker_count, on_line, placed_entries}
+use Rattle.sci_history.specs.Audit.{IsFault, Names}
 use Rattle.sci_history.proofs.AuditLines.{versions_low}
 use Rattle.sci_reports.specs.declared.faulty.{Cause.{Cause}, FaultyEntry.{FaultyEntry}}
 use Rattle.sci_reports.specs.declared.faulty.Cause.TheVariants.{MadeBefore, FewMakers, OtherWord, SerialAfter, PlacedAfter}
 use Rattle.sci_reports.specs.declared.{finding.Finding.{Finding}, numbered.Numbered.{Numbered}, wanted.Wanted.{Wanted}}
-use Rattle.sci_reports.specs.{EntryLines.{entries_in, entry_of}, Faulty.{IsOtherWord, faulty}, Finding.{IsFinding}, Subject.{IsSubject}}
+use Rattle.sci_reports.specs.{EntryLines.{entry_of}, Faulty.{IsOtherWord, faulty}, Finding.{IsFinding}, Subject.{IsSubject}}
 use Rattle.sci_reports.specs.Wanted.{IsWanted, wanted_by, wanted_by_cause}
 use Rattle.sci_reports.proofs.EntriesOn.{entries_on_line}
 
@@ -28,16 +27,7 @@ named_by found named none h = subst (λ (o : Option Entry). Names o named) none 
 is_found : (before line : ℕ) (logs : List (List Entry)) (last : List Stamped) (named : Option (ℕ × ℕ)) (finding : Finding)
     → IsFault logs last line WrongReply named → IsSubject before logs last line finding.subject
     → IsFinding (record { kind = WrongReply; at = named }) finding → finding.found ≡ None → ⊥
-is_found before line logs last named finding fault subject is none =
-    let es = on_line line logs in
-    let entries : entries_in finding.subject.entries.items ≡ es = entries_on_line line before logs finding.subject.entries.items subject.entries in
-    let low = versions_low es (sym fault.fault.1) in
-    let below : All (λ (e : Entry). e.version < suc (maker_count es)) es = λ k d lt. omega (arith, low k d lt) in
-    let placed : entries_in finding.placed.items ≡ placed_entries es =
-    (rw entries at is.are.order) (suc (maker_count es)) below in
-    let first : first_wrong es ≡ None =
-    ap (first_failing is_reply_wrong []) (sym placed) ∙ (sym is.at_fault ∙ ap (option_map faulty) none) in
-    named_by (first_wrong es) named first fault.fault.2
+is_found before line logs last named finding fault subject is none = grind (arith, entries_on_line, versions_low, named_by)
 
 pub wants : (before line : ℕ) (logs : List (List Entry)) (last : List Stamped) (named : Option (ℕ × ℕ)) (finding : Finding) (found : Option FaultyEntry)
     → IsFault logs last line WrongReply named → IsSubject before logs last line finding.subject

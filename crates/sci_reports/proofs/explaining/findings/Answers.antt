@@ -41,14 +41,4 @@ loop-line-preserved c =
     }
 
 pub loop-line-preserved-in_default : goal.loop-line-preserved-in_default
-loop-line-preserved-in_default c =
-    let faults = c.args.faults.now in
-    let was = c.loop-line.invariant in
-    let same : length c.deref-last.result.now ≡ length c.args.log.now.last.value = ap (λ (l : List Stamped). length l) c.deref-last.ensures in
-    let within : c.loop-line.line < length faults = omega (arith, same, c.requires.found.many, c.loop-line-test.true) in
-    let found = sym c.in_default.is in
-    record {
-      found = line_past c.args.log.now.before c.args.log.now.logs c.args.log.now.last.value faults c.loop-line.line c.loop-line.findings.items within was.found found;
-      lines = was.lines;
-      left = λ other above below. was.left other (omega (arith, above)) below;
-    }
+loop-line-preserved-in_default c = grind (arith, line_past)

@@ -1,10 +1,10 @@
-use Rattle.std.proofs.Common.{◌≡◌, ◌<◌, Option, Some, None, true, false, arith, ap, get_or, inl, inr, length, set, subst, sym, take, ◌∙◌, ◌+◌}
+use Rattle.std.proofs.Common.{◌≡◌, ◌<◌, Option, Some, None, false, arith, ap, get_or, inl, inr, length, set, subst, sym, take, ◌∙◌, ◌+◌}
 use Rattle.std.proofs.lemmas.{Bool.{cases_eq, eq-eqb, ne_eqb}, List.{get_or-set_same, get_or-set_other, get_or_default, length-set}}
 use Rattle.std.specs.Prelude.{option_map}
 use Rattle.sci_words.specs.declared.limits.TheConstants.{MAX_NODES}
 use Rattle.sci_history.specs.{declared.entry.Entry.{Entry}, Audit.{breaks_order, is_out_of_order}}
 use Rattle.sci_history.proofs.AuditFinds.{latest_other, latest_own}
-use Rattle.sci_reports.specs.{declared.numbered.Numbered.{Numbered}, EntryLines.{entries_in, entry_of, entry_refs}, Faulty.{IsDisorder, IsLast, is_by}}
+use Rattle.sci_reports.specs.{EntryLines.{entries_in, entry_of, entry_refs}, Faulty.{IsLast, is_by}}
 use Rattle.sci_reports.proofs.FoundEntries.{all_so, fails_here, fails_later, last_here, last_stays, no_numbered, ref_at, stands_first, within_refs}
 use Rattle.sci_reports.proofs.faulty.disordered.Goals as goal
 
@@ -19,37 +19,10 @@ loop-at-preserved-then-node-ge-NODES c =
     }
 
 pub returns-in-Some-clause-first : goal.returns-in-Some-clause-first
-returns-in-Some-clause-first c = λ within.
-    let list = c.args.entries.now in
-    let i = c.loop-at.at-index in
-    let at = (get_or list i no_numbered).entry.now in
-    let below = all_so (λ entry. entry.node < MAX_NODES) list i c.loop-at-test.true within in
-    let seen = c.loop-at.invariant.latest within at.node below in
-    let long : at.node < length c.loop-at.latest = omega (arith, below, c.loop-at.invariant.sixteen) in
-    let told = rw c.from-node.ensures at c.in-Some.ensures.breaks in
-    let same = get_or_default c.loop-at.latest at.node c.index-latest-node.result None long in
-    let here : is_out_of_order (take i (entries_in list)) at ≡ true =
-    ap (λ (o : Option Entry). breaks_order o at) (sym seen ∙ ap (option_map entry_of) (sym same)) ∙ sym told in
-    fails_here is_out_of_order list i c.loop-at-test.true (c.loop-at.invariant.ordered within) here
+returns-in-Some-clause-first c = grind (arith, no_numbered, all_so, get_or_default, fails_here)
 
 pub returns-in-Some-clause-cause : goal.returns-in-Some-clause-cause
-returns-in-Some-clause-cause c = λ within.
-    let list = c.args.entries.now in
-    let i = c.loop-at.at-index in
-    let at = (get_or list i no_numbered).entry.now in
-    let below = all_so (λ entry. entry.node < MAX_NODES) list i c.loop-at-test.true within in
-    let seen = c.loop-at.invariant.latest within at.node below in
-    let long : at.node < length c.loop-at.latest = omega (arith, below, c.loop-at.invariant.sixteen) in
-    let told = rw c.from-node.ensures at c.in-Some.ensures.breaks in
-    let same = get_or_default c.loop-at.latest at.node c.index-latest-node.result None long in
-    let here : is_out_of_order (take i (entries_in list)) at ≡ true =
-    ap (λ (o : Option Entry). breaks_order o at) (sym seen ∙ ap (option_map entry_of) (sym same)) ∙ sym told in
-    let why = subst (λ (o : Option Numbered). IsDisorder o at c.in-Some.cause) same (rw c.from-node.ensures at c.in-Some.ensures.cause) in
-    record {
-      before = take i list;
-      first = stands_first is_out_of_order list i c.loop-at-test.true (c.loop-at.invariant.ordered within) here;
-      cause = (get_or c.loop-at.latest at.node None, c.loop-at.invariant.earlier within at.node below, why);
-    }
+returns-in-Some-clause-cause c = grind (arith, no_numbered, all_so, get_or_default, stands_first)
 
 pub loop-at-preserved : goal.loop-at-preserved
 loop-at-preserved c =

@@ -1,6 +1,6 @@
 use Rattle.std.proofs.Common.{◌≡◌, Some, true, false, arith, ap, get_or, inl, inr, refl, sym, subst, take, ◌+◌, ◌∙◌}
 use Rattle.std.proofs.lemmas.{Bool.{cases_eq, Decides.{nat_tests}}, Grind.{common_steps}}
-use Rattle.std.specs.{BTreeMap.{get}, Option.{option_copied}, Ordering.{nat_cmp}}
+use Rattle.std.specs.{BTreeMap.{get}, Ordering.{nat_cmp}}
 use Rattle.sci_history.specs.{declared.entry.Entry.{Entry}, Placed.{is_making, makes}, Audit.{is_version_twice}}
 use Rattle.sci_history.proofs.AuditFinds.{made_more}
 use Rattle.sci_reports.specs.{EntryLines.{entries_in, entry_refs}, Faulty.{IsLast, is_made}}
@@ -26,12 +26,7 @@ loop-at-preserved-then-not-is_maker c =
     }
 
 pub returns-in-Some-clause-first : goal.returns-in-Some-clause-first
-returns-in-Some-clause-first c =
-    let list = c.args.entries.now in
-    let i = c.loop-at.at-index in
-    let made = c.loop-at.invariant.made (get_or list i no_numbered).entry.now.version in
-    let here : is_version_twice (take i (entries_in list)) (get_or list i no_numbered).entry.now ≡ true = grind (arith, common_steps) in
-    fails_here is_version_twice list i c.loop-at-test.true c.loop-at.invariant.once here
+returns-in-Some-clause-first c = grind (arith, no_numbered, common_steps, fails_here)
 
 pub loop-at-preserved : goal.loop-at-preserved
 loop-at-preserved c =
@@ -63,17 +58,4 @@ loop-at-preserved c =
     }
 
 pub returns-in-Some-clause-cause : goal.returns-in-Some-clause-cause
-returns-in-Some-clause-cause c =
-    let list = c.args.entries.now in
-    let i = c.loop-at.at-index in
-    let at = get_or list i no_numbered in
-    let version = at.entry.now.version in
-    let made = c.loop-at.invariant.made version in
-    let got : get nat_cmp c.loop-at.made version ≡ Some c.in-Some.earlier.now = sym c.get.ensures.value ∙ ap option_copied c.in-Some.is in
-    let here : is_version_twice (take i (entries_in list)) at.entry.now ≡ true = grind (arith, common_steps) in
-    let earlier = subst (IsLast (is_made version) (take i list)) got (c.loop-at.invariant.earlier version) in
-    record {
-      before = take i list;
-      first = stands_first is_version_twice list i c.loop-at-test.true c.loop-at.invariant.once here;
-      cause = earlier;
-    }
+returns-in-Some-clause-cause c = grind (arith, no_numbered, common_steps, stands_first)

@@ -1,4 +1,4 @@
-use Rattle.std.proofs.Common.{◌≡◌, ◌<◌, ℕ, List, Some, None, true, false, arith, rules, ap, get_or, length, take, ◌∙◌, sym}
+use Rattle.std.proofs.Common.{◌≡◌, ◌<◌, ℕ, List, None, true, false, arith, rules, ap, get_or, length, take, ◌∙◌, sym}
 use Rattle.std.proofs.lemmas.{List.{get_or_default}}
 use Rattle.std.proofs.lemmas.Grind.{common_steps}
 use Rattle.std.specs.Prelude.{◌==◌, ◌||◌, not, slice_index}
@@ -23,23 +23,10 @@ loop-at-preserved-then-word-ge-WORDS_PER_LINE c =
     }
 
 pub returns-then-not-answers-clause-first : goal.returns-then-not-answers-clause-first
-returns-then-not-answers-clause-first c = λ within.
-    let list = c.args.placed.now in
-    let i = c.loop-at.at-index in
-    let words = c.loop-at.invariant.words within in
-    let here : is_reply_wrong (take i (entries_in list)) (get_or list i no_numbered).entry.now ≡ true = grind (arith, common_steps) in
-    fails_here is_reply_wrong list i c.loop-at-test.true (c.loop-at.invariant.right within) here
+returns-then-not-answers-clause-first c = grind (arith, no_numbered, common_steps, fails_here)
 
 pub returns-then-not-answers-clause-word : goal.returns-then-not-answers-clause-word
-returns-then-not-answers-clause-word c = λ within.
-    let list = c.args.placed.now in
-    let i = c.loop-at.at-index in
-    record {
-      place = i;
-      stands = stands_at list i c.loop-at-test.true;
-      word = ap Some (c.word-old.ensures.word
-          ∙ ap (λ (l : List ℕ). slice_index l (get_or list i no_numbered).entry.now.op.word) (c.loop-at.invariant.words within));
-    }
+returns-then-not-answers-clause-word c = grind (arith, stands_at, no_numbered)
 
 pub returns-then-not-answers-clause-cause : goal.returns-then-not-answers-clause-cause
 returns-then-not-answers-clause-cause c = λ within.
