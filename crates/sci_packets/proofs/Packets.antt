@@ -19,14 +19,7 @@ use Rattle.sci_packets.proofs.Fields.{IsBytes, length-word_bytes, length-words_a
 use Rattle.sci_packets.proofs.Headers.{IsHeader, length-spelled, spelled-append, header_takes, header_cancel, header_in-fits}
 
 pub header_fits : (p : Packet) → IsPacket p → IsHeader (header_of p)
-header_fits p h = record {
-  target = omega (arith, h.target);
-  command = number-lt (command_of p.body);
-  source = omega (arith, h.source);
-  control = h.control;
-  offset = omega (arith, p.low_line);
-  identifier = number_of-lt (parts_of p.body).identifier h.identifier;
-}
+header_fits p h = grind (arith, number-lt, number_of-lt)
 
 -- a line's number with its bound
 abbrev Line : Type 0
@@ -105,12 +98,7 @@ length-spelling p h = grind (arith, length-spelled, length-contents, sixteen)
 pub body_known : (p : Packet) (length : ℕ) → IsPacket p → cond (is_some (parts_of p.body).contents) 88 16 ≤ length
     → body_fault (command_of p.body) (parts_of p.body).identifier length ≡ None
 unfolding body_fault
-body_known p length h long =
-    rw (is_named p.body, has_contents p.body) (elim (is_some (parts_of p.body).contents) as (λ b. cond b 88 16 ≤ length
-    → cond (b && ltb length 88) (Some Short) None ≡ None) [
-      | true ↦ λ le. rw (le-ltb length 88 le) refl
-      | false ↦ λ le. refl
-    ] long)
+body_known p length h long = grind (arith, is_named, has_contents, ltb)
 
 pub header_known : (p : Packet) (length : ℕ) → IsPacket p → cond (is_some (parts_of p.body).contents) 88 16 ≤ length
     → header_fault (command_with (header_of p).command) (header_of p) length ≡ None
@@ -126,11 +114,7 @@ none_wrong p rest bytes h fits e =
 
 contents_in-fits : (bytes : List ℕ) → IsBytes bytes → IsContents (contents_in bytes)
 unfolding contents_in
-contents_in-fits bytes fits = record {
-  version = omega (arith, field_at-lt 16 8 bytes fits);
-  width = length-words_at 24 8 bytes;
-  words = words_at-lt 24 8 bytes fits;
-}
+contents_in-fits bytes fits = grind (arith, field_at-lt, length-words_at, words_at-lt)
 
 contents_take : (bytes : List ℕ) → IsBytes bytes → 88 ≤ length bytes → drop 16 bytes ≡ word_bytes (contents_words (Some (contents_in bytes))) ++ drop 88 bytes
 unfolding contents_in

@@ -44,11 +44,7 @@ second_bytes o i ho hi = grind (arith, be_bytes_8, field-fits)
 
 header_words : (h : Header) (rest : List ℕ) → IsHeader h → field 8 (first_word h) ++ (field 8 (second_word h) ++ rest) ≡ spelled h rest
 unfolding spelled
-header_words h rest fits =
-    let first = first_bytes h.target h.command h.source h.control fits.target fits.command fits.source fits.control in
-    let second = second_bytes h.offset h.identifier fits.offset fits.identifier in
-    ap (λ (x : List ℕ). x ++ (field 8 (second_word h) ++ rest)) first
-    ∙ ap (λ (x : List ℕ). (field 2 h.target ++ (field 2 h.command ++ (field 2 h.source ++ field 2 h.control))) ++ (x ++ rest)) second ∙ simp append_assoc
+header_words h rest fits = grind (arith, first_bytes, second_bytes, append_assoc)
 
 -- the bytes of a packet's words are its spelling
 pub word_bytes-words_of : (p : Packet) → IsPacket p → word_bytes (words_of p) ≡ spelling p
@@ -103,19 +99,12 @@ pub count_of : (p : Packet) → IsPacket p → (length (words_of p) ≡ 2) ⊎ (
 count_of p h = two_or_eleven (is_some (parts_of p.body).contents) (length (words_of p)) (length-words_of p h)
 
 count_of_command : (p : Packet) → IsPacket p → (n : ℕ) → n ≡ command_number (command_of p.body) → cond (carries (command_with n)) 11 2 ≡ length (words_of p)
-count_of_command p h n is =
-    let contents = ap (λ (x : ℕ). carries (command_with x)) is ∙ number_carries p.body in
-    ap (λ (b : Bool). cond b 11 2) contents ∙ sym (length-words_of p h)
+count_of_command p h n is = grind (arith, number_carries, length-words_of)
 
 -- the count that a packet's first word tells
 pub counts_words : (first count : ℕ) → count ≡ cond (carries (command_with (first / 2 ^ 32 % 2 ^ 16))) 11 2 → CountsWords first count
 unfolding words_of
-counts_words first count told = λ p rest h.
-    let f = header_fits p h.packet in
-    let word : first ≡ first_word (header_of p) = ap (λ (words : List ℕ). get_or words 0 0) h.spelled_so in
-    told
-    ∙ count_of_command p h.packet (first / 2 ^ 32 % 2 ^ 16) (omega (arith, word, f.target, f.command, f.source, f.control))
-    ∙ ap (λ (words : List ℕ). length words) (sym h.spelled_so)
+counts_words first count told = grind (arith, header_fits, count_of_command)
 
 pub few_words : (p : Packet) → IsPacket p → length (words_of p) ≤ 11
 few_words p h = omega (arith, length-words_of p h, at_most (is_some (parts_of p.body).contents))
@@ -240,10 +229,7 @@ pub record Begins (p : Packet) (k : ℕ) (bytes : List ℕ) : Type 0 where
   pub within : 8 * k ≤ length bytes
 
 pub begins_bytes : (p : Packet) (k : ℕ) (words : List ℕ) → k ≤ length words → SpellsInWords p (take k words) → Begins p k (word_bytes words)
-begins_bytes p k words le h =
-    let text : take (8 * k) (word_bytes words) ≡ spelling p =
-    take-word_bytes k words le ∙ ap (λ (w : List ℕ). word_bytes w) h.spelled_so ∙ word_bytes-words_of p h.packet in
-    record { spells = record { packet = h.packet; spelled_so = text }; within = omega (arith, length-word_bytes words) }
+begins_bytes p k words le h = grind (arith, take-word_bytes, word_bytes-words_of, length-word_bytes)
 
 -- a packet that begins the bytes begins the words
 pub record BeginsWords (p : Packet) (k : ℕ) (words : List ℕ) : Type 0 where
