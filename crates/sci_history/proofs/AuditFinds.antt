@@ -70,9 +70,7 @@ or_false false = refl
 
 pub made_more : (refs : List (Bor Entry)) (n version : ℕ) → n < length refs
     → list_any (makes version) (take (n + 1) (entries_of refs)) ≡ (list_any (makes version) (take n (entries_of refs)) || makes version (entry_at refs n))
-made_more refs n version lt = rw (take_entries_more refs n lt)
-    (list_any-append (makes version) (take n (entries_of refs)) (entry_at refs n ∷ [])
-    ∙ ap (λ (b : Bool). list_any (makes version) (take n (entries_of refs)) || b) (or_false (makes version (entry_at refs n))))
+made_more refs n version lt = grind (arith, take_entries_more, list_any-append, or_false)
 
 -- the makers' versions among the first n are the marked ones, each with its mark one place below
 abbrev pub HasMarked : List Bool → List (Bor Entry) → ℕ → ℕ → Type 0

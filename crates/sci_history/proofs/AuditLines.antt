@@ -131,9 +131,7 @@ lawful_if_none logs last faults own sixteen within found = (
 pub fault_found : (logs : List (List Entry)) (last : List Stamped) (line : ℕ) (entries : List Entry) (here : Stamped) (found : Option LineFault)
     (fault : LineFault) → line < length last → ((other : ℕ) → other < line → IsLawfulLine logs other (stamped_at last other))
     → entries ≡ on_line line logs → here ≡ stamped_at last line → found ≡ Some fault → IsFound entries here found → IsFault logs last line fault.kind fault.at
-fault_found logs last line entries here found fault lt below is read some found_so =
-    let h = found_as entries here (stamped_at last line) found (Some fault) read some found_so in
-    grind arith
+fault_found logs last line entries here found fault lt below is read some found_so = grind (arith, found_as)
 
 faulty_not : (logs : List (List Entry)) (last : List Stamped) (line : ℕ) (kind : FaultKind) (at : Option (ℕ × ℕ)) → AreOwn logs → length logs ≡ MAX_NODES
     → IsFault logs last line kind at → Lawful logs last → ⊥

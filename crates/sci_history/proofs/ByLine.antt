@@ -58,6 +58,4 @@ front_on_line line nodes logs = filter (is_on_line line) (flat_map same_log (tak
 pub list_at : (lists : List (Vec (Bor Entry))) (logs : List (List Entry)) (line lines : ℕ) (list : Vec (Bor Entry)) (refs : List (Bor Entry))
     → length lists ≡ lines → line < lines → list ≡ get_or lists line list → refs ≡ list.items
     → ((l : ℕ) → l < lines → get_or (lists_of lists) l [] ≡ on_line l logs) → entries_of refs ≡ on_line line logs
-list_at lists logs line lines list refs long lt at is each =
-    let f : Vec (Bor Entry) → List Entry = λ list. entries_of list.items in
-    ap entries_of is ∙ ap f at ∙ sym (get_or-map f lists line list [] (omega arith)) ∙ each line lt
+list_at lists logs line lines list refs long lt at is each = grind (arith, get_or-map)

@@ -141,9 +141,7 @@ after_stands logs last order ReadsFrom x y is in_x in_y after =
 after_stands logs last order FromRead x y is in_x in_y after =
     let version = after.3 in
     after_by_place logs last order x y is in_x in_y after.0 (rw (after.1, after.2) (omega arith))
-after_stands logs last order Coherence x y is in_x in_y after =
-    let version = after.3 in
-    after_by_place logs last order x y is in_x in_y after.0 (rw (after.1, after.2) (omega arith))
+after_stands logs last order Coherence x y is in_x in_y after = grind (arith, after_by_place)
 
 -- ---- a chain, and a cycle
 

@@ -202,9 +202,7 @@ placed_here logs loads lines rests order n e rest lt front is can placing = elim
 
 log_push_own : (order : List Entry) (n : ℕ) (e : Entry) (rest : List Entry) → e.node ≡ n
     → filter (is_of_node n) (order ++ e ∷ []) ++ rest ≡ filter (is_of_node n) order ++ e ∷ rest
-log_push_own order n e rest own =
-    ap (λ (xs : List Entry). xs ++ rest) (filter_push_yes (is_of_node n) order e (eq-eqb e.node n own))
-    ∙ append_assoc (filter (is_of_node n) order) (e ∷ []) rest
+log_push_own order n e rest own = grind (arith, filter_push_yes, eq-eqb, append_assoc)
 
 among_ends : (e : Entry) (xs ys : List Entry) → IsAmong e ys → IsAmong e (xs ++ ys)
 among_ends e [] ys h = h

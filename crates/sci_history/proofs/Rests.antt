@@ -32,9 +32,7 @@ none_at logs next n log lt is past = rest_at logs next n lt ∙ (ap (drop (get_o
 -- the first that is left, and what is behind it
 pub front_at : (logs : List (List Entry)) (next : List ℕ) (n place : ℕ) → n < MAX_NODES → get_or next n 0 ≡ place → place < length (log_of logs n)
     → log_of (rests_of logs next) n ≡ get_or (log_of logs n) place no_entry ∷ drop (place + 1) (log_of logs n)
-front_at logs next n place lt at below =
-    rest_at logs next n lt ∙ (ap (λ (k : ℕ). drop k (log_of logs n)) at
-    ∙ (drop-cons (log_of logs n) place no_entry below ∙ ap (λ (k : ℕ). get_or (log_of logs n) place no_entry ∷ drop k (log_of logs n)) (next_is place)))
+front_at logs next n place lt at below = grind (arith, rest_at, drop-cons, no_entry, next_is)
 
 -- one log's place moves
 pub rests_set : (logs : List (List Entry)) (next : List ℕ) (n k : ℕ) → length next ≡ MAX_NODES → n < MAX_NODES

@@ -1,6 +1,6 @@
 -- From one entry that is left first to another: the steps come back to a node where they were.
 use Rattle.std.proofs.Common.{◌≡◌, ℕ, zero, suc, ◌+◌, ◌-◌, ◌*◌, ◌<◌, ◌≤◌, List, [], ◌∷◌, ◌++◌, length, get_or, set, take, drop, replicate, Option, Some}
-use Rattle.std.proofs.{Common.{None, refl, sym, ap, subst, ◌∙◌, arith}, lemmas.Bool.{cases_eq}}
+use Rattle.std.proofs.{Common.{None, refl, sym, ap, subst, arith}, lemmas.Bool.{cases_eq}}
 use Rattle.std.proofs.lemmas.List.{length-append, length-drop, take_all, get_or-set_same, get_or-set_other}
 use Rattle.std.proofs.lemmas.List.Sums.{sum_by-set, count_by-le-length}
 use Rattle.std.specs.{Prelude.{IfSome, count_by, is_some}, List.{AllByRecursion}}
@@ -65,18 +65,8 @@ pub walk_more : (logs : List (List Entry)) (next : List ℕ) (starts : List (Opt
     → length starts ≡ MAX_NODES → get_or starts node None ≡ None → new ≡ steps ++ added → LeadsTo logs next added node to → to < MAX_NODES
     → get_or next to 0 < length (log_of logs to) → IsWalking logs next starts steps node met
     → IsWalking logs next (set starts node (Some (length steps))) new to (met + 1)
-walk_more logs next starts steps added new node to met long unmet is leads lt left walking = grind (
-  arith,
-  all-append,
-  chain_joined,
-  cases_eq,
-  get_or-set_same,
-  at_end,
-  get_or-set_other,
-  still_all,
-  marked_more,
-  length-append,
-)
+walk_more logs next starts steps added new node to met long unmet is leads lt left walking = grind (arith, all-append, chain_joined, cases_eq, get_or-set_same,
+    at_end, get_or-set_other, still_all, marked_more, length-append)
 
 -- ---- the end
 
@@ -107,9 +97,7 @@ walk_ends logs next starts steps node met long walking = let few = count_by-le-l
 
 -- the rest of a list, as a slice of it
 pub sliced : (steps now : List Step) (start : ℕ) → now ≡ steps → take (length now - start) (drop start now) ≡ drop start steps
-sliced steps now start is =
-    let long = length-drop start now in
-    take_all (length now - start) (drop start now) (omega arith) ∙ ap (drop start) is
+sliced steps now start is = grind (arith, length-drop, take_all)
 
 -- a cycle is short
 pub walk_short : (logs : List (List Entry)) (next : List ℕ) (starts : List (Option ℕ)) (steps : List Step) (node met start : ℕ) → length starts ≡ MAX_NODES
