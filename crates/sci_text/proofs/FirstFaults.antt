@@ -169,9 +169,7 @@ refusal_of is_first Memory input line told = refl
 -- the first fault is told, or that memory was refused
 pub told_at : (is_first : List ℕ → ℕ → TextFaultKind → Type 0) (kind : TextFaultKind) (input : List ℕ) (fault : TextFault) (line : ℕ) → IsToldAt line kind fault
     → (kind ≡ Memory) ⊎ (IsOfLine kind × is_first input line kind) → IsRefusal is_first input fault
-told_at is_first kind input fault line at found =
-    subst (λ k. IsRefusalOf is_first k input fault.line) (sym at.0)
-    (subst (λ l. IsRefusalOf is_first kind input l) (sym at.1) (refusal_of is_first kind input line found))
+told_at is_first kind input fault line at found = grind (arith, refusal_of)
 
 -- ---- what comes of a text in memory
 

@@ -5,12 +5,12 @@ use Rattle.std.proofs.{Common.{inr, ◌⊎◌}, lemmas.List.{append-nil, length-
 use Rattle.std.specs.{Prelude.{IfOk, IfErr, Option, option_map}, List.{flat_map, AllByRecursion}}
 use Rattle.sci_words.specs.declared.limits.TheConstants.{MAX_TEXT_LINE_BYTES}
 use Rattle.sci_text.specs.declared.fault.{TextFault.{TextFault}, TextFaultKind.{TextFaultKind, TheVariants.{Memory}}}
-use Rattle.sci_text.specs.FirstFault.{Says, LineFault, IsFirstFault, IsToldAt, IsRefusal, GivesOnly, HasOneFault, HasNoFault, IsOfOne}
+use Rattle.sci_text.specs.FirstFault.{Says, LineFault, IsFirstFault, IsRefusal, GivesOnly, HasOneFault, HasNoFault, IsOfOne}
 use denote.Ref.{Bor}
 use Rattle.sci_text.specs.{declared.script.PushFault.{PushFault}, Reading.{Gives, IsUnsaid, read_of}}
 use Rattle.sci_text.specs.{Script.{machine_line, Refusal, kind_of}, ScriptFault.{MachineFault}}
 use Rattle.sci_text.proofs.FirstFaults.{SaysOne, one_line_fault, no_line_fault, ContinuesWith, meet_lists, IsFaultless, Meets, IsGrammar, one_first_fault}
-use Rattle.sci_text.proofs.FirstFaults.{no_first_fault, line_fault_is, told_at, read_as}
+use Rattle.sci_text.proofs.FirstFaults.{no_first_fault, read_as}
 use Rattle.sci_text.proofs.Lines.{Line, same_line, one_line, said_fault, refused_fault}
 use Rattle.sci_text.proofs.ScriptReads.{Size, machine_format, is_size, limits_fit}
 

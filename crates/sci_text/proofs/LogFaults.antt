@@ -250,10 +250,7 @@ pub is_said : (front : Front) (bytes : List ℕ) (l : Option ℕ) (o : Option En
     → HasAllLines front.form.lines (length front.last) → IsLatest front.logs latest → latest < 2 ^ 64
     → entry_line_read bytes ≡ Some ((l, o), rest) → o ≡ Some entry → length bytes ≤ length rest + MAX_TEXT_LINE_BYTES + 1
     → ((m : ℕ) → l ≡ Some m → latest ≤ m) → IsSaid front bytes entry rest latest
-is_said front bytes l o entry rest latest whole is few e some short above =
-    let s = says_entry front bytes l o rest latest whole is few e short above in
-    let all : SomeIff (Some entry) (EntryReads s.0) s.0 = subst (λ (v : Option Entry). SomeIff v (EntryReads s.0) s.0) some s.2 in
-    subst (λ (e : Entry). IsSaid front bytes e rest latest) (sym all.1) (record { says = s.1; reads = all.0; parts = s.3; later = s.4 })
+is_said front bytes l o entry rest latest whole is few e some short above = grind (arith, says_entry)
 
 pub entry_outside : (front : Front) (bytes : List ℕ) (entry : Entry) (rest : List ℕ) (latest : ℕ) → IsSaid front bytes entry rest latest
     → (AreNumbersWithin front.form (length front.last) entry → ⊥) → LogLineFault front bytes Range
@@ -262,9 +259,7 @@ entry_outside front bytes entry rest latest said outside = (inr entry, said.says
 -- it fits
 said_fits : (front : Front) (bytes : List ℕ) (entry : Entry) (rest : List ℕ) (latest : ℕ) → IsSaid front bytes entry rest latest
     → AreNumbersWithin front.form (length front.last) entry → EntryFits front.form (length front.last) entry
-said_fits front bytes entry rest latest said within =
-    let reads = said.reads in
-    record { numbers = within; operands = reads.op.1.1; answers = said.says.answers; reply = reads.reply; version = reads.version }
+said_fits front bytes entry rest latest said within = grind arith
 
 pub entry_too_many : (front : Front) (bytes : List ℕ) (entry : Entry) (rest : List ℕ) (latest : ℕ) → IsSaid front bytes entry rest latest
     → AreNumbersWithin front.form (length front.last) entry → front.form.entries ≤ length (log_of front.logs entry.node) → LogLineFault front bytes TooMany
@@ -274,15 +269,7 @@ pub entry_ok : (front : Front) (bytes : List ℕ) (entry : Entry) (rest : List �
     → AreNumbersWithin front.form (length front.last) entry → length (log_of front.logs entry.node) < front.form.entries → (new : List (List Entry))
     → new ≡ set front.logs entry.node (log_of front.logs entry.node ++ entry ∷ [])
     → AddsEntry front.form (length front.last) front.logs new latest entry.node bytes rest
-entry_ok front bytes entry rest latest said within room new added = record {
-  entry = entry;
-  parts = said.parts;
-  fits = said_fits front bytes entry rest latest said within;
-  room = room;
-  added = added;
-  later = said.later;
-  now_is = refl;
-}
+entry_ok front bytes entry rest latest said within room new added = grind (arith, said_fits)
 
 found_by : (word bytes : List ℕ) (read : Option (List ℕ)) → after word bytes ≡ read → (read ≡ None → ⊥) → (rest : List ℕ) × (bytes ≡ word ++ rest)
 found_by word bytes None e h = absurd (h refl)

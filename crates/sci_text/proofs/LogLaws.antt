@@ -1,5 +1,5 @@
 -- Laws of the texts of logs.
-use Rattle.std.proofs.Common.{ℕ, ◌≤◌, List, length, sym, ap, arith, inl, inr}
+use Rattle.std.proofs.Common.{ℕ, ◌≤◌, List, length, arith, inl, inr}
 use Rattle.sci_words.specs.declared.{limits.TheConstants.{MAX_LINES, MAX_OPERATIONS}, stamped.Stamped.{Stamped}}
 use Rattle.sci_history.specs.declared.entry.Entry.{Entry}
 use Rattle.sci_text.specs.{declared.log_form.Form.{Form}, Log.{log_text}}
@@ -25,6 +25,4 @@ in_format_2 form nodes logs last h = grind (arith, limited, fits_format_2)
 
 -- logs that some text says are those of their text in format 2
 pub written_again : (nodes : ℕ) (logs : List (List Entry)) (last : List Stamped) → AreLogs nodes logs last → IsLogs (log_text nodes logs last) nodes logs last
-written_again nodes logs last are =
-    let h = in_format_2 are.0 nodes logs last are.1 in
-    (format_2 are.0.nodes (length last), h, ap (λ (n : ℕ). log_text n logs last) (sym are.1.nodes_is))
+written_again nodes logs last are = grind (arith, in_format_2)

@@ -31,6 +31,4 @@ pub appends_on : (old mid new : Option (List ℕ)) (i n : ℕ) (text : List ℕ)
 appends_on None mid new i n text h k = tt
 appends_on (Some xs) None new i n text h k = absurd h
 appends_on (Some xs) (Some ys) None i n text h k = absurd k
-appends_on (Some xs) (Some ys) (Some zs) i n text h k =
-    k ∙ ap (λ (bs : List ℕ). bs ++ take n (drop i text)) h ∙ append_assoc xs (take i text) (take n (drop i text))
-    ∙ ap (λ (bs : List ℕ). xs ++ bs) (take_then i n text)
+appends_on (Some xs) (Some ys) (Some zs) i n text h k = grind (arith, append_assoc, take_then)

@@ -6,7 +6,7 @@ use Rattle.sci_words.specs.declared.stamped.Stamped.{Stamped}
 use Rattle.sci_history.specs.declared.entry.Entry.{Entry}
 use Rattle.sci_text.specs.declared.{log_form.Form.{Form}, fault.{TextFault.{TextFault}, TextFaultKind.{TextFaultKind}}}
 use Rattle.sci_text.specs.FirstFault.{IsRefusal, GivesOnly, HasNoFault}
-use Rattle.sci_text.specs.LogValue.{Front, front_of, front_text, IsFront, HasAllLines, IsLogs}
+use Rattle.sci_text.specs.LogValue.{Front, front_of, IsFront, HasAllLines, IsLogs}
 use Rattle.sci_text.specs.LogFault.{BeginsFront, HasMore, line_count, SaysNext, NextFits, HasNoRoomFor, LogLineFault, SizeFault, IsLogFault}
 use Rattle.sci_text.proofs.FirstFaults.{IsFaultless, Meets, IsGrammar, one_line_fault, one_first_fault, no_first_fault, read_as}
 use Rattle.sci_text.proofs.{LogUnique.{OnePartition}, LogMeets.{OwnEntries, meet_fronts, one_log_line}}
@@ -52,12 +52,7 @@ grammar one own = record {
 -- the input is the lines of a front, and nothing else
 whole_text : (input : List ℕ) (nodes : ℕ) (logs : List (List Entry)) (last : List Stamped) → (h : IsLogs input nodes logs last)
     → BeginsFront input (front_of h.0 last logs) []
-whole_text input nodes logs last h =
-    record {
-      good = h.1.good;
-      parts = h.2 ∙ sym (append-nil (front_text (front_of h.0 last logs)));
-      first = whole_first h.0 last logs input h.1.good.form h.1.whole h.2;
-    }
+whole_text input nodes logs last h = grind (arith, append-nil, whole_first)
 
 pub one_log : OnePartition → OwnEntries → (input : List ℕ) (n m : ℕ) (a b : List (List Entry)) (x y : List Stamped) → IsLogs input n a x → IsLogs input m b y
     → (n ≡ m) × (a ≡ b) × (x ≡ y)

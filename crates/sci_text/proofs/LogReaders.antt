@@ -1,5 +1,5 @@
 -- What a reader of logs has read grows by an entry a line.
-use Rattle.std.proofs.Common.{◌≡◌, ℕ, ◌+◌, ◌<◌, ◌≤◌, List, ◌∷◌, ◌++◌, length, None, ap, subst, ◌∙◌, append_assoc, arith, inl, ◌⊎◌}
+use Rattle.std.proofs.Common.{◌≡◌, ℕ, ◌+◌, ◌<◌, ◌≤◌, List, ◌∷◌, ◌++◌, length, None, ap, subst, ◌∙◌, append_assoc, arith, ◌⊎◌}
 use Rattle.std.proofs.lemmas.List.{append-nil}
 use Rattle.std.specs.Prelude.{[], ◌^◌}
 use Rattle.sci_text.specs.declared.{fault.{TextFault.{TextFault}, TextFaultKind.{TextFaultKind}}, log_lines.LogReader.{LogReader}}
@@ -9,7 +9,7 @@ use Rattle.sci_history.specs.declared.entry.Entry.{Entry}
 use Rattle.sci_text.specs.{FirstFault.{IsRefusal, IsToldAt}, Log.{last_lines}}
 use Rattle.sci_text.specs.LogValue.{BeginsLog, HasAllLines, IsFront, entry_count, first_line, front_of}
 use Rattle.sci_text.specs.LogFault.{IsLogFault, LogLineFault, first_lines}
-use Rattle.sci_text.specs.LogReading.{AddsEntry, BeginsLast, HasRead, front_read, no_logs}
+use Rattle.sci_text.specs.LogReading.{AddsEntry, BeginsLast, HasRead, no_logs}
 use Rattle.sci_text.proofs.LogFronts.{count_more, entry_lines-push, entry_shrinks, few_below, front_more, front_none, latest_more, no_last_after}
 use Rattle.sci_text.proofs.LogFronts.{no_last_here, refusal_at}
 
@@ -64,9 +64,7 @@ grows input bytes rest reader contents logs node same h added =
 pub refused : (input bytes : List ℕ) (reader : LogReader) (contents : List Stamped) (kind : TextFaultKind) (fault : TextFault)
     → contents ≡ reader.last.items → HasRead input reader bytes → 0 < length bytes → IsToldAt reader.line kind fault
     → (kind ≡ Memory) ⊎ LogLineFault (front_of reader.form contents reader.logs) bytes kind → IsRefusal IsLogFault input fault
-refused input bytes reader contents kind fault same h some at faulty =
-    refusal_at kind input fault reader.line (front_read reader) bytes at h.begins.good h.begins.parts h.begins.first (inl some) h.place
-    (subst (λ (cs : List Stamped). (kind ≡ Memory) ⊎ LogLineFault (front_of reader.form cs reader.logs) bytes kind) same faulty)
+refused input bytes reader contents kind fault same h some at faulty = grind (arith, refusal_at)
 
 pub at_end : (input rest : List ℕ) (reader : LogReader) → HasRead input reader rest → length rest ≤ 0 → HasRead input reader []
 at_end input [] reader h none = h

@@ -241,9 +241,7 @@ entry_with n s o r v = record { node = n; serial = s; op = o; reply = r; version
 same_entry : (n s : ℕ) (o : Op) (r : Reply) (v : ℕ) (e : Entry) → n ≡ e.node → s ≡ e.serial → o ≡ e.op → r ≡ e.reply → v ≡ e.version
     → record { node = n; serial = s; op = o; reply = r; version = v } ≡ e
 unfolding entry_with
-same_entry n s o r v e a b c d f =
-    ap (λ (x : ℕ). entry_with x s o r v) a ∙ ap (λ (x : ℕ). entry_with e.node x o r v) b ∙ ap (λ (x : Op). entry_with e.node e.serial x r v) c
-    ∙ ap (λ (x : Reply). entry_with e.node e.serial e.op x v) d ∙ ap (λ (x : ℕ). entry_with e.node e.serial e.op e.reply x) f
+same_entry n s o r v e a b c d f = grind (arith, entry_with)
 
 entry_is : (n s : Option ℕ) (o : Option Op) (r : Option Reply) (v : Option ℕ) (entry : Entry) → SomeIff (byte n) (entry.node < 256) entry.node
     → SomeIff (serial_of s) (entry.serial < 2 ^ 32) entry.serial

@@ -137,9 +137,7 @@ chosen false x y z e = inr (refl, e)
 number_found_zero : (b : ℕ) (bytes : List ℕ) (value : Option ℕ) (rest : List ℕ) → b ≡ 48
     → ◌≡◌ {A = Option (Option ℕ × List ℕ)} (Some (Some 0, bytes)) (Some (value, rest)) → IsNumberThen (b ∷ bytes) value rest
 unfolding number
-number_found_zero b bytes value rest zeros e =
-    let parts = some_pair_parts (Some 0) value bytes rest e in
-    (0, rw (zeros, parts.1) refl, sym parts.0)
+number_found_zero b bytes value rest zeros e = grind (arith, some_pair_parts)
 
 number_found_digits : (b : ℕ) (bytes : List ℕ) (value : Option ℕ) (rest : List ℕ) → (b ≡ 48 → ⊥) → (48 ≤ b) × (b ≤ 57)
     → digits_read (Some (b - 48)) bytes ≡ (value, rest)

@@ -174,9 +174,7 @@ two_found f bytes o rest e =
 pub operands_found : (command : Command) (bytes : List ℕ) (o : Option Act) (rest : List ℕ) → operands_read command bytes ≡ Some (o, rest)
     → FoundAs command bytes o rest
 unfolding operands_read
-operands_found commands.Load bytes o rest e =
-    let parts = some_pair_parts (Some Load) o bytes rest e in
-    (Load, refl, parts.1, subst (λ (v : Option Act). SomeIff v (Unit {0}) Load) parts.0 (tt, refl))
+operands_found commands.Load bytes o rest e = grind (arith, some_pair_parts)
 operands_found commands.Store bytes o rest e = let s = one_found Store bytes o rest e in (Store s.0, refl, s.1, s.2)
 operands_found commands.MaskSwap bytes o rest e = let s = two_found MaskSwap bytes o rest e in (Lock (MaskSwap s.0 s.1), refl, s.2, s.3)
 operands_found commands.CompareSwap bytes o rest e = let s = two_found CompareSwap bytes o rest e in (Lock (CompareSwap s.0 s.1), refl, s.2, s.3)
