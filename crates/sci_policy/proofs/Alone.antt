@@ -2,7 +2,7 @@
 use Rattle.std.proofs.Common.{◌≡◌, ◌≤◌, ◌<◌, ◌*◌, ◌⊎◌, ℕ, zero, suc, true, false, arith, List, [], ◌∷◌, filter, length, get_or, None, refl, sym, ap, subst}
 use Rattle.std.proofs.{Common.{◌∙◌, inl, inr}, lemmas.{Bool.{cases_lt}, List.{get_or_past}}}
 use Rattle.std.specs.{Prelude.{option_to_list}, List.{flat_map}}
-use Rattle.sci_cache.specs.{State.{waits}, Line.{LineState, untouched}, Cache.{Letter, line_of}}
+use Rattle.sci_cache.specs.{State.{waits}, Line.{LineState}, Cache.{Letter, line_of}}
 use Rattle.sci_core.specs.declared.lane.LaneKind.TheVariants.{Answers, Requests}
 use Rattle.sci_core.specs.{Core.{Core, lane_at, lane_of, lane_place, node_at}, Node.{NodeOf, no_node}}
 use Rattle.sci_core.specs.{Reached.{IsReached}, Sharing.{is_about, packets_of, under_way}, Tidy.{HasItsPackets}}
@@ -49,11 +49,7 @@ waits_for_one home line (letter ∷ packets) has none awaits = cc
 -- ---- any machine
 
 pub beyond_out : (core : Core) (n line : ℕ) → IsReached core → n < core.size.nodes → core.size.lines ≤ line → waits (state_on (node_at core n) line) ≡ true → ⊥
-beyond_out core n line reached some past awaits =
-    let all = ((reached_well core reached).each_part n some).each in
-    let none : line_of (node_at core n).cache line ≡ untouched = get_or_past (node_at core n).cache.lines line untouched (omega arith) in
-    let clash : true ≡ false = sym awaits ∙ ap (λ (l : LineState). waits l.state) none in
-    cc
+beyond_out core n line reached some past awaits = grind (arith, reached_well, get_or_past)
 
 -- so no line awaits an answer
 pub alone_rests : (core : Core) → IsReached core → core.size.nodes ≡ 1 → (node_at core 0).waiting ≡ None → lane_of core Requests 0 0 ≡ []

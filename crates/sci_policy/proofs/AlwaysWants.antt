@@ -229,13 +229,7 @@ send_free node (Some line) some fits =
 
 not_held : (joining : Bool) (wants : Option Want) → HasFree wants → held_back joining wants ≡ None → ⊥
 not_held joining None free none = let clash = free.is in cc
-not_held joining (Some want) free none =
-    let same : want ≡ free.want = cc in
-    let plain : asks_home_to_change want ≡ false = ap asks_home_to_change same ∙ free.free in
-    let kept : (if joining && asks_home_to_change want then None else Some want) ≡ Some want =
-    ap (λ (b : Bool). if b then None else Some want) (and_right joining (asks_home_to_change want) plain) in
-    let clash : Some want ≡ None = sym kept ∙ none in
-    cc
+not_held joining (Some want) free none = grind (arith, and_right)
 
 sends_something : (policy : PolicyOf) (node : NodeOf) → some_line node (λ line. must_send (state_on node line)) ≡ true → wanted policy node ≡ None → ⊥
 sends_something policy node sends none =

@@ -1,12 +1,12 @@
 -- What the policy decides of a request, and what it never does.
-use Rattle.std.proofs.Common.{◌≡◌, ℕ, Bool, true, false, if◌then◌else◌, Option, Some, None, sym, ◌∙◌, refl}
+use Rattle.std.proofs.Common.{◌≡◌, ℕ, Bool, true, false, if◌then◌else◌, Option, Some, None, sym, ◌∙◌, refl, arith}
 use Rattle.std.proofs.lemmas.Bool.{and_parts, both_ways, eq-eqb, not-true}
-use Rattle.std.specs.Prelude.{is_some, not, ◌==◌}
+use Rattle.std.specs.Prelude.{is_some}
 use Rattle.sci_packets.specs.declared.body.Body.{Body}
 use Rattle.sci_cache.specs.Cache.{Letter}
 use Rattle.sci_core.specs.Node.{NodeOf, is_setback}
 use Rattle.sci_policy.specs.declared.decision.Decision.{Decision}
-use Rattle.sci_policy.specs.{Policy.{PolicyOf, decided, is_cread, kept_by, refused_by}, Turn.{decided_event}}
+use Rattle.sci_policy.specs.{Policy.{PolicyOf, decided, is_cread}, Turn.{decided_event}}
 use Rattle.sci_packets.specs.declared.body.Body.TheVariants as body
 use Rattle.sci_policy.specs.declared.decision.Decision.TheVariants as decision
 
@@ -23,9 +23,7 @@ cread_alone _ e = refl
 -- what is refused is no Setback
 pub refuses_no_setback : (policy : PolicyOf) (node : NodeOf) (request : Letter) → decided policy node request ≡ decision.Refuse
     → is_setback request.body ≡ false
-refuses_no_setback policy node request e =
-    let refused : refused_by policy node request ≡ true = refused_if (kept_by policy node request) (refused_by policy node request) e in
-    cread_alone request.body (and_parts (is_cread request.body) _ refused).0
+refuses_no_setback policy node request e = grind (arith, refused_if, cread_alone, and_parts)
 
 -- what isn't there isn't seen
 pub none_seen : {A B : Type 0} (seen : Option A → Option B) → seen None ≡ None → (o : Option A) (waiting : Option B) → seen o ≡ waiting → is_some o ≡ false
@@ -40,10 +38,7 @@ kept_if false false e = cc
 
 -- a node's own requests are never kept
 pub keeps_no_own : (policy : PolicyOf) (node : NodeOf) (request : Letter) → request.source ≡ node.cache.me → decided policy node request ≡ decision.Keep → ⊥
-keeps_no_own policy node request own keep =
-    let kept : kept_by policy node request ≡ true = kept_if (kept_by policy node request) (refused_by policy node request) keep in
-    let other = (and_parts _ (not (request.source == node.cache.me)) (and_parts _ _ kept).0).1 in
-    both_ways (request.source == node.cache.me) (not-true _ other) (eq-eqb request.source node.cache.me own)
+keeps_no_own policy node request own keep = grind (arith, kept_if, and_parts, both_ways, not-true, eq-eqb)
 
 -- only what is kept is taken by no event
 pub keep_of : (d : Decision) (from n : ℕ) → decided_event d from n ≡ None → d ≡ decision.Keep

@@ -1,6 +1,6 @@
 -- What the least and the oldest of some lines are, and when there is one.
 use Rattle.std.proofs.Common.{◌≡◌, ℕ, zero, suc, ◌+◌, ◌<◌, ◌≤◌, ◌&&◌, nat_le, Bool, true, false, cond, if◌then◌else◌, List, [], ◌∷◌, filter, Option, Some}
-use Rattle.std.proofs.{Common.{None, refl, sym, ap, subst, ◌∙◌, arith, inl, inr}, lemmas.Bool.{cases_Bool, cases_eq}}
+use Rattle.std.proofs.{Common.{None, refl, sym, subst, ◌∙◌, arith, inl, inr}, lemmas.Bool.{cases_Bool, cases_eq}}
 use Rattle.std.specs.{Prelude.{IfSome, is_some}, List.{find, range_with_len, AllByRecursion}}
 use Rattle.sci_core.specs.Node.{NodeOf, lines_of}
 use Rattle.sci_policy.specs.Lines.{all_lines, has_pending, least, oldest, oldest_of, older, serial_on, some_line}
@@ -20,11 +20,7 @@ found_fits p a (suc n) =
 
 -- a number that passes stands further on if the first doesn't
 pub further : (p : ℕ → Bool) (a x : ℕ) → a ≤ x → p x ≡ true → p a ≡ false → a + 1 ≤ x
-further p a x from passes fails =
-    elim (cases_eq a x) [
-      | inl same ↦ absurd (let clash : false ≡ true = sym fails ∙ (ap p same ∙ passes) in cc)
-      | inr other ↦ grind (arith)
-    ]
+further p a x from passes fails = grind (arith, cases_eq)
 
 some_found_by : (p : ℕ → Bool) (a n : ℕ) (b : Bool) → p a ≡ b → (p a ≡ false → is_some (find p (range_with_len (a + 1) n)) ≡ true)
     → is_some (cond b (Some a) (find p (range_with_len (a + 1) n))) ≡ true

@@ -1,12 +1,12 @@
 -- A node at rest wants nothing, and none of its lines drains.
-use Rattle.std.proofs.Common.{◌≡◌, ℕ, ◌&&◌, ◌||◌, Bool, true, false, Option, Some, None, refl, sym, ap, ◌∙◌}
+use Rattle.std.proofs.Common.{◌≡◌, ℕ, Bool, true, false, Option, Some, None, refl, sym, ap, ◌∙◌, arith}
 use Rattle.std.proofs.lemmas.Bool.{and_parts}
-use Rattle.std.specs.{Prelude.{IfSome, is_some, option_map}, Option.{option_or, option_and_then}}
-use Rattle.sci_cache.specs.{State.{CacheState, Out, is_out}, Kinds.{has_fresh_sharers, has_sharers, joins, must_send}}
-use Rattle.sci_core.specs.Node.{IsAtRest, NodeOf, node_performing}
-use Rattle.sci_policy.specs.Lines.{has_pending, least, oldest, some_line, state_on}
-use Rattle.sci_policy.specs.Policy.{PolicyOf, ask_of, contents_wanted, due_wanted, has, held_back, is_claimed, is_purged, operation_asks, perform_wanted}
-use Rattle.sci_policy.specs.Policy.{purge_wanted, ruled, send_wanted, slot_for, slot_wanted, wanted}
+use Rattle.std.specs.{Prelude.{IfSome, is_some}, Option.{option_or}}
+use Rattle.sci_cache.specs.{State.{CacheState, Out, is_out}}
+use Rattle.sci_core.specs.Node.{IsAtRest, NodeOf}
+use Rattle.sci_policy.specs.Lines.{has_pending, least, oldest, state_on}
+use Rattle.sci_policy.specs.Policy.{PolicyOf}
+use Rattle.sci_policy.specs.Policy.{wanted}
 use Rattle.sci_policy.proofs.Found.{least_fits, oldest_fits}
 
 out_is : (state : CacheState) → is_out state ≡ true → state ≡ Out
@@ -33,19 +33,4 @@ neither None b e f = f
 neither (Some x) b e f = cc
 
 pub rest_wants_none : (policy : PolicyOf) (node : NodeOf) → IsAtRest node → wanted policy node ≡ None
-rest_wants_none policy node rest =
-    let out = all_out node rest in
-    let no_perform : perform_wanted node ≡ None = ap (option_map _) (no_oldest node (λ line. is_some (node_performing node line)) rest) in
-    let no_purge : purge_wanted policy node ≡ None =
-    ap (option_map _) (no_least node (is_purged policy node)
-    (λ line. ap (λ (s : CacheState). has_sharers s && (has policy.draining line || has_pending node line)) (out line))) in
-    let no_send : send_wanted node ≡ None =
-    ap (option_and_then (ask_of node)) (no_least node (λ line. must_send (state_on node line)) (λ line. ap must_send (out line))) in
-    let no_due : due_wanted policy node ≡ None =
-    ap (option_map _) (no_least node (is_claimed policy node) (λ line. ap (λ (s : CacheState). has_fresh_sharers s && has policy.due line) (out line))) in
-    let no_slot : slot_wanted node ≡ None = ap (option_and_then (slot_for node)) (no_oldest node (λ line. true) rest) in
-    let no_contents : contents_wanted node ≡ None =
-    ap (option_and_then (operation_asks node)) (no_oldest node (λ line. is_some (operation_asks node line)) rest) in
-    let none : ruled policy node ≡ None =
-    neither _ _ no_perform (neither _ _ no_purge (neither _ _ no_send (neither _ _ no_due (neither _ _ no_slot no_contents)))) in
-    ap (held_back (some_line node (λ line. joins (state_on node line)))) none
+rest_wants_none policy node rest = grind (arith, all_out, no_oldest, no_least, neither)

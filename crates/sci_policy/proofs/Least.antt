@@ -1,5 +1,5 @@
 -- The least line comes first, and the oldest operation has the least serial.
-use Rattle.std.proofs.Common.{◌≡◌, ℕ, zero, suc, ◌+◌, ◌<◌, ◌≤◌, ◌&&◌, Bool, true, false, cond, ◌∷◌, filter, Option, Some, None, refl, ap, arith, inl, inr}
+use Rattle.std.proofs.Common.{◌≡◌, ℕ, zero, suc, ◌+◌, ◌<◌, ◌≤◌, ◌&&◌, Bool, true, false, cond, ◌∷◌, filter, Option, Some, None, refl, ap, arith}
 use Rattle.std.proofs.lemmas.{Bool.{and_parts, cases_eq}, Option.{IfSome_then}}
 use Rattle.std.specs.{List.{find, range_with_len}, Prelude.{IfSome}}
 use Rattle.sci_core.specs.Node.{NodeOf, lines_of}
@@ -52,17 +52,7 @@ oldest_by : (node : NodeOf) (p : ℕ → Bool) (a n x : ℕ) (b : Bool) → p a 
     → (a + 1 ≤ x → IsFoundBy (serial_on node) (oldest_of node (filter p (range_with_len (a + 1) n))) (serial_on node x))
     → IsFoundBy (serial_on node) (oldest_of node (cond b (a ∷ filter p (range_with_len (a + 1) n)) (filter p (range_with_len (a + 1) n)))) (serial_on node x)
 oldest_by node p a n x false e from passes rest = rest (further p a x from passes e)
-oldest_by node p a n x true e from passes rest =
-    let others = oldest_of node (filter p (range_with_len (a + 1) n)) in (
-      older node a others,
-      (
-        refl,
-        elim (cases_eq a x) [
-          | inl same ↦ (let first = older_first node a others in let is = ap (serial_on node) same in omega arith)
-          | inr other ↦ older_yet node a (serial_on node x) others (rest (grind (arith)))
-        ],
-      ),
-    )
+oldest_by node p a n x true e from passes rest = grind (arith, cases_eq, older_first, older_yet)
 
 oldest_found : (node : NodeOf) (p : ℕ → Bool) (a n x : ℕ) → a ≤ x → x < a + n → p x ≡ true
     → IsFoundBy (serial_on node) (oldest_of node (filter p (range_with_len a n))) (serial_on node x)

@@ -82,7 +82,4 @@ pub least_of_both : (node : NodeOf) (one other both : ℕ) (p q : ℕ → Bool) 
     → ((line : ℕ) → is_in both line ≡ (is_in one line && is_in other line)) → ((line : ℕ) → line < MAX_LINES → is_in other line ≡ q line)
     → IfSome result (λ line. is_in both line ≡ true) → ((line : ℕ) → 0 ≤ line → IsBefore line result → is_in both line ≡ false)
     → result ≡ least node (λ line. p line && q line)
-least_of_both node one other both p q result each here small cut second is before =
-    least_is node both (λ line. p line && q line) result
-    (λ line. cut line ∙ both_say (is_in one line) (is_in other line) (p line) (q line) (each line) (λ in_one. second line (small line in_one)))
-    (λ line in_both. here line (and_parts (is_in one line) (is_in other line) (sym (cut line) ∙ in_both)).0) is before
+least_of_both node one other both p q result each here small cut second is before = grind (arith, least_is, both_say, and_parts)

@@ -1,12 +1,12 @@
 -- The oldest of the operations of some lines.
 use Rattle.std.proofs.Common.{◌≡◌, ℕ, zero, suc, ◌+◌, ◌-◌, ◌<◌, ◌≤◌, nat_lt, ◌&&◌, Bool, true, false, if◌then◌else◌, cond, List, [], ◌∷◌, ◌++◌, filter}
-use Rattle.std.proofs.Common.{Option, Some, None, refl, sym, ap, subst, ◌∙◌, arith, inl, inr}
+use Rattle.std.proofs.Common.{Option, Some, None, refl, sym, ap, subst, ◌∙◌, arith}
 use Rattle.std.proofs.lemmas.{Bool.{cases_Bool, false_from_ne_true}, List.{append-nil}}
 use Rattle.std.proofs.lemmas.List.Elements.{filter-append, filter_agree}
 use Rattle.std.specs.{Prelude.{IfSome, is_some, option_map}, List.{range_with_len}}
 use Rattle.sci_cache.specs.LineSet.{is_in}
 use Rattle.sci_core.specs.{Node.{NodeOf, pending_on}, declared.pending.Pending.{Pending}}
-use Rattle.sci_policy.specs.Lines.{all_lines, has_pending, older, oldest, oldest_of, serial_in, serial_on}
+use Rattle.sci_policy.specs.Lines.{all_lines, has_pending, older, oldest, oldest_of, serial_on}
 use Rattle.sci_policy.specs.Scan.{is_older_than}
 use Rattle.sci_policy.proofs.LeastAmong.{range_more}
 
@@ -41,19 +41,12 @@ filtered p line b e = ap (λ (c : Bool). cond {A = List ℕ} c (line ∷ []) [])
 -- a line that isn't meant leaves it
 pub oldest_left : (node : NodeOf) (tested : ℕ → Bool) (line : ℕ) → (has_pending node line && tested line) ≡ false
     → oldest_below node tested (line + 1) ≡ oldest_below node tested line
-oldest_left node tested line fails =
-    ap (oldest_of node) (one_more node tested line
-    ∙ (ap (λ (ls : List ℕ). filter (λ l. has_pending node l && tested l) (range_with_len 0 line) ++ ls)
-    (filtered (λ l. has_pending node l && tested l) line false fails) ∙ append-nil _))
+oldest_left node tested line fails = grind (arith, one_more, filtered, append-nil)
 
 -- a line that is meant is compared with it
 pub oldest_next : (node : NodeOf) (tested : ℕ → Bool) (line : ℕ) → (has_pending node line && tested line) ≡ true
     → oldest_below node tested (line + 1) ≡ Some (next_oldest node (oldest_below node tested line) line)
-oldest_next node tested line passes =
-    ap (oldest_of node) (one_more node tested line
-    ∙ ap (λ (ls : List ℕ). filter (λ l. has_pending node l && tested l) (range_with_len 0 line) ++ ls)
-    (filtered (λ l. has_pending node l && tested l) line true passes))
-    ∙ oldest_push node (filter (λ l. has_pending node l && tested l) (range_with_len 0 line)) line
+oldest_next node tested line passes = grind (arith, one_more, filtered, oldest_push)
 
 -- ---- what a walk over the lines has found so far: a line, and its operation's serial
 
@@ -68,30 +61,19 @@ pub found_next : (node : NodeOf) (tested : ℕ → Bool) (line : ℕ) (found : O
     → (has_pending node line && tested line) ≡ true → is_older_than (serial_on node line) found ≡ true → Some line ≡ oldest_below node tested (line + 1)
 found_next node tested line None is same passes older =
     sym (oldest_next node tested line passes ∙ ap (λ (o : Option ℕ). Some (next_oldest node o line)) (sym same))
-found_next node tested line (Some f) is same passes older =
-    let least : nat_lt (serial_on node line) (serial_on node f.0) ≡ true = subst (λ (s : ℕ). nat_lt (serial_on node line) s ≡ true) is older in
-    sym (oldest_next node tested line passes
-    ∙ (ap (λ (o : Option ℕ). Some (next_oldest node o line)) (sym same) ∙ ap (λ (b : Bool). Some (if b then line else f.0)) least))
+found_next node tested line (Some f) is same passes older = grind (arith, oldest_next)
 
 kept : (node : NodeOf) (tested : ℕ → Bool) (line : ℕ) (found : Option (ℕ × ℕ)) → IsFound node found → line_found found ≡ oldest_below node tested line
     → (has_pending node line && tested line) ≡ true → (is_older_than (serial_on node line) found ≡ true → ⊥)
     → line_found found ≡ oldest_below node tested (line + 1)
 kept node tested line None is same passes younger = absurd (younger refl)
-kept node tested line (Some f) is same passes younger =
-    let least : nat_lt (serial_on node line) (serial_on node f.0) ≡ false =
-    subst (λ (s : ℕ). nat_lt (serial_on node line) s ≡ false) is (false_from_ne_true (nat_lt (serial_on node line) f.1) younger) in
-    sym (oldest_next node tested line passes
-    ∙ (ap (λ (o : Option ℕ). Some (next_oldest node o line)) (sym same) ∙ ap (λ (b : Bool). Some (if b then line else f.0)) least))
+kept node tested line (Some f) is same passes younger = grind (arith, false_from_ne_true, oldest_next)
 
 -- one that is younger, or isn't meant, doesn't
 pub found_left : (node : NodeOf) (tested : ℕ → Bool) (line : ℕ) (found : Option (ℕ × ℕ)) → IsFound node found → line_found found ≡ oldest_below node tested line
     → (is_older_than (serial_on node line) found ≡ true → (has_pending node line && tested line) ≡ false)
     → line_found found ≡ oldest_below node tested (line + 1)
-found_left node tested line found is same skips =
-    elim (cases_Bool (has_pending node line && tested line)) [
-      | inl passes ↦ kept node tested line found is same passes (λ older. (let clash : true ≡ false = sym passes ∙ skips older in cc))
-      | inr fails ↦ same ∙ sym (oldest_left node tested line fails)
-    ]
+found_left node tested line found is same skips = grind (arith, cases_Bool, kept, oldest_left)
 
 -- ---- one line more of the walk
 
@@ -119,31 +101,17 @@ nothing_pending node IsMeant line found none was =
 pub older_found : (node : NodeOf) (IsMeant : (ℕ → Bool) → Type 0) (line : ℕ) (found : Option (ℕ × ℕ)) (p : Pending) → pending_on node line ≡ Some p
     → is_older_than p.serial found ≡ true → ((tested : ℕ → Bool) → IsMeant tested → tested line ≡ true)
     → IsFoundBelow node IsMeant line found → IsFoundBelow node IsMeant (line + 1) (Some (line, p.serial))
-older_found node IsMeant line found p at older passes was =
-    let serial : serial_on node line ≡ p.serial = ap serial_in at in (
-      sym serial,
-      λ tested is. found_next node tested line found was.0 (was.1 tested is)
-          (pending_and (pending_on node line) p (tested line) true at (passes tested is)) (ap (λ (s : ℕ). is_older_than s found) serial ∙ older),
-    )
+older_found node IsMeant line found p at older passes was = grind (arith, found_next, pending_and)
 
 pub not_meant : (node : NodeOf) (IsMeant : (ℕ → Bool) → Type 0) (line : ℕ) (found : Option (ℕ × ℕ)) (p : Pending) → pending_on node line ≡ Some p
     → ((tested : ℕ → Bool) → IsMeant tested → tested line ≡ false)
     → IsFoundBelow node IsMeant line found → IsFoundBelow node IsMeant (line + 1) found
-not_meant node IsMeant line found p at fails was = (
-  was.0,
-  λ tested is. found_left node tested line found was.0 (was.1 tested is)
-      (λ older. pending_and (pending_on node line) p (tested line) false at (fails tested is)),
-)
+not_meant node IsMeant line found p at fails was = grind (arith, found_left, pending_and)
 
 pub not_older : (node : NodeOf) (IsMeant : (ℕ → Bool) → Type 0) (line : ℕ) (found : Option (ℕ × ℕ)) (p : Pending) → pending_on node line ≡ Some p
     → is_older_than p.serial found ≡ false
     → IsFoundBelow node IsMeant line found → IsFoundBelow node IsMeant (line + 1) found
-not_older node IsMeant line found p at younger was =
-    let serial : serial_on node line ≡ p.serial = ap serial_in at in (
-      was.0,
-      λ tested is. found_left node tested line found was.0 (was.1 tested is)
-          (λ older. (let clash : true ≡ false = sym older ∙ (ap (λ (s : ℕ). is_older_than s found) serial ∙ younger) in cc)),
-    )
+not_older node IsMeant line found p at younger was = grind (arith, found_left)
 
 -- ---- lines that are passed over
 

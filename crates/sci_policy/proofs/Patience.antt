@@ -1,9 +1,9 @@
 -- What a call of the policy leaves marked, and what it marks when patience ends.
-use Rattle.std.proofs.Common.{◌≡◌, ◌≤◌, ◌<◌, ◌+◌, ◌%◌, ◌||◌, ℕ, nat_lt, Bool, true, false, List, set, length, arith}
-use Rattle.std.proofs.Common.{Option, Some, None, refl, sym, ap, subst, ◌∙◌, inl, inr, rules, get_or-set_same, get_or-set_other}
-use Rattle.std.proofs.lemmas.{Bool.{cases_Bool, cases_eq, le-ltb, ltb-true, ltb-false}}
+use Rattle.std.proofs.Common.{◌≡◌, ◌<◌, ◌+◌, ◌%◌, ◌||◌, ℕ, nat_lt, Bool, true, false, List, length, arith}
+use Rattle.std.proofs.Common.{Option, Some, None, refl, sym, ap, subst, ◌∙◌, rules, get_or-set_same, get_or-set_other}
+use Rattle.std.proofs.lemmas.{Bool.{cases_Bool, cases_eq, ltb-true, ltb-false}}
 use Rattle.std.proofs.lemmas.List.FromFn.{length-map-range_with_len}
-use Rattle.sci_words.specs.declared.{event.{AskKind.{AskKind}}, limits.TheConstants.{MAX_LINES}}
+use Rattle.sci_words.specs.declared.{limits.TheConstants.{MAX_LINES}}
 use Rattle.sci_cache.specs.{Kinds.{has_fresh_sharers, has_sharers}}
 use Rattle.sci_core.specs.{Node.{NodeOf}}
 use Rattle.sci_policy.specs.declared.{policy.TheConstants.{PATIENCE}, want.Want.{Want, TheVariants.{Perform, Ask}}}
@@ -18,10 +18,7 @@ noted_draining : (policy : PolicyOf) (node : NodeOf) (want : Option Want) (line 
     → has (noted policy node want).draining line ≡ true
 noted_draining policy node None line below marked = marked
 noted_draining policy node (Some (Perform other)) line below marked = marked
-noted_draining policy node (Some (Ask other kind.Purge)) line below marked = elim (cases_eq line other) [
-  | inl same ↦ subst (λ (l : ℕ). has (set policy.draining l true) line ≡ true) same (get_or-set_same policy.draining line true false below)
-  | inr apart ↦ get_or-set_other policy.draining other line true false apart ∙ marked
-]
+noted_draining policy node (Some (Ask other kind.Purge)) line below marked = grind (arith, cases_eq, get_or-set_same, get_or-set_other)
 noted_draining policy node (Some (Ask other kind.Mread)) line below marked = marked
 noted_draining policy node (Some (Ask other kind.Fread)) line below marked = marked
 noted_draining policy node (Some (Ask other _)) line below marked = marked
@@ -92,14 +89,7 @@ last_patience policy node ends =
     noted_patience (ticked policy node) node (next_wanted policy node) ∙ ap (λ (b : Bool). (ticked_if policy node b).patience) ends
 
 pub patience_counts : (policy : PolicyOf) (node : NodeOf) → policy.patience < PATIENCE → (next_policy policy node).patience ≡ (policy.patience + 1) % PATIENCE
-patience_counts policy node low = elim (cases_Bool (nat_lt (policy.patience + 1) PATIENCE)) [
-  | inl lasts ↦
-      let more : policy.patience + 1 < 64 = ltb-true (policy.patience + 1) 64 lasts in
-      next_patience policy node lasts ∙ (omega (arith, more))
-  | inr ends ↦
-      let full : 64 ≤ policy.patience + 1 = ltb-false (policy.patience + 1) 64 ends in
-      last_patience policy node ends ∙ (omega (arith, full, low))
-]
+patience_counts policy node low = grind (arith, cases_Bool, ltb-true, next_patience, ltb-false, last_patience)
 
 pub ended : (policy : PolicyOf) → policy.patience + 1 ≡ PATIENCE → nat_lt (policy.patience + 1) PATIENCE ≡ false
 ended policy is = ap (λ (k : ℕ). nat_lt k PATIENCE) is

@@ -1,20 +1,20 @@
 -- Laws of what the policy wants, of its draining and its due lines, and of the requests that it keeps.
-use Rattle.std.proofs.Common.{◌≡◌, ◌≢◌, ℕ, ◌+◌, ◌<◌, ◌==◌, ◌&&◌, ◌||◌, not, Bool, true, false, if◌then◌else◌, Option, Some, None, set, List, refl, sym}
+use Rattle.std.proofs.Common.{◌≡◌, ◌≢◌, ℕ, ◌+◌, ◌<◌, ◌==◌, ◌&&◌, ◌||◌, not, Bool, true, false, if◌then◌else◌, Option, Some, None, set, List, refl, sym, arith}
 use Rattle.std.proofs.Common.{ap, rules, subst, eq-eqb, get_or-set_other, inl, inr, ◌∙◌}
 use Rattle.std.proofs.lemmas.Bool.{and_parts, cases_eq, cases_lt, or_cases}
 use Rattle.std.specs.Prelude.{IfSome, IsOk, IsSome, nat_lt}
 use Rattle.sci_words.specs.declared.{limits.TheConstants.{MAX_LINES}, event.AskKind.{AskKind}}
 use Rattle.sci_packets.specs.declared.body.Body.{Body, TheVariants.{Cread}}
-use Rattle.sci_cache.specs.State.{CacheState, Joining, FreshJoining, Head, FreshHead, Telling, is_out}
-use Rattle.sci_cache.specs.{Asking.{Asked, asking}, Cache.{CacheOf, Letter, cache_asked, has_slot}}
+use Rattle.sci_cache.specs.State.{CacheState, Joining, FreshJoining, Head, FreshHead, Telling}
+use Rattle.sci_cache.specs.{Asking.{Asked, asking}, Cache.{CacheOf, Letter, cache_asked}}
 use Rattle.sci_cache.specs.{Kinds.{has_fresh_sharers, has_sharers, joins}, Line.{ask_or_fault}}
 use Rattle.sci_core.specs.Node.{NodeOf, lines_of, node_asking}
 use Rattle.sci_core.proofs.Step.Asks.{may_ask}
 use Rattle.sci_policy.specs.declared.{decision.Decision.TheVariants.{Keep, Refuse, Serve}, policy.TheConstants.{PATIENCE}}
 use Rattle.sci_policy.specs.declared.want.Want.{Want, TheVariants.{Perform, Ask}}
-use Rattle.sci_policy.specs.Lines.{can_be_due, can_drain, has_maker, is_head, state_on}
+use Rattle.sci_policy.specs.Lines.{can_be_due, can_drain, is_head, state_on}
 use Rattle.sci_policy.specs.Policy.{IsEnabledWant, PolicyOf, asks_home_to_change, awaits_home, decided, draining_at_last, due_at_last, has, held_back}
-use Rattle.sci_policy.specs.Policy.{is_busy_now, is_cread, kept_by, next_policy, next_wanted, noted, refused_by, ruled, set_of}
+use Rattle.sci_policy.specs.Policy.{is_busy_now, is_cread, kept_by, next_policy, next_wanted, noted, ruled, set_of}
 use Rattle.sci_policy.specs.Policy.{still_draining, still_due, ticked}
 use Rattle.sci_policy.proofs.{Found.{least_some}, Marks.{in_set, past_set}, Wants.{wanted_enabled}}
 use Rattle.sci_words.specs.declared.event.AskKind.TheVariants as kind
@@ -67,10 +67,7 @@ made_some cache line (Some asked) lacks ok = refl
 
 -- a line on which a Purge is enabled can drain
 purge_enabled : (node : NodeOf) (line : ℕ) → IsSome (node_asking node line kind.Purge) → can_drain (state_on node line) ≡ true
-purge_enabled node line enabled =
-    let asked = (may_ask node line kind.Purge enabled).1 in
-    purge_drains (state_on node line)
-    (made_some node.cache line (asking (state_on node line) kind.Purge) (is_out (state_on node line) && not (has_slot node.cache)) asked)
+purge_enabled node line enabled = grind (arith, may_ask, purge_drains, made_some)
 
 -- every marked line can drain
 abbrev CanDrain : NodeOf → List Bool → Type 0
@@ -86,10 +83,7 @@ still_drains : (policy : PolicyOf) (node : NodeOf) (line : ℕ) → still_draini
 still_drains policy node line h = (and_parts (has policy.draining line) (can_drain (state_on node line)) h).1
 
 last_drains : (policy : PolicyOf) (node : NodeOf) (line : ℕ) → draining_at_last policy node line ≡ true → can_drain (state_on node line) ≡ true
-last_drains policy node line h = elim (or_cases (still_draining policy node line) (has_sharers (state_on node line)) h) [
-  | inl still ↦ still_drains policy node line still
-  | inr shared ↦ sharers_drain (state_on node line) shared
-]
+last_drains policy node line h = grind (arith, or_cases, still_drains, sharers_drain)
 
 -- the policy after one call more, if patience lasts or has ended
 abbrev pub ticked_if : PolicyOf → NodeOf → Bool → PolicyOf
@@ -107,10 +101,7 @@ ticked_drains : (policy : PolicyOf) (node : NodeOf) → CanDrain node (ticked po
 ticked_drains policy node = ticked_by policy node (nat_lt (policy.patience + 1) PATIENCE)
 
 marked_too : (node : NodeOf) (marks : List Bool) (line : ℕ) → can_drain (state_on node line) ≡ true → CanDrain node marks → CanDrain node (set marks line true)
-marked_too node marks line drains before = λ other marked. (elim (cases_eq other line) [
-  | inl same ↦ subst (λ (l : ℕ). can_drain (state_on node l) ≡ true) (sym same) drains
-  | inr ne ↦ before other (sym (get_or-set_other marks line other true false ne) ∙ marked)
-])
+marked_too node marks line drains before = grind (arith, cases_eq, get_or-set_other)
 
 noted_drains : (policy : PolicyOf) (node : NodeOf) (want : Option Want) → IfSome want (IsEnabledWant node) → CanDrain node policy.draining
     → CanDrain node (noted policy node want).draining
@@ -186,23 +177,15 @@ differ m n other = λ same. (let equal = eq-eqb m n same in cc)
 
 pub kept_is_cread : (policy : PolicyOf) (node : NodeOf) (request : Letter) → kept_by policy node request ≡ true
     → (request.body ≡ Cread) × (request.source ≢ node.cache.me)
-kept_is_cread policy node request kept =
-    let first = (and_parts (is_cread request.body && not (request.source == node.cache.me)) _ kept).0 in
-    let both = and_parts (is_cread request.body) (not (request.source == node.cache.me)) first in
-    (cread_is request.body both.0, differ request.source node.cache.me both.1)
+kept_is_cread policy node request kept = grind (arith, and_parts, cread_is, differ)
 
 in_last_turn : (awaits other : Bool) (turns : ℕ) → turns ≡ 0 → (awaits || (not (turns == 0) && other)) ≡ true → awaits ≡ true
 in_last_turn true other turns zero kept = refl
-in_last_turn false other turns zero kept =
-    let counted = (and_parts (not (turns == 0)) other kept).0 in
-    let none = eq-eqb turns 0 zero in
-    cc
+in_last_turn false other turns zero kept = grind (arith, and_parts, eq-eqb)
 
 pub kept_awaits_home : (policy : PolicyOf) (node : NodeOf) (request : Letter) → policy.turns ≡ 0 → kept_by policy node request ≡ true
     → awaits_home (state_on node request.line) ≡ true
-kept_awaits_home policy node request zero kept =
-    let why = (and_parts (is_cread request.body && not (request.source == node.cache.me)) _ kept).1 in
-    in_last_turn (awaits_home (state_on node request.line)) (is_busy_now (state_on node request.line) || refused_by policy node request) policy.turns zero why
+kept_awaits_home policy node request zero kept = grind (arith, and_parts, in_last_turn)
 
 -- ---- requests that are served
 
@@ -224,11 +207,4 @@ used_no c drains head maker used last none is now = search rules
 
 pub used_given : (policy : PolicyOf) (node : NodeOf) (request : Letter) → policy.turns ≡ 0 → is_head (state_on node request.line) ≡ true
     → has policy.used request.line ≡ true → still_draining policy node request.line ≡ false → decided policy node request ≡ Serve
-used_given policy node request zero head used drains =
-    let s = state_on node request.line in
-    let refused : refused_by policy node request ≡ false =
-    used_no (is_cread request.body) (still_draining policy node request.line) (is_head s) (has_maker node request.line) (has policy.used request.line)
-    (policy.turns == 0) drains used (eq-eqb policy.turns 0 zero) in
-    let kept : kept_by policy node request ≡ false =
-    kept_no (is_cread request.body) _ (awaits_home s) _ (is_busy_now s) (refused_by policy node request) (head_awaits s head) (head_busy s head) refused in
-    serve_if (kept_by policy node request) (refused_by policy node request) kept refused
+used_given policy node request zero head used drains = grind (arith, eq-eqb, kept_no, head_awaits, head_busy, serve_if)

@@ -41,16 +41,4 @@ no_value None e = refl
 no_value (Some x) e = cc
 
 pub idle_tells : (progress : Progress) → is_idle progress ≡ true → MadeNothing progress × (progress.ready ≡ None)
-idle_tells progress idle =
-    let both = and_parts _ _ idle in
-    let taken = and_parts _ _ both.0 in
-    let others = and_parts _ _ both.1 in
-    let sent = and_parts _ _ others.0 in (
-      record {
-        accepted = eqb-true progress.accepted 0 taken.0;
-        served = eqb-true progress.served 0 taken.1;
-        replied = not-true progress.replied sent.0;
-        asked = not-true progress.asked sent.1;
-      },
-      no_value progress.ready others.1,
-    )
+idle_tells progress idle = grind (arith, and_parts, eqb-true, not-true, no_value)

@@ -1,10 +1,10 @@
 -- What each rule wants is enabled, whatever the node is.
-use Rattle.std.proofs.Common.{◌≡◌, ℕ, ◌<◌, nat_lt, ◌&&◌, ◌||◌, not, Bool, true, false, if◌then◌else◌, Option, Some, None, refl, sym, ap, subst, ◌∙◌}
+use Rattle.std.proofs.Common.{◌≡◌, ℕ, ◌<◌, ◌&&◌, ◌||◌, not, Bool, true, false, if◌then◌else◌, Option, Some, None, refl, arith}
 use Rattle.std.proofs.lemmas.Bool.{and_parts, lt-ltb}
 use Rattle.std.specs.{Prelude.{IfSome, IsSome, is_some, option_map}, Option.{option_or, option_and_then}}
 use Rattle.sci_words.specs.declared.event.AskKind.{AskKind}
 use Rattle.sci_cache.specs.State.{CacheState, Out, Joining, FreshJoining, Head, FreshHead, Below, Telling, is_out}
-use Rattle.sci_cache.specs.{Asking.{Asked, asking}, Line.{ask_or_fault}, Cache.{cache_asked, cache_asking, has_slot}}
+use Rattle.sci_cache.specs.{Asking.{Asked, asking}, Line.{ask_or_fault}, Cache.{cache_asked, has_slot}}
 use Rattle.sci_cache.specs.Kinds.{could_give_way, has_fresh_sharers, has_sharers, must_send, joins}
 use Rattle.sci_core.specs.Node.{NodeOf, asked_by, lines_of, node_asking, node_performing}
 use Rattle.sci_policy.specs.declared.want.Want.{Want, TheVariants.{Perform, Ask}}
@@ -44,12 +44,7 @@ lacks_none false free h = refl
 
 pub ask_enabled : (node : NodeOf) (line : ℕ) (k : AskKind) → line < lines_of node → IsSome (asking (state_on node line) k)
     → (is_out (state_on node line) ≡ true → has_slot node.cache ≡ true) → IsSome (node_asking node line k)
-ask_enabled node line k below asks slot =
-    let inside : (if nat_lt line (lines_of node) then asked_by node (cache_asking node.cache line k) else None) ≡ asked_by node
-    (cache_asking node.cache line k) =
-    ap (λ (b : Bool). if b then asked_by node (cache_asking node.cache line k) else None) (lt-ltb line (lines_of node) below) in
-    ap is_some inside ∙ made_enabled node line (asking (state_on node line) k) (is_out (state_on node line) && not (has_slot node.cache)) asks
-    (lacks_none (is_out (state_on node line)) (has_slot node.cache) slot)
+ask_enabled node line k below asks slot = grind (arith, lt-ltb, made_enabled, lacks_none)
 
 -- a state with an entry makes this ask
 pub record Makes (state : CacheState) (k : AskKind) : Type 0 where
@@ -85,9 +80,7 @@ own_makes maker _ = tt
 -- ---- the rules
 
 pub line_asks : (node : NodeOf) (line : ℕ) → line < lines_of node → IfSome (ask_of node line) (IsEnabledWant node)
-line_asks node line below =
-    mapped (Ask line) (own_ask (has_maker node line) (state_on node line)) (Makes (state_on node line)) (IsEnabledWant node)
-    (own_makes (has_maker node line) (state_on node line)) (λ k makes. made_ask node line k below makes)
+line_asks node line below = grind (arith, mapped, own_makes, made_ask)
 
 reads : (maker : Bool) → IsSome (asking Out (read_kind maker))
 reads true = refl
@@ -95,9 +88,7 @@ reads false = refl
 
 read_enabled : (node : NodeOf) (line : ℕ) (free : Bool) → line < lines_of node → state_on node line ≡ Out → has_slot node.cache ≡ free
     → IfSome (if free then Some (Ask line (read_kind (has_maker node line))) else None) (IsEnabledWant node)
-read_enabled node line true below out slot =
-    ask_enabled node line (read_kind (has_maker node line)) below
-    (subst (λ (s : CacheState). IsSome (asking s (read_kind (has_maker node line)))) (sym out) (reads (has_maker node line))) (λ _. slot)
+read_enabled node line true below out slot = grind (arith, ask_enabled, reads)
 read_enabled node line false below out slot = tt
 
 asked_enabled : (node : NodeOf) (line : ℕ) (state : CacheState) → line < lines_of node → state_on node line ≡ state
@@ -148,12 +139,7 @@ contents_enabled node =
     (λ line fits. asked_enabled node line (state_on node line) fits.0 refl)
 
 ruled_enabled : (policy : PolicyOf) (node : NodeOf) → IfSome (ruled policy node) (IsEnabledWant node)
-ruled_enabled policy node =
-    either (perform_wanted node) _ (IsEnabledWant node) (performs_enabled node)
-    (either (purge_wanted policy node) _ (IsEnabledWant node) (purge_enabled policy node)
-    (either (send_wanted node) _ (IsEnabledWant node) (send_enabled node)
-    (either (due_wanted policy node) _ (IsEnabledWant node) (due_enabled policy node)
-    (either (slot_wanted node) (contents_wanted node) (IsEnabledWant node) (slot_enabled node) (contents_enabled node)))))
+ruled_enabled policy node = grind (arith, either, performs_enabled, purge_enabled, send_enabled, due_enabled, slot_enabled, contents_enabled)
 
 held_if : (b : Bool) (want : Want) (Q : Want → Type 0) → Q want → IfSome (if b then None else Some want) Q
 held_if true want Q h = tt

@@ -1,8 +1,8 @@
 -- What a node does in a turn, and what is reported of it.
 use Rattle.std.specs.Prelude.{◌≡◌, ℕ, ◌+◌, nat_lt, Bool, true, false, not, ◌&&◌, ◌||◌, ◌==◌, is_none, if◌then◌else◌, List, count_by, Option, Some, None}
-use Rattle.std.specs.{Prelude.{is_some, IfSome, IsSome}, List.{list_any}}
-use Rattle.sci_words.specs.declared.{limits.TheConstants.{WORDS_PER_LINE}, event.Event.{Event}, operation.Op.{Op}}
-use Rattle.sci_core.specs.{Core.{node_of}, Node.{NodeOf, lines_of, node_performing, pending_on}}
+use Rattle.std.specs.{Prelude.{IfSome, IsSome}, List.{list_any}}
+use Rattle.sci_words.specs.declared.{event.Event.{Event}}
+use Rattle.sci_core.specs.{Core.{node_of}, Node.{NodeOf, node_performing}}
 use Rattle.sci_policy.specs.declared.decision.Decision.{Decision, TheVariants.{Keep, Refuse, Serve}}
 use Rattle.sci_policy.specs.declared.progress.Progress.{Progress}
 use Rattle.sci_words.specs.declared.event.Event.TheVariants as event

@@ -1,4 +1,5 @@
-use Rattle.std.proofs.{Common.{◌≡◌, ◌+◌, ◌≤◌, ◌<◌, nat_lt, Bool, false, true, List, sym, ap, ◌∙◌}, lemmas.Bool.{le-ltb, lt-ltb}}
+use Rattle.std.proofs.Common.{arith}
+use Rattle.std.proofs.{Common.{◌≡◌, ◌+◌, ◌≤◌, ◌<◌, Bool, List, sym, ap, ◌∙◌}, lemmas.Bool.{le-ltb, lt-ltb}}
 use Rattle.sci_core.specs.Node.{NodeOf}
 use Rattle.sci_policy.specs.declared.policy.TheConstants.{PATIENCE}
 use Rattle.sci_policy.specs.Policy.{PolicyOf, draining_at_last, due_at_last, set_of, still_draining, still_due, ticked}
@@ -9,21 +10,13 @@ use Rattle.sci_policy.proofs.policy.Policy.tick.Goals as goal
 at_last : (policy : PolicyOf) (node : NodeOf) (draining due : List Bool) → PATIENCE ≤ policy.patience + 1 → draining ≡ set_of (draining_at_last policy node)
     → due ≡ set_of (due_at_last policy node)
     → record policy { draining = draining; due = due; patience = 0 } ≡ ticked policy node
-at_last policy node draining due ended drains dues =
-    let ends : nat_lt (policy.patience + 1) PATIENCE ≡ false = le-ltb (policy.patience + 1) PATIENCE ended in
-    ap (λ (lines : List Bool). record policy { draining = lines; due = due; patience = 0 }) drains
-    ∙ (ap (λ (lines : List Bool). record policy { draining = set_of (draining_at_last policy node); due = lines; patience = 0 }) dues
-    ∙ ap (ticked_if policy node) (sym ends))
+at_last policy node draining due ended drains dues = grind (arith, le-ltb, ticked_if)
 
 -- one call more, while patience lasts
 still : (policy : PolicyOf) (node : NodeOf) (draining due : List Bool) → policy.patience + 1 < PATIENCE → draining ≡ set_of (still_draining policy node)
     → due ≡ set_of (still_due policy node)
     → record policy { draining = draining; due = due; patience = policy.patience + 1 } ≡ ticked policy node
-still policy node draining due lasts drains dues =
-    let goes_on : nat_lt (policy.patience + 1) PATIENCE ≡ true = lt-ltb (policy.patience + 1) PATIENCE lasts in
-    ap (λ (lines : List Bool). record policy { draining = lines; due = due; patience = policy.patience + 1 }) drains
-    ∙ (ap (λ (lines : List Bool). record policy { draining = set_of (still_draining policy node); due = lines; patience = policy.patience + 1 }) dues
-    ∙ ap (ticked_if policy node) (sym goes_on))
+still policy node draining due lasts drains dues = grind (arith, lt-ltb, ticked_if)
 
 pub returns-then-self-lt-PATIENCE : goal.returns-then-self-lt-PATIENCE
 returns-then-self-lt-PATIENCE c =
