@@ -1,5 +1,5 @@
 -- What a node can do at its post.
-use Rattle.std.proofs.Common.{◌≡◌, ◌<◌, ℕ, false, List, ◌∷◌, Option, Some, None, refl, sym, ap, subst, ◌∙◌}
+use Rattle.std.proofs.Common.{◌≡◌, ◌<◌, ℕ, false, List, ◌∷◌, Option, Some, None, refl, sym, ap, subst, ◌∙◌, arith}
 use Rattle.std.specs.Prelude.{IsSome, option_map}
 use Rattle.sci_words.specs.declared.event.{AskKind.{AskKind}, Event.{Event}}
 use Rattle.sci_cache.specs.Cache.{Letter}
@@ -24,18 +24,7 @@ front_taken core n from kind taking e letter rest takes is some =
 takes_oldest : (post : PostOf) (from : ℕ) (kind : LaneKind) (letter : Letter) (e : Event) (taking : NodeOf → Letter → Option NodeOf) → from < nodes_in post
     → node_of e ≡ post.me → side (node_in post) e ≡ Takes kind from (taking (node_in post)) → IsFront post kind from letter
     → TakesFront post.core post.me kind taking from e → IsSome (taking (node_in post) letter) → MayTake post kind from letter e
-takes_oldest post from kind letter e taking f own side_is front takes some =
-    let next = found (taking (node_in post) letter) some in
-    record {
-      own = own;
-      front = front;
-      enabled = front_taken post.core post.me from kind taking e letter front.0 takes front.1 some;
-      sender = f;
-      taking = taking (node_in post);
-      next = next.0;
-      side_is = side_is;
-      gives = next.1;
-    }
+takes_oldest post from kind letter e taking f own side_is front takes some = grind (arith, found, front_taken)
 
 pub may_accept : (post : PostOf) (from : ℕ) (letter : Letter) → IsPost post → from < nodes_in post → IsFront post Answers from letter
     → MayTake post Answers from letter (event.Accept from post.me)

@@ -1,11 +1,11 @@
 -- A turn that reports nothing has found nothing to do; and then nothing is pending, or an answer of another is awaited.
-use Rattle.std.proofs.Common.{◌≡◌, ◌≤◌, ◌<◌, ℕ, true, if◌then◌else◌, arith, List, [], ◌∷◌, length, Option, Some, None, refl, sym, ap, subst, ◌∙◌, inl, inr}
+use Rattle.std.proofs.Common.{◌≡◌, ◌≤◌, ◌<◌, ℕ, true, arith, List, [], ◌∷◌, length, Option, Some, None, refl, sym, subst, ◌∙◌, inl, inr}
 use Rattle.std.proofs.lemmas.Bool.{cases_lt}
-use Rattle.std.specs.Prelude.{IfSome, IsSome, is_some, slice_get}
+use Rattle.std.specs.Prelude.{IfSome, IsSome, slice_get}
 use Rattle.sci_words.specs.declared.event.{AskKind.{AskKind}, Event.{Event}}
 use Rattle.sci_cache.specs.{State.{waits}, Cache.{Letter}}
 use Rattle.sci_core.specs.declared.lane.LaneKind.TheVariants.{Answers, Requests}
-use Rattle.sci_core.specs.{Core.{Core, lane_of, lane_place, node_at, node_of}, Node.{NodeOf, node_asking}}
+use Rattle.sci_core.specs.{Core.{Core, lane_of, lane_place, node_at}, Node.{NodeOf, node_asking}}
 use Rattle.sci_core.specs.{Reached.{IsReached}, Size.{Size}, WellFormed.{IsInLane}}
 use Rattle.sci_core.proofs.{Step.{Applied.{front_holds}, Places.{place_from}}, Settling.Drains.{some_node}}
 use Rattle.sci_core.proofs.{Tidy.Enabled.{request_enabled}, Basics.Options.{of_some, found}}
@@ -26,10 +26,7 @@ use Rattle.sci_turn.specs.Idle.{IsHeldUp, IsIdleTurn, WasSo}
 -- no other node makes an event
 alone_leads : (n : ℕ) (old : Core) (others : List Event) (new : Core) → n ≡ 0 → old.size.nodes ≡ 1 → OthersLead n old others new → old ≡ new
 alone_leads n old [] new first one lead = lead
-alone_leads n old (e ∷ others) new first one lead =
-    let below : node_of e < old.size.nodes = some_node old lead.0 e lead.1 in
-    let zero : node_of e ≡ 0 = first_only (node_of e) old.size.nodes below one in
-    absurd (lead.2 (zero ∙ sym first))
+alone_leads n old (e ∷ others) new first one lead = grind (arith, some_node, first_only)
 
 pub record AloneIdle (policy : PolicyOf) (core : Core) : Type 0 where
   pub reply : IfSome (node_at core 0).waiting (λ answer. 4 ≤ length (lane_of core Answers 0 answer.target))
@@ -47,10 +44,7 @@ no_front (letter ∷ rest) e = cc
 free_by : (core : Core) (waiting : Option Letter) → IfSome waiting (λ answer. 4 ≤ length (lane_of core Answers 0 answer.target))
     → ((answer : Letter) → waiting ≡ Some answer → lane_of core Answers 0 answer.target ≡ []) → waiting ≡ None
 free_by core None full empty = refl
-free_by core (Some answer) full empty =
-    let long : length (lane_of core Answers 0 answer.target) ≡ 0 = ap length (empty answer refl) in
-    let many : 4 ≤ length (lane_of core Answers 0 answer.target) = full in
-    absurd (omega arith)
+free_by core (Some answer) full empty = grind arith
 
 own_taken : (policy : PolicyOf) (node : NodeOf) (request : Letter) (n : ℕ) → request.source ≡ node.cache.me
     → decided_event (decided policy node request) n n ≡ None → ⊥
@@ -59,10 +53,7 @@ own_taken policy node request n own none = keeps_no_own policy node request own 
 taken_if : (policy : PolicyOf) (node : NodeOf) (n : ℕ) (front : Option Letter) → node.waiting ≡ None → IfSome front (λ request. request.source ≡ node.cache.me)
     → taking_event policy node n n front ≡ None → front ≡ None
 taken_if policy node n None free own none = refl
-taken_if policy node n (Some request) free own none =
-    let event : decided_event (decided policy node request) n n ≡ None =
-    subst (λ (w : Option Letter). (if is_some w then None else decided_event (decided policy node request) n n) ≡ None) free none in
-    absurd (own_taken policy node request n own event)
+taken_if policy node n (Some request) free own none = grind (arith, own_taken)
 
 front_own : (P : Letter → Type 0) (lane : List Letter) (front : Option Letter) → slice_get lane 0 ≡ front
     → ((letter : Letter) → slice_get lane 0 ≡ Some letter → P letter) → IfSome front P
@@ -93,11 +84,7 @@ alone_idle policy core reached one nothing line awaits =
 
 -- what was so at a moment is so still, of a node that is alone
 alone_so : (P : Core → ℕ → Type 0) (old new : PostOf) → new.me ≡ 0 → new.core.size.nodes ≡ 1 → WasSo (λ post. P post.core post.me) old new → P new.core 0
-alone_so P old new first one was =
-    let zero : was.mid.me ≡ 0 = sym was.after.same.me ∙ first in
-    let alone : was.mid.core.size.nodes ≡ 1 = ap (λ (s : Size). s.nodes) (sym was.after.same.size) ∙ one in
-    let same : was.mid.core ≡ new.core = alone_leads was.mid.me was.mid.core was.after.others new.core zero alone was.after.lead in
-    subst (λ (c : Core). P c 0) same (subst (P was.mid.core) zero was.so)
+alone_so P old new first one was = grind (arith, alone_leads)
 
 alone_nothing : (before after : PolicyOf) (old new : PostOf) → new.me ≡ 0 → new.core.size.nodes ≡ 1 → IsIdleTurn before old after new
     → AloneIdle (turned before) new.core

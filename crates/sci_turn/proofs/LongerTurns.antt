@@ -1,5 +1,5 @@
 -- A turn with one step more.
-use Rattle.std.proofs.Common.{◌≡◌, ℕ, Bool, eqb, List, [], ◌∷◌, ◌++◌, Some, refl, sym, ap, subst, ◌∙◌, inl, inr}
+use Rattle.std.proofs.Common.{◌≡◌, ℕ, Bool, eqb, List, [], ◌∷◌, ◌++◌, Some, refl, sym, ap, subst, ◌∙◌, inl, inr, arith}
 use Rattle.std.proofs.lemmas.{Bool.{eq-eqb, ne_eqb}, List.{append-nil, Elements.{filter-append}}}
 use Rattle.std.specs.Prelude.{cond}
 use Rattle.sci_words.specs.declared.event.Event.{Event}
@@ -48,17 +48,7 @@ own_more n more e is = own_join n more (e ∷ []) ∙ ap (λ (es : List Event). 
 -- no event was made
 moved_still : (first policy : PolicyOf) (start old new : PostOf) (told : Progress) → IsStill old new → HasMoved first start policy old told
     → HasMoved first start policy new told
-moved_still first policy start old new told still moved =
-    let lead : OthersLead start.me old.core still.others new.core = subst (λ (n : ℕ). OthersLead n old.core still.others new.core) moved.same.me still.lead in
-    record {
-      same = same_then start old new moved.same still.same;
-      more = moved.more ++ still.others;
-      leads = leads_join start.me first start.core moved.more policy old.core still.others policy new.core moved.leads
-          (leads_others start.me policy old.core still.others new.core lead);
-      further = further_then start.me start.schedule moved.more old.schedule still.others new.schedule moved.further
-          (subst (λ (n : ℕ). IsFurther n old.schedule still.others new.schedule) moved.same.me still.further);
-      counts = subst (λ (es : List Event). Counts es told) (sym (own_seen start.me old.core moved.more still.others new.core lead)) moved.counts;
-    }
+moved_still first policy start old new told still moved = grind (arith, same_then, leads_join, leads_others, further_then, own_seen)
 
 -- an event was made
 moved_more : (first before after : PolicyOf) (start mid new : PostOf) (told tells : Progress) (e : Event) → HasMoved first start before mid told
@@ -92,11 +82,7 @@ goes_still old new none = record {
 }
 
 pub goes_then : (old mid new : Stage) → ContinuesTurn old mid → ContinuesTurn mid new → ContinuesTurn old new
-goes_then old mid new one two = record {
-  same = same_then old.post mid.post new.post one.same two.same;
-  ready = two.ready ∙ one.ready;
-  turn = λ before start moved. two.turn before start (one.turn before start moved);
-}
+goes_then old mid new one two = grind (arith, same_then)
 
 pub goes_made : (e : Event) (old new : Stage) → IsTurnEvent old.post.me e → Makes e old new → CountsOne e old.report new.report → ContinuesTurn old new
 goes_made e old new own made counts =
@@ -131,21 +117,4 @@ ends_asked before old policy after new told is moved = record { policy = policy;
 pub ends_ready : (before : PolicyOf) (old : PostOf) (after : PolicyOf) (new : PostOf) (told tells : Progress) → tells.accepted ≡ told.accepted
     → tells.served ≡ told.served → tells.replied ≡ told.replied → tells.asked ≡ told.asked
     → HasEnded before old after new told → HasEnded before old after new tells
-ends_ready before old after new told tells accepted served replied asked ended =
-    let counts = ended.moved.counts in
-    record {
-      policy = ended.policy;
-      moved = record {
-        same = ended.moved.same;
-        more = ended.moved.more;
-        leads = ended.moved.leads;
-        further = ended.moved.further;
-        counts = record {
-          accepted = accepted ∙ counts.accepted;
-          served = served ∙ counts.served;
-          replied = replied ∙ counts.replied;
-          asked = asked ∙ counts.asked;
-        };
-      };
-      asked = ended.asked;
-    }
+ends_ready before old after new told tells accepted served replied asked ended = grind arith

@@ -1,6 +1,6 @@
 -- What was so at a moment of a turn that reports nothing.
-use Rattle.std.proofs.Common.{◌≡◌, ◌<◌, ℕ, if◌then◌else◌, List, [], Option, None, sym, ap, subst, ◌∙◌}
-use Rattle.std.specs.Prelude.{Result, Ok, Err, IfOk, is_some, slice_get}
+use Rattle.std.proofs.Common.{◌≡◌, ◌<◌, ℕ, List, [], None, sym, ap, subst, arith}
+use Rattle.std.specs.Prelude.{Result, Ok, Err, IfOk, slice_get}
 use Rattle.sci_cache.specs.Cache.{Letter}
 use Rattle.sci_core.specs.{declared.lane.LaneKind.TheVariants.{Requests}, Size.{Size}}
 use Rattle.sci_policy.specs.{Policy.{PolicyOf, decided}, Turn.{decided_event}}
@@ -29,9 +29,7 @@ none_came policy from post empty = ap (λ (lane : List Letter). taking_event pol
 -- the event of a request that has come, when no answer waits
 pub taken_event : (policy : PolicyOf) (from : ℕ) (post : PostOf) (request : Letter) → IsFront post Requests from request → (node_in post).waiting ≡ None
     → taken_next policy post.core from post.me ≡ decided_event (decided policy (node_in post) request) from post.me
-taken_event policy from post request front free =
-    ap (λ (lane : List Letter). taking_event policy (node_in post) from post.me (slice_get lane 0)) front.1
-    ∙ ap (λ (w : Option Letter). if is_some w then None else decided_event (decided policy (node_in post) request) from post.me) free
+taken_event policy from post request front free = grind arith
 
 pub if_ok_map : {T E : Type 0} (P Q : T → Type 0) (result : Result T E) → ((x : T) → P x → Q x) → IfOk result P → IfOk result Q
 if_ok_map P Q (Ok x) map so = map x so

@@ -71,9 +71,7 @@ made_last count Step Ends start now end few made ends =
     made end (subst (λ (n : ℕ). UpTo n Step Ends now end) (sym left) (inl ends))
 
 pub made_all : (count : ℕ) (Step Ends : Stage → Stage → Type 0) (start now : Stage) → 4 ≤ count → HasMade count Step Ends start now → UpTo 4 Step Ends start now
-made_all count Step Ends start now many made =
-    let left : 4 - count ≡ 0 = omega arith in
-    made now (subst (λ (n : ℕ). UpTo n Step Ends now now) (sym left) refl)
+made_all count Step Ends start now many made = grind arith
 
 -- ---- for each node
 
@@ -85,11 +83,7 @@ HasPassed Step others all start now = (end : Stage) → InTurn Step others now e
 pub passes_empty : (now end : Stage) (from count others : ℕ)
     → ((other : ℕ) → from ≤ other → other < from + count → lane_to now.post Answers other ≡ [])
     → InTurn AcceptsFrom (range_with_len (from + count) others) now end → InTurn AcceptsFrom (range_with_len from (count + others)) now end
-passes_empty now end from zero others empty rest =
-    let none : from + zero ≡ from = omega arith in
-    let same : zero + others ≡ others = omega arith in
-    subst (λ (k : ℕ). InTurn AcceptsFrom (range_with_len from k) now end) (sym same)
-    (subst (λ (k : ℕ). InTurn AcceptsFrom (range_with_len k others) now end) none rest)
+passes_empty now end from zero others empty rest = grind arith
 passes_empty now end from (suc count) others empty rest =
     let next : from + suc count ≡ from + 1 + count = omega arith in
     let more : suc count + others ≡ suc (count + others) = omega arith in

@@ -1,5 +1,5 @@
 -- Posts at which no event was made.
-use Rattle.std.proofs.Common.{◌≡◌, ℕ, List, [], ◌∷◌, ◌++◌, Option, Some, None, refl, sym, ap, subst, ◌∙◌}
+use Rattle.std.proofs.Common.{◌≡◌, ℕ, List, [], ◌∷◌, ◌++◌, Option, Some, None, refl, sym, ap, subst, ◌∙◌, arith}
 use Rattle.std.proofs.lemmas.List.{append-nil, append_assoc}
 use Rattle.sci_words.specs.declared.event.Event.{Event}
 use Rattle.sci_history.proofs.Order.{all-append}
@@ -34,12 +34,4 @@ pub still_itself : (post : PostOf) → IsStill post post
 still_itself post = record { same = same_itself post; node = refl; others = []; lead = refl; further = further_itself post.me post.schedule }
 
 pub still_then : (old mid new : PostOf) → IsStill old mid → IsStill mid new → IsStill old new
-still_then old mid new one two = record {
-  same = same_then old mid new one.same two.same;
-  node = two.node ∙ one.node;
-  others = one.others ++ two.others;
-  lead = others_join old.me old.core one.others mid.core two.others new.core one.lead
-      (subst (λ (n : ℕ). OthersLead n mid.core two.others new.core) one.same.me two.lead);
-  further = further_then old.me old.schedule one.others mid.schedule two.others new.schedule one.further
-      (subst (λ (n : ℕ). IsFurther n mid.schedule two.others new.schedule) one.same.me two.further);
-}
+still_then old mid new one two = grind (arith, same_then, others_join, further_then)

@@ -1,5 +1,5 @@
 -- A turn that reports nothing made no event in any of its steps.
-use Rattle.std.proofs.Common.{◌≡◌, ◌<◌, ◌≤◌, ◌+◌, ◌*◌, ◌%◌, ℕ, zero, suc, Bool, true, false, if◌then◌else◌, nat_lt}
+use Rattle.std.proofs.Common.{◌≡◌, ◌<◌, ◌≤◌, ◌+◌, ◌%◌, ℕ, zero, suc, Bool, true, false, if◌then◌else◌, nat_lt}
 use Rattle.std.proofs.Common.{arith, List, [], ◌∷◌, Option, Some, None, refl, sym, ap, subst, ◌∙◌, inl, inr}
 use Rattle.std.proofs.{lemmas.Bool.{cases_lt, ltb-true}, lemmas.Nat.{mod-mul-add}, Math.Nat.{mod-add-mod, mod-lt}}
 use Rattle.std.specs.{Prelude.{IfSome}, List.{AllByRecursion, range_with_len}}
@@ -18,12 +18,7 @@ use Rattle.sci_words.specs.declared.event.Event.TheVariants as event
 
 -- the report of no event is that at the start
 pub nothing_yet : (report : Progress) → Counts [] report → report.ready ≡ None → report ≡ no_progress
-nothing_yet report counts none =
-    ap (λ (n : ℕ). record { accepted = n; served = report.served; replied = report.replied; asked = report.asked; ready = report.ready }) counts.accepted
-    ∙ (ap (λ (n : ℕ). record { accepted = 0; served = n; replied = report.replied; asked = report.asked; ready = report.ready }) counts.served
-    ∙ (ap (λ (b : Bool). record { accepted = 0; served = 0; replied = b; asked = report.asked; ready = report.ready }) counts.replied
-    ∙ (ap (λ (b : Bool). record { accepted = 0; served = 0; replied = false; asked = b; ready = report.ready }) counts.asked
-    ∙ ap (λ (o : Option ℕ). record { accepted = 0; served = 0; replied = false; asked = false; ready = o }) none)))
+nothing_yet report counts none = grind arith
 
 -- ---- the steps
 
@@ -37,14 +32,7 @@ accepts_something from old new made nothing =
     tells_something old.post.me (event.Accept from old.post.me) old.report new.report (record { own = refl; kind = refl }) made.counted nothing
 
 takes_something : (from : ℕ) (old new : Stage) → Takes from old new → MadeNothing new.report → ⊥
-takes_something from old new takes nothing =
-    let n = old.post.me in
-    let taken = takes.taken in
-    let before = subst MadeNothing (quiet_reply taken new takes.replies nothing).0.report nothing in
-    elim takes.takes [
-      | inl serves ↦ tells_something n (event.Serve from n) old.report taken.report (record { own = refl; kind = refl }) serves.counted before
-      | inr refuses ↦ tells_something n (event.Refuse from n) old.report taken.report (record { own = refl; kind = refl }) refuses.counted before
-    ]
+takes_something from old new takes nothing = grind (arith, quiet_reply, tells_something)
 
 asks_something : (old new : Stage) → Asks old new → MadeNothing new.report → ⊥
 asks_something old new asks nothing =
@@ -132,9 +120,7 @@ of_range P (suc count) first from some few all =
     ]
 
 first_place : (nodes first : ℕ) → first < nodes → (first + 0) % nodes ≡ first
-first_place nodes first below =
-    let same : first + 0 ≡ 0 * nodes + first = omega arith in
-    ap (λ (k : ℕ). k % nodes) same ∙ mod-mul-add 0 nodes first below
+first_place nodes first below = grind (arith, mod-mul-add)
 
 next_place : (nodes first place : ℕ) → ((first + 1) % nodes + place) % nodes ≡ (first + suc place) % nodes
 next_place nodes first place =

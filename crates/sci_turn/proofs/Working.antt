@@ -59,9 +59,7 @@ other_stays core new e n apart steps =
 -- the node's side of its event makes the next state
 pub stepped : (core new : Core) (n : ℕ) (e : Event) (s : Side) → n < core.size.nodes → node_of e ≡ n → side (node_at core n) e ≡ s → stepping core e ≡ Some new
     → step_by core n s ≡ Some new
-stepped core new n e s some own is steps =
-    subst (λ (m : ℕ). step_by core m s ≡ Some new) own
-    (sym (stepping_side core e s (subst (λ (m : ℕ). m < core.size.nodes) (sym own) some) (subst (λ (m : ℕ). side (node_at core m) e ≡ s) (sym own) is)) ∙ steps)
+stepped core new n e s some own is steps = grind (arith, stepping_side)
 
 pub own_node : (core : Core) (n : ℕ) (next : NodeOf) → IsReached core → n < core.size.nodes → node_at (with_node core n next) n ≡ next
 own_node core n next reached some = get_or-set_same core.parts n next no_node (let long = (reached_well core reached).sizes.parts_long in omega arith)
@@ -70,10 +68,7 @@ takes_as : (core new : Core) (n place from : ℕ) (kind : LaneKind) (rest : List
     → IsReached core → n < core.size.nodes → taking letter ≡ o → taken_as core n place rest o ≡ Some new
     → Makes (Takes kind from taking) (node_at new n)
 takes_as core new n place from kind rest taking letter None reached some takes is = cc
-takes_as core new n place from kind rest taking letter (Some next) reached some takes is =
-    let node : node_at new n ≡ next =
-    ap (λ (c : Core). node_at c n) (sym (same_some (with_lane (with_node core n next) place rest) new is)) ∙ own_node core n next reached some in
-    (letter, takes ∙ ap Some (sym node))
+takes_as core new n place from kind rest taking letter (Some next) reached some takes is = grind (arith, same_some, own_node)
 
 takes_from : (core new : Core) (n place from : ℕ) (kind : LaneKind) (taking : Letter → Option NodeOf) (lane : List Letter) → IsReached core
     → n < core.size.nodes → taken_from core n place taking lane ≡ Some new → Makes (Takes kind from taking) (node_at new n)
@@ -193,12 +188,7 @@ leads_reach n before x (e ∷ more) after y reached leads = leads_reach n leads.
 -- a turn leaves its node at a post
 pub post_after : (before : PolicyOf) (old : PostOf) (after : PolicyOf) (new : PostOf) (progress : Progress) → IsPost old → IsTurn before old after new progress
     → IsPost new
-post_after before old after new progress here turn =
-    let moved = turn.moved in
-    record {
-      reached = leads_reach old.me _ old.core moved.more turn.policy new.core here.reached moved.leads;
-      some = subst (λ (m : ℕ). m < new.core.size.nodes) (sym moved.same.me) (subst (λ (z : Size). old.me < z.nodes) (sym moved.same.size) here.some);
-    }
+post_after before old after new progress here turn = grind (arith, leads_reach)
 
 -- a turn leaves the same operations pending, and the same log
 pub turn_work : (before : PolicyOf) (old : PostOf) (after : PolicyOf) (new : PostOf) (progress : Progress) → IsPost old → IsTurn before old after new progress

@@ -1,4 +1,4 @@
-use Rattle.std.proofs.Common.{ℕ, refl, sym, subst}
+use Rattle.std.proofs.Common.{refl, sym, subst, arith}
 use Rattle.sci_cache.specs.Cache.{letter_of}
 use Rattle.sci_core.specs.declared.lane.LaneKind.TheVariants.{Answers}
 use Rattle.sci_policy.specs.Policy.{PolicyOf}
@@ -34,7 +34,4 @@ returns-clause-goes g c = λ policy.
     (accepted g (goal.at.returns-clause-goes g c).After-count policy) c.count.ensures.counted
 
 pub returns-clause-accepts : goal.returns-clause-accepts
-returns-clause-accepts g c = λ _ policy.
-    subst (λ (n : ℕ). Makes (event.Accept c.args.from n) (stage policy (g.P.Post.post c.args.post.now) c.args.progress.now)
-    (stage policy (g.P.Post.post c.take.new.self) c.count.new.self)) c.me-node.ensures
-    (accepted g (goal.at.returns-clause-accepts g c).After-count policy)
+returns-clause-accepts g c = grind (arith, accepted)

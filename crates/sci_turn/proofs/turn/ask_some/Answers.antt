@@ -1,8 +1,8 @@
-use Rattle.std.proofs.Common.{◌≡◌, Option, None, Some, refl, sym, ap, subst, ◌∙◌}
+use Rattle.std.proofs.Common.{◌≡◌, Option, None, Some, refl, sym, ap, subst, ◌∙◌, arith}
 use Rattle.std.specs.Prelude.{IfSome}
 use Rattle.sci_core.specs.Node.{NodeOf}
 use Rattle.sci_policy.specs.declared.{progress.Progress.{Progress}, want.Want.{Want, TheVariants.{Ask, Perform}}}
-use Rattle.sci_policy.specs.Policy.{IsEnabledWant, PolicyOf, next_policy, next_wanted}
+use Rattle.sci_policy.specs.Policy.{PolicyOf, next_policy, next_wanted}
 use Rattle.sci_turn.specs.{Posts.{IsStill, PostOf, node_in}, Moves.{stage}, Whole.{Asks, AsksNoMore, EndsAt, reported}}
 use Rattle.sci_turn.proofs.{TurnEvents.{makes_asked}, Stills.{still_itself}, Steps.{made_all, made_last, made_more}}
 use Rattle.sci_turn.proofs.LongerTurns.{ends_asked, ends_ready, goes_made, goes_still, goes_then}
@@ -20,18 +20,10 @@ wants_here policy node here want found wanted is same = ap (next_wanted policy) 
 -- what was wanted ends the turn
 no_more : (before after : PolicyOf) (old new : PostOf) (told : Progress) (want : Option Want) → IsStill old new → next_wanted before (node_in new) ≡ want
     → after ≡ next_policy before (node_in new) → IfSome want (EndsAt new) → AsksNoMore (stage before old told) (stage after new (reported told want))
-no_more before after old new told want still wanted noted ends = record {
-  still = still;
-  policy = noted;
-  report = ap (reported told) (sym wanted);
-  wants = subst (λ (w : Option Want). IfSome w (EndsAt new)) (sym wanted) ends;
-}
+no_more before after old new told want still wanted noted ends = grind arith
 
 pub ask-requires : goal.ask-requires
-ask-requires g c =
-    let here = g.P.Post.post c.loop-cell.post in
-    subst (λ (m : NodeOf). IsEnabledWant m (Ask c.in-Some-Ask.line c.in-Some-Ask.kind)) c.node.ensures.node
-    (subst (IsEnabledWant c.node.result.now) c.in-Some-Ask.field-0-is c.in-Some-Ask.ensures.enabled)
+ask-requires g c = grind arith
 
 pub loop-cell-preserved : goal.loop-cell-preserved
 loop-cell-preserved g c =

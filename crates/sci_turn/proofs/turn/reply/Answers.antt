@@ -1,4 +1,4 @@
-use Rattle.std.proofs.Common.{◌≡◌, ℕ, Some, refl, ap, sym, subst, ◌∙◌, inl}
+use Rattle.std.proofs.Common.{◌≡◌, Some, refl, ap, sym, subst, ◌∙◌, arith}
 use Rattle.sci_cache.specs.Cache.{letter_of}
 use Rattle.sci_core.specs.{declared.lane.LaneKind.TheVariants.{Answers}, Node.{NodeOf}}
 use Rattle.sci_policy.specs.Policy.{PolicyOf}
@@ -31,7 +31,4 @@ returns-clause-goes g c = λ policy.
     (replied g (goal.at.returns-clause-goes g c).After-count policy) c.count.ensures.counted
 
 pub returns-clause-replies : goal.returns-clause-replies
-returns-clause-replies g c = λ _ policy.
-    inl (subst (λ (n : ℕ). Makes (event.Reply n) (stage policy (g.P.Post.post c.args.post.now) c.args.progress.now)
-    (stage policy (g.P.Post.post c.send.new.self) c.count.new.self)) c.me-node.ensures
-    (replied g (goal.at.returns-clause-replies g c).After-count policy))
+returns-clause-replies g c = grind (arith, replied)

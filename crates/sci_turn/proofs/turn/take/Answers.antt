@@ -1,4 +1,4 @@
-use Rattle.std.proofs.Common.{◌≡◌, Bool, true, false}
+use Rattle.std.proofs.Common.{◌≡◌, Bool, true, false, arith}
 use Rattle.sci_turn.specs.{Moves.{stage}, Whole.{FindsNoRequest, MakesNone, Takes}}
 use Rattle.sci_turn.proofs.{Moments.{if_ok_map, none_came}, LongerTurns.{goes_still, goes_then}, Steps.{none_at, none_then, takes_after}}
 use Rattle.sci_turn.proofs.turn.take.Goals.{After-look}
@@ -16,10 +16,7 @@ pub returns-then-not-branch-clause-goes : goal.returns-then-not-branch-clause-go
 returns-then-not-branch-clause-goes g c = goes_still _ _ (looked g (goal.at.returns-then-not-branch-clause-goes g c).After-look)
 
 pub returns-then-not-branch-clause-none : goal.returns-then-not-branch-clause-none
-returns-then-not-branch-clause-none g c = λ _. (
-  looked g (goal.at.returns-then-not-branch-clause-none g c).After-look,
-  none_came c.args.policy.now c.args.from (g.P.Post.post c.look.new.self) (c.in_ok-look.ensures.none c.if-not-branch.true),
-)
+returns-then-not-branch-clause-none g c = grind (arith, looked, none_came)
 
 pub returns-clause-goes : goal.returns-clause-goes
 returns-clause-goes g c = goes_then _ _ _ (goes_still _ _ (looked g (goal.at.returns-clause-goes g c).After-look)) c.take_seen.ensures.goes

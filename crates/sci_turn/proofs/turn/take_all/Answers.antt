@@ -1,6 +1,5 @@
-use Rattle.std.proofs.Common.{rules, ◌≡◌, ◌<◌, ◌≤◌, ◌+◌, ◌-◌, ℕ, suc, refl, sym, subst, arith}
+use Rattle.std.proofs.Common.{rules, ◌≡◌, ◌<◌, ◌+◌, ◌-◌, ℕ, suc, refl, sym, subst, arith}
 use Rattle.std.proofs.Math.Nat.{mod-lt}
-use Rattle.sci_policy.specs.Policy.{first_sender}
 use Rattle.sci_turn.specs.{Moves.{stage}, Whole.{InTurn, TakesFrom, circle}}
 use Rattle.sci_turn.proofs.LongerTurns.{goes_then}
 use Rattle.sci_turn.proofs.turn.take_all.Goals as goal
@@ -31,12 +30,4 @@ loop-place-preserved g c =
     }
 
 pub returns-clause-takes : goal.returns-clause-takes
-returns-clause-takes g c = λ _.
-    let old = stage c.args.policy.now (g.P.Post.post c.args.post.now) c.args.progress.now in
-    let new = stage c.loop-place.policy (g.P.Post.post c.loop-place.post) c.loop-place.progress in
-    let nodes = c.nodes-nodes.result in
-    let ended : nodes ≤ c.loop-place._place = c.loop-place-test.false in
-    let left : nodes - c.loop-place._place ≡ 0 = omega arith in
-    subst (λ (n : ℕ). InTurn TakesFrom (circle n (first_sender c.args.policy.now n) n) old new) c.nodes-nodes.ensures
-    (subst (λ (j : ℕ). InTurn TakesFrom (circle nodes j nodes) old new) c.first_sender-first.ensures.first
-    (c.loop-place.invariant.passed new (subst (λ (n : ℕ). InTurn TakesFrom (circle nodes c.loop-place.from n) new new) (sym left) refl)))
+returns-clause-takes g c = grind arith
