@@ -23,9 +23,7 @@ whole_words (w ∷ words) rest ws n long is =
 -- a word more is found
 pub found_more : (found words : List ℕ) (index word : ℕ) → index < length words → found ≡ take index words
     → take index found ++ word ∷ [] ≡ take (index + 1) (set words index word)
-found_more found words index word lt is =
-    ap (λ (ws : List ℕ). take index ws ++ word ∷ []) is
-    ∙ (ap (λ (ws : List ℕ). ws ++ word ∷ []) (take-take index index words (omega arith)) ∙ sym (take_more_set words index word lt))
+found_more found words index word lt is = grind (arith, take-take, take_more_set)
 
 -- the words that were found are all those of the oldest packet
 pub front_spelled : (lane : List Letter) (found : List ℕ) (first count : ℕ) → (front : IsFront lane found) → length found ≡ count → 1 ≤ count

@@ -7,7 +7,7 @@ use Rattle.sci_lanes.specs.declared.{cell.CellId.{CellId}, view.{Inbound.{Inboun
 use Rattle.sci_lanes.specs.Shown.{inbound_at, me_of, no_inbound, no_outbound, outbound_at, IsSeen}
 use Rattle.sci_lanes.specs.Knowing.{has_sent_more, filled_out, is_receiving, is_sending, looked_in, looked_out, read_in, with_lane_known}
 use Rattle.sci_lanes.specs.Ends.{EndOf, IsNextToSend, IsNextToTake, IsPlaceOf, filled_at, informed_at, lane_at_cell, looked_at, read_at, with_part}
-use Rattle.sci_lanes.specs.Cells.{cell_place, lane_number}
+use Rattle.sci_lanes.specs.Cells.{lane_number}
 use Rattle.sci_words.specs.declared.event.Event.{Event}
 use Rattle.sci_core.specs.Node.{NodeOf}
 use Rattle.sci_core.specs.declared.lane.LaneKind.{LaneKind}
@@ -43,10 +43,7 @@ pub still_takes : (old new : EndOf) (cell : CellId) → IsStill old new → IsNe
 still_takes old new cell still next = grind (arith, lane_still)
 
 pub still_place : (old new : EndOf) (cell : CellId) (place : ℕ) → IsStill old new → IsPlaceOf old.part cell place → IsPlaceOf new.part cell place
-still_place old new cell place still is = record {
-  begins = is.begins ∙ ap (λ (n : NodeOf). cell_place (lane_number n.cache.nodes cell) cell.number) (sym still.node);
-  few = is.few;
-}
+still_place old new cell place still is = grind arith
 
 -- ---- steps that are no event
 
@@ -97,9 +94,7 @@ next_same part a b one two kind sender = grind arith
 -- the next cell to take from is the one in which the packet was seen
 pub seen_there : (part : Part) (kind : LaneKind) (from first : ℕ) (cell : CellId) → SeesFirst part kind from first → IsNextToTake part cell
     → (cell.kind ≡ kind) × (cell.sender ≡ from) → HasSeen part (record { cell = cell; first = first })
-seen_there part kind from first cell sees next is =
-    let same = next_same part cell sees.cell next sees.seen.next (is.0 ∙ sym sees.kind_is) (is.1 ∙ sym sees.sender_is) in
-    subst (λ (k : CellId). HasSeen part (record { cell = k; first = first })) (sym same) sees.seen
+seen_there part kind from first cell sees next is = grind (arith, next_same)
 
 -- ---- other lanes
 

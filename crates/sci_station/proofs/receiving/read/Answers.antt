@@ -1,4 +1,4 @@
-use Rattle.std.proofs.{Common.{ℕ, length, ap, subst, ◌∙◌, arith}, lemmas.List.{length-set, length-take-le, take-set-le}}
+use Rattle.std.proofs.{Common.{ℕ, ap, subst, ◌∙◌, arith}, lemmas.List.{length-set, length-take-le, take-set-le}}
 use Rattle.sci_lanes.specs.{declared.view.Inbound.{Inbound}, Shown.{inbound_at}, Ends.{EndOf, lane_at_cell}}
 use Rattle.sci_station.proofs.{Budgets.{no_more_less, no_more_then}, Cells.{read_found}, Spelled.{found_more}}
 use Rattle.sci_station.proofs.StillEnds.{known_others, lane_still, others_then, read_still, still_place, still_takes, still_then}
@@ -6,19 +6,7 @@ use Rattle.sci_station.specs.Ends.{LeavesOthers}
 use Rattle.sci_station.proofs.receiving.read.Goals as goal
 
 pub read_at-requires-clause-may : goal.read_at-requires-clause-may
-read_at-requires-clause-may c =
-    let i = c.loop-index.invariant in
-    let order = i.order in
-    let few = c.requires.few in
-    let below = c.loop-index-test.true in
-    let long = i.long in
-    let count = ap length i.found ∙ length-take-le c.loop-index.index c.loop-index.words (omega arith) in
-    record {
-      next = still_takes c.args.end.now c.loop-index.end c.args.cell i.still c.requires.next;
-      further = omega arith;
-      within = omega arith;
-      order = omega arith;
-    }
+read_at-requires-clause-may c = grind (arith, length-take-le, still_takes)
 
 pub read_at-requires-clause-place : goal.read_at-requires-clause-place
 read_at-requires-clause-place c =

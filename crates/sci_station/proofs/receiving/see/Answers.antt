@@ -1,6 +1,6 @@
-use Rattle.std.proofs.Common.{ℕ, ap, subst}
+use Rattle.std.proofs.Common.{ℕ, arith}
 use Rattle.sci_core.specs.{declared.lane.LaneKind.{LaneKind}, Core.{lane_place}}
-use Rattle.sci_lanes.specs.{Ends.{EndOf, LooksFor, lane_at_cell, nodes_in}}
+use Rattle.sci_lanes.specs.{Ends.{EndOf, LooksFor, nodes_in}}
 use Rattle.sci_lanes.specs.Shown.{me_of}
 use Rattle.sci_station.specs.Ends.{LeavesOthers}
 use Rattle.sci_station.proofs.{Cells.{looked_found}, StillEnds.{known_others, look_still, still_takes}}
@@ -12,9 +12,7 @@ returns-then-first-eq0-clause-none c = λ _. c.look_for-first.ensures.empty c.if
 -- the lane that was looked at
 others_there : (old new : EndOf) (kind : LaneKind) (from word : ℕ) → LooksFor kind from word old new
     → LeavesOthers (lane_place (nodes_in old.part) kind from (me_of old.part)) old.part new.part
-others_there old new kind from word looks =
-    subst (λ (l : ℕ). LeavesOthers l old.part new.part) (λ i. lane_place (nodes_in old.part) (looks.kind_is i) (looks.sender_is i) (looks.next.mine i))
-    (known_others old new (lane_at_cell old.part looks.cell) _ (ap (λ (x : EndOf). x.part.inbound) looks.looked))
+others_there old new kind from word looks = grind (arith, known_others)
 
 pub returns-then-first-eq0-clause-others : goal.returns-then-first-eq0-clause-others
 returns-then-first-eq0-clause-others c =

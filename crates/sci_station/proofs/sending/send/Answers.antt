@@ -1,8 +1,8 @@
-use Rattle.std.proofs.Common.{◌≡◌, ◌≤◌, ◌⊎◌, inl, inr, ℕ, ◌+◌, ◌-◌, List, ◌∷◌, get_or, length, refl, sym, ap, subst, ◌∙◌, arith}
+use Rattle.std.proofs.Common.{◌≡◌, ◌⊎◌, inl, inr, ℕ, ◌+◌, ◌-◌, List, ◌∷◌, get_or, length, refl, sym, ap, ◌∙◌, arith}
 use Rattle.sci_packets.specs.Spelling.{words_of}
 use Rattle.sci_cache.specs.Cache.{letter_of}
-use Rattle.sci_core.specs.{declared.lane.LaneKind.{LaneKind}, Core.{Sends, lane_of, lane_place, side}, Node.{NodeOf}}
-use Rattle.sci_lanes.specs.{Ends.{EndOf, lane_at_cell, nodes_in}, Shown.{me_of}, Telling.{state_of}}
+use Rattle.sci_core.specs.{declared.lane.LaneKind.{LaneKind}, Core.{Sends, lane_place, side}, Node.{NodeOf}}
+use Rattle.sci_lanes.specs.{Ends.{EndOf, lane_at_cell, nodes_in}, Shown.{me_of}}
 use Rattle.sci_station.specs.Ends.{IsStill, LeavesOthers}
 use Rattle.sci_station.proofs.{Cells.{looked_vacant}, StationEvents.{made_later}, Spelled.{whole_words}}
 use Rattle.sci_station.proofs.StillEnds.{known_others, lane_still, look_still, others_then, still_sends, still_then}
@@ -62,26 +62,16 @@ publish-requires c =
     counted count n (inr eleven) is = omega arith
 
 pub returns-then-look-ne0-clause-held : goal.returns-then-look-ne0-clause-held
-returns-then-look-ne0-clause-held c = λ _.
-    let cell = c.next_to_send-cell in
-    let new = c.look.new.self in
-    subst (λ (k : LaneKind). 4 ≤ length (lane_of (state_of new.part) k (me_of new.part) c.args.packet.now.target)) cell.ensures.cell.0
-    (subst (λ (to : ℕ). 4 ≤ length (lane_of (state_of new.part) cell.result.kind (me_of new.part) to)) (cell.ensures.cell.1 ∙ c.target_of.ensures)
-    (c.look.ensures.full cell.ensures.next c.if-look-ne0.true))
+returns-then-look-ne0-clause-held c = grind arith
 
 -- the lane that is sent into
 lane_there : (c : After-look) → lane_at_cell c.args.end.now.part c.next_to_send-cell.result
     ≡ lane_place (nodes_in c.args.end.now.part) c.args.kind (me_of c.args.end.now.part) c.args.packet.now.target
-lane_there c =
-    let cell = c.next_to_send-cell.ensures in
-    λ i. lane_place (nodes_in c.args.end.now.part) (cell.cell.0 i) (cell.next.mine i) ((cell.cell.1 ∙ c.target_of.ensures) i)
+lane_there c = grind arith
 
 looked_others : (c : After-look) → LeavesOthers
     (lane_place (nodes_in c.args.end.now.part) c.args.kind (me_of c.args.end.now.part) c.args.packet.now.target) c.args.end.now.part c.look.new.self.part
-looked_others c =
-    subst (λ (l : ℕ). LeavesOthers l c.args.end.now.part c.look.new.self.part) (lane_there c)
-    (known_others c.args.end.now c.look.new.self (lane_at_cell c.args.end.now.part c.next_to_send-cell.result) _
-    (ap (λ (x : EndOf). x.part.inbound) c.look.ensures.part))
+looked_others c = grind (arith, lane_there, known_others)
 
 pub returns-then-look-ne0-clause-others : goal.returns-then-look-ne0-clause-others
 returns-then-look-ne0-clause-others c = looked_others (goal.at.returns-then-look-ne0-clause-others c).After-look
@@ -91,9 +81,7 @@ then_others : (c : After-look) (mid new : EndOf) → IsStill c.args.end.now mid
     → LeavesOthers (lane_place (nodes_in c.args.end.now.part) c.args.kind (me_of c.args.end.now.part) c.args.packet.now.target) c.args.end.now.part mid.part
     → LeavesOthers (lane_at_cell mid.part c.next_to_send-cell.result) mid.part new.part
     → LeavesOthers (lane_place (nodes_in c.args.end.now.part) c.args.kind (me_of c.args.end.now.part) c.args.packet.now.target) c.args.end.now.part new.part
-then_others c mid new still before after =
-    others_then _ c.args.end.now.part mid.part new.part before
-    (subst (λ (l : ℕ). LeavesOthers l mid.part new.part) (lane_still c.args.end.now mid c.next_to_send-cell.result still ∙ lane_there c) after)
+then_others c mid new still before after = grind (arith, others_then, lane_still, lane_there)
 
 pub returns-in_err-fill-clause-others : goal.returns-in_err-fill-clause-others
 returns-in_err-fill-clause-others c =

@@ -1,3 +1,4 @@
+use Rattle.std.proofs.Common.{arith}
 use Rattle.std.proofs.{Common.{◌≡◌, ℕ, [], ◌∷◌, ◌++◌, All, refl, sym, subst, ◌∙◌}, lemmas.List.{map-append}}
 use Rattle.std.proofs.lemmas.List.Elements.{All-head, All-map, All-tail}
 use Rattle.std.specs.List.{range_with_len}
@@ -13,11 +14,7 @@ opening_fresh table size count =
     All-map (λ (end : EndOf). end.part.schedule ≡ []) (λ n. record { table = table; part = opening_part size n }) (range_with_len 0 count) (λ k d lt. refl)
 
 pub loop-end-init : goal.loop-end-init
-loop-end-init c = record {
-  made = c.in_ok-stations.ensures.items;
-  fresh = subst (All (λ (end : EndOf). end.part.schedule ≡ [])) (sym (c.into_iter-end-iterator.ensures.into_iter_gives.0 ∙ c.in_ok-lanes.ensures.ends))
-      (opening_fresh _ _ _);
-}
+loop-end-init c = grind (arith, opening_fresh)
 
 pub loop-end-preserved : goal.loop-end-preserved
 loop-end-preserved c =

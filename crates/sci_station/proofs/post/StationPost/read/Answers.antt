@@ -1,22 +1,17 @@
-use Rattle.std.proofs.{Common.{◌≡◌, ◌<◌, ℕ, true, false, Some, sym, ap, subst, ◌∙◌, arith}, lemmas.Bool.{eq-eqb}}
+use Rattle.std.proofs.{Common.{◌≡◌, ℕ, true, false, Some, sym, ap, subst, ◌∙◌, arith}, lemmas.Bool.{eq-eqb}}
 use Rattle.std.specs.Prelude.{◌==◌, not}
 use Rattle.sci_core.specs.declared.lane.LaneKind.{LaneKind, TheVariants.{Requests}}
-use Rattle.sci_lanes.specs.{Ends.{nodes_in}, Shown.{me_of}}
+use Rattle.sci_lanes.specs.{Shown.{me_of}}
 use Rattle.sci_station.specs.{Ends.{SeesFirst}, Posts.{KeptOf, Remembers, StationPostOf, is_kept, packet_in}}
 use Rattle.sci_station.proofs.{StillEnds.{seen_there}, Remembering.{few_nodes, remembers_answer, remembers_read, remembers_request}}
 use Rattle.sci_station.proofs.post.StationPost.read.Goals.{After-node-node}
 use Rattle.sci_station.proofs.post.StationPost.read.Goals as goal
 
 pub next_to_take-cell-requires : goal.next_to_take-cell-requires
-next_to_take-cell-requires c =
-    let sees = subst (λ (p : StationPostOf). SeesFirst p.end.part c.args.kind c.args.from c.args.first) (sym c.self.view_is) c.requires.seen in
-    subst (λ (j : ℕ). j < nodes_in c.self.inside.end.part) sees.sender_is sees.seen.next.other
+next_to_take-cell-requires c = grind arith
 
 pub read_packet-read-requires : goal.read_packet-read-requires
-read_packet-read-requires c =
-    seen_there c.self.inside.end.part c.args.kind c.args.from c.args.first c.next_to_take-cell.result
-    (subst (λ (p : StationPostOf). SeesFirst p.end.part c.args.kind c.args.from c.args.first) (sym c.self.view_is) c.requires.seen)
-    c.next_to_take-cell.ensures.next c.next_to_take-cell.ensures.cell
+read_packet-read-requires c = grind (arith, seen_there)
 
 -- the packet was read, and nothing of it is kept yet
 read_here : (c : After-node-node) → Remembers c.read_packet-read.new.end c.self.inside.unanswered c.self.inside.kept

@@ -1,4 +1,4 @@
-use Rattle.std.proofs.Common.{◌≡◌, ◌<◌, ℕ, sym, ap, subst, ◌∙◌}
+use Rattle.std.proofs.Common.{◌≡◌, ◌<◌, ℕ, sym, ap, subst, ◌∙◌, arith}
 use Rattle.sci_lanes.specs.{Ends.{EndOf, nodes_in}, Telling.{IsShown, state_of}}
 use Rattle.sci_turn.specs.Posts.{IsStill as IsStillPost}
 use Rattle.sci_station.specs.{Posts.{IsRead, Remembers, StationPostOf, post_of}}
@@ -17,9 +17,7 @@ returns-then-is_kept-clause-seen c =
     (c.self.invariant.keeps c.args.kind c.args.from (sym c.is_kept.ensures ∙ c.if-is_kept.true)).1
 
 pub knows_empty-requires : goal.knows_empty-requires
-knows_empty-requires c =
-    let shown = subst (λ (p : StationPostOf). IsShown p.end.part) c.self.view_is c.self.invariant.shown in
-    subst (λ (n : ℕ). c.args.from < n) (sym (post_nodes c.args.self.now.end shown)) c.requires
+knows_empty-requires c = grind (arith, post_nodes)
 
 pub see-seen-requires : goal.see-seen-requires
 see-seen-requires c = there c.args.self.now c.self.inside.end c.args.from c.self.invariant.shown (ap (λ (p : StationPostOf). p.end) c.self.view_is) c.requires

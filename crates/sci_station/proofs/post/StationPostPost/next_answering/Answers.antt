@@ -1,8 +1,7 @@
-use Rattle.std.proofs.Common.{◌≡◌, ◌<◌, ℕ, [], Option, Some, None, sym, subst, ◌∙◌, arith, inl, inr}
+use Rattle.std.proofs.Common.{◌<◌, ℕ, Option, Some, None, subst, arith, inl, inr}
 use Rattle.std.proofs.lemmas.Bool.{cases_lt}
 use Rattle.std.specs.Prelude.{IfSome, slice_index}
-use Rattle.sci_core.specs.{declared.lane.LaneKind.TheVariants.{Answers}, Core.{lane_of}}
-use Rattle.sci_lanes.specs.{Ends.{nodes_in}, Shown.{me_of}, Telling.{state_of}}
+use Rattle.sci_lanes.specs.{Ends.{nodes_in}, Telling.{state_of}}
 use Rattle.sci_station.specs.Posts.{StationPostOf}
 use Rattle.sci_station.proofs.{Posts.{post_nodes}, Remembering.{owes_some}}
 use Rattle.sci_station.proofs.post.StationPostPost.next_answering.Goals as goal
@@ -23,10 +22,4 @@ returns-clause-here c =
         ]
 
 pub returns-clause-passed : goal.returns-clause-passed
-returns-clause-passed c = λ other order below before.
-    let s = c.self.inside in
-    let lt : other < nodes_in s.end.part =
-    subst (λ (n : ℕ). other < n) (sym (post_nodes s.end c.self.invariant.shown))
-    (subst (λ (p : StationPostOf). other < (state_of p.end.part).size.nodes) (sym c.self.view_is) below) in
-    subst (λ (p : StationPostOf). lane_of (state_of p.end.part) Answers other (me_of p.end.part) ≡ []) c.self.view_is
-    (owes_some (state_of s.end.part) (me_of s.end.part) other (sym (c.self.invariant.owing other lt) ∙ c.next_from.ensures.between other order before))
+returns-clause-passed c = grind (arith, post_nodes, owes_some)

@@ -1,14 +1,14 @@
-use Rattle.std.proofs.Common.{◌≡◌, ◌≢◌, ◌<◌, ◌≤◌, ◌+◌, ℕ, List, refl, sym, ap, subst, ◌∙◌, arith, inl, inr}
+use Rattle.std.proofs.Common.{◌≡◌, ◌≢◌, ◌<◌, ◌+◌, ℕ, List, refl, sym, ap, subst, ◌∙◌, arith, inl, inr}
 use Rattle.std.proofs.lemmas.Bool.{cases_eq, eq-eqb, ne_eqb}
 use Rattle.std.specs.Prelude.{◌==◌, slice_index}
 use Rattle.sci_words.specs.declared.event.Event.{Event}
 use Rattle.sci_cache.specs.Cache.{Letter, letter_of}
 use Rattle.sci_core.specs.declared.lane.LaneKind.{LaneKind, TheVariants.{Requests}}
-use Rattle.sci_core.specs.{Core.{Sends, lane_place, node_of, side}, Draining.{one_if}, Node.{NodeOf}, Size.{Size}}
+use Rattle.sci_core.specs.{Core.{Sends, lane_place, node_of, side}, Draining.{one_if}, Node.{NodeOf}}
 use Rattle.sci_lanes.specs.{Ends.{EndOf, nodes_in}, Shown.{me_of}}
-use Rattle.sci_lanes.specs.Telling.{IsMade as WasMade, IsSameNode, IsShown, state_of}
+use Rattle.sci_lanes.specs.Telling.{IsMade as WasMade, IsSameNode, IsShown}
 use Rattle.sci_turn.specs.Posts.{IsMade, IsStill as IsStillPost, MaySend}
-use Rattle.sci_station.specs.{Ends.{IsStill, LeavesOthers}, Posts.{KeptOf, Remembers, StationPostOf, owed, post_of}}
+use Rattle.sci_station.specs.{Ends.{IsStill, LeavesOthers}, Posts.{KeptOf, Remembers, StationPostOf, post_of}}
 use Rattle.sci_station.proofs.{Owing.{adds_one}, Posts.{made_post, node_there, post_nodes, still_post}}
 use Rattle.sci_station.proofs.Remembering.{apart_sent, few_owed, owing_sent, remembers_sent, remembers_still}
 use Rattle.sci_station.proofs.post.StationPostPost.send.Goals.{After-node-node, After-target_of-to}
@@ -92,12 +92,7 @@ invariant_of-self-in-Answers c =
 -- fewer than 255 are owed where a request is sent
 few_there : (old new : EndOf) (unanswered : List ℕ) (kept : KeptOf) (letter : Letter) (e : Event) (to : ℕ) → Remembers old unanswered kept → IsShown new.part
     → IsSameNode old.part new.part → WasMade old.part e new.part.schedule → May old Requests letter e → to ≡ letter.target → slice_index unanswered to < 255
-few_there old new unanswered kept letter e to r t same was m is =
-    let lt : to < nodes_in old.part = subst (λ (n : ℕ). n < nodes_in old.part) (sym is) m.target in
-    let owes = owing_sent old new unanswered kept Requests m.next letter e r (made_post old new e r.shown t same was) m.own m.side_is to lt in
-    let few = subst (λ (n : ℕ). owed (state_of new.part) n to ≤ 9) same.me
-    (few_owed new to t (subst (λ (n : ℕ). to < n) (sym (ap (λ (z : Size). z.nodes) same.sized)) lt)) in
-    omega arith
+few_there old new unanswered kept letter e to r t same was m is = grind (arith, owing_sent, made_post, few_owed)
 
 pub asked-requires-clause-few : goal.asked-requires-clause-few
 asked-requires-clause-few c =
@@ -129,10 +124,7 @@ invariant_of-self-in-Requests c =
 
 made_here : (c : After-node-node) → WasMade c.self.inside.end.part c.args.event.now c.send-sent.new.end.part.schedule
     → IsMade (post_of c.args.self.now.end) c.args.event.now (post_of c.send-sent.new.end)
-made_here c made =
-    let new = c.send-sent.new.end in
-    subst (λ (p : StationPostOf). IsMade (post_of p.end) c.args.event.now (post_of new)) c.self.view_is
-    (made_post c.self.inside.end new c.args.event.now c.self.invariant.shown c.node-node.ensures.shown c.send-sent.ensures.same.node made)
+made_here c made = grind (arith, made_post)
 
 pub returns-in-Answers-clause-sent : goal.returns-in-Answers-clause-sent
 returns-in-Answers-clause-sent c = λ _.

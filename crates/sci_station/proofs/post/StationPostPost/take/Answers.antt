@@ -3,8 +3,7 @@ use Rattle.std.proofs.lemmas.Bool.{cases_eq, eq-eqb, ne_eqb}
 use Rattle.std.specs.Prelude.{◌==◌, slice_index}
 use Rattle.sci_cache.specs.Cache.{Letter}
 use Rattle.sci_core.specs.{Node.{NodeOf}, declared.lane.LaneKind.{LaneKind}, Core.{lane_place, side}, Draining.{one_if}}
-use Rattle.sci_lanes.specs.{declared.cell.CellId.{CellId}, Ends.{EndOf, IsNextToTake, MayFree, lane_at_cell, nodes_in}}
-use Rattle.sci_lanes.specs.Telling.{IsTaken as WasTaken}
+use Rattle.sci_lanes.specs.{declared.cell.CellId.{CellId}, Ends.{EndOf, IsNextToTake, lane_at_cell, nodes_in}}
 use Rattle.sci_turn.specs.Posts.{IsFront, IsStill, IsTaken, MayTakeFront}
 use Rattle.sci_turn.proofs.Stills.{still_itself}
 use Rattle.sci_station.specs.{Ends.{LeavesOthers}, Posts.{IsRead, KeptOf, Remembers, StationPostOf, is_kept, post_of}}
@@ -24,15 +23,7 @@ cell_read : (end : EndOf) (kept : KeptOf) (kind : LaneKind) (from : ℕ) (cell :
 cell_read end kept kind from cell read next k f = sym (next_same end.part cell read.cell next read.read.next (k ∙ sym read.kind_is) (f ∙ sym read.sender_is))
 
 pub free-requires-clause-may : goal.free-requires-clause-may
-free-requires-clause-may c =
-    let end = c.self.inside.end in
-    let is = c.self.view_is in
-    let read = subst (λ (p : StationPostOf). IsRead p.end p.kept c.args.kind c.args.from) (sym is) c.requires.sees in
-    let cell = c.next_to_take-cell in
-    subst (λ (k : CellId). MayFree end.part k c.args.event.now)
-    (cell_read end c.self.inside.kept c.args.kind c.args.from cell.result read cell.ensures.next cell.ensures.cell.0 cell.ensures.cell.1)
-    (may_free end read.cell read.packet c.args.kind c.args.from c.args.event.now read.read read.kind_is read.sender_is
-    (subst (λ (p : StationPostOf). MayTakeFront (post_of p.end) c.args.kind c.args.from c.args.event.now) (sym is) c.requires.may))
+free-requires-clause-may c = grind (arith, cell_read, may_free)
 
 -- what the turn knows of the packet, as the end sees it
 seen : (c : After-free) → IsRead c.self.inside.end c.self.inside.kept c.args.kind c.args.from
@@ -90,18 +81,7 @@ invariant_of-self-in-Requests c =
 -- the packet that was taken
 took_front : (c : After-free) (letter : Letter) → IsFront (post_of c.args.self.now.end) c.args.kind c.args.from letter
     → IsTaken (post_of c.args.self.now.end) c.args.kind c.args.from letter c.args.event.now (post_of c.free.new.self)
-took_front c letter front =
-    let old = c.self.inside.end in
-    let new = c.free.new.self in
-    let e = c.args.event.now in
-    let cell = c.next_to_take-cell in
-    let read = seen c in
-    let there = cell_read old c.self.inside.kept c.args.kind c.args.from cell.result read cell.ensures.next cell.ensures.cell.0 cell.ensures.cell.1 in
-    let is = ap (λ (p : StationPostOf). p.end) c.self.view_is in
-    subst (λ (end : EndOf). IsTaken (post_of end) c.args.kind c.args.from letter e (post_of new)) is
-    (taken_post old new read.cell read.packet c.args.kind c.args.from e letter c.free.ensures.shown c.free.ensures.same read.read read.kind_is read.sender_is
-    (may c) (subst (λ (k : CellId). WasTaken old.part (lane_at_cell old.part k) e new.part.schedule) (sym there) c.free.ensures.oldest)
-    (subst (λ (end : EndOf). IsFront (post_of end) c.args.kind c.args.from letter) (sym is) front))
+took_front c letter front = grind (arith, seen, cell_read, taken_post, may)
 
 pub returns-in-Answers-clause-taken : goal.returns-in-Answers-clause-taken
 returns-in-Answers-clause-taken c = took_front (goal.at.returns-in-Answers-clause-taken c).After-free

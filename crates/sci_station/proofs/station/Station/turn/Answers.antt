@@ -1,9 +1,7 @@
-use Rattle.std.proofs.Common.{refl, ap, subst}
+use Rattle.std.proofs.Common.{refl, ap, subst, arith}
 use Rattle.sci_core.specs.Node.{NodeOf}
 use Rattle.sci_policy.specs.{Rest.{MayIdle}, Turn.{MayPerform}, Worker.{HasSameWork, IsNodeTurn}}
-use Rattle.sci_lanes.specs.Ends.{EndOf}
-use Rattle.sci_turn.specs.Whole.{IsWholeTurn}
-use Rattle.sci_station.specs.{Posts.{StationPostOf, post_of}, Station.{StationOf}}
+use Rattle.sci_station.specs.{Posts.{StationPostOf}}
 use Rattle.sci_station.proofs.Posts.{node_there, turned_so}
 use Rattle.sci_station.proofs.station.Station.turn.Goals as goal
 
@@ -23,10 +21,4 @@ pub returns-clause-rest : goal.returns-clause-rest
 returns-clause-rest c = λ idle. subst MayIdle (node_there c.take_turn.new.post.end.part c.left-left.ensures.shown) (c.in-Ok.ensures.rest refl idle)
 
 pub returns-clause-whole : goal.returns-clause-whole
-returns-clause-whole c =
-    let new = c.take_turn.new.post.end in
-    let policy = c.take_turn.new.policy in
-    let progress = c.take_turn.new.progress in
-    subst (λ (s : StationOf). IsWholeTurn s.policy (post_of s.end) policy (post_of new) progress) c.self.view_is
-    (subst (λ (e : EndOf). IsWholeTurn c.self.inside.policy (post_of e) policy (post_of new) progress)
-    (ap (λ (p : StationPostOf). p.end) c.allow.ensures.allowed) (c.in-Ok.ensures.whole refl))
+returns-clause-whole c = grind arith

@@ -1,11 +1,9 @@
-use Rattle.std.proofs.Common.{sym}
+use Rattle.std.proofs.Common.{sym, arith}
 use Rattle.sci_station.proofs.StationDeeds.{issued}
 use Rattle.sci_station.proofs.worker.StationWorker.submit.Goals as goal
 
 pub returns-clause-does : goal.returns-clause-does
-returns-clause-does c =
-    let told = c.submit.ensures in
-    issued c.submit.result c.args.op c.args.self.now c.submit.new.self told.issued told.made told.beaten
+returns-clause-does c = grind (arith, issued)
 
 pub returns-clause-idle : goal.returns-clause-idle
 returns-clause-idle c = λ err. sym (c.submit.ensures.same err)
