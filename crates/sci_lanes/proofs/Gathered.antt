@@ -6,7 +6,7 @@ use Rattle.std.specs.Prelude.{Vec, slice_get}
 use Rattle.sci_words.specs.declared.{extent.Extent.{Extent}, limits.TheConstants.{MAX_NODES}, stamped.Stamped.{Stamped}}
 use Rattle.sci_history.specs.{declared.entry.Entry.{Entry}, Placed.{log_of}}
 use Rattle.sci_cache.specs.Cache.{Letter}
-use Rattle.sci_core.specs.{Size.{Size, IsSize, size_of}, Node.{NodeOf, no_node}}
+use Rattle.sci_core.specs.{Size.{Size, size_of}, Node.{NodeOf, no_node}}
 use Rattle.sci_core.specs.{Core.{AreEnabled, Core, core_of, node_at, lane_at, run}, Reached.{IsReached}, Outcome.{logs_of}}
 use Rattle.sci_core.specs.Sharing.{last_of}
 use Rattle.sci_core.proofs.WellFormed.WellFormedSteps.{is_size, reached_well}
@@ -121,9 +121,7 @@ module _ {Z : Type 0} where
 
 -- logs of the state where a schedule leads are what it makes
 pub logs_made : (size : Size) (core : Core) (logs : List (List Entry)) (led : IsLedTo size core) → logs ≡ logs_of core → AreMadeBy size led.schedule logs
-logs_made size core logs led is n lt =
-    let sizes = subst IsSize led.sized (is_size core.size led.reached.size) in
-    ap (λ ls. log_of ls n) is ∙ (log_at core n lt ∙ (ap (λ (x : Core). (node_at x n).log) (sym led.leads) ∙ schedule_log size led.schedule n sizes))
+logs_made size core logs led is n lt = grind (arith, is_size, log_at, schedule_log)
 
 -- the log of each end is its node's
 pub node_log : (size : Size) (ends : List EndOf) (core : Core) (logs : List (List Entry)) → IsStateOf size ends core → logs ≡ logs_of core → HaveLogs ends logs

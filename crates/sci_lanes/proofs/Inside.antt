@@ -81,10 +81,7 @@ module _ (part : Part) (node : NodeOf) (me nodes : ℕ) (turns inbox_turns : Lis
   lane_here = subst (λ (n : ℕ). lane < lane_count n) (sym f.nodes_is) at.lane
 
   pub inbox_there : lane_number nodes cell / nodes < length inbox_turns
-  inbox_there =
-      let some_node = f.some_node in
-      subst (λ (n : ℕ). lane_number nodes cell / nodes < n) (sym f.inbox_turns_long)
-      (subst (λ (l : ℕ). l / nodes < 2 * nodes) (ap (λ (n : ℕ). lane_number n cell) (sym f.nodes_is)) (inbox_within nodes lane (omega arith) lane_here))
+  inbox_there = grind (arith, inbox_within, lane_here)
 
   -- the turns stay
   unturned : (new : Part) (o : Outbound) (i : Inbound) → o.sent ≡ (outbound_at part lane).sent → i.taken ≡ (inbound_at part lane).taken

@@ -114,9 +114,7 @@ allowed_seated : (key : Extent × ℕ) (slots id place at : ℕ) (knows : Me (Un
     → Me (Unit {0}) View → Type 0)
     → knows ≡ (single part, []) → place ≡ at → Allows (IsKept (size_of key.0 key.1)) slots id (single part, []) at f (told at (single part, []))
     → Allows (IsKept (size_of key.0 key.1)) slots id knows place f (told place knows)
-allowed_seated key slots id place at knows part f told seated is allowed =
-    subst (λ (k : Me (Unit {0}) View). Allows (IsKept (size_of key.0 key.1)) slots id k place f (told place k)) (sym seated)
-    (subst (λ (p : ℕ). Allows (IsKept (size_of key.0 key.1)) slots id (single part, []) p f (told p (single part, []))) (sym is) allowed)
+allowed_seated key slots id place at knows part f told seated is allowed = grind arith
 
 -- a step on a word of a cell is one of the seat, where it is one of a seat with this one node
 asks_at : (key : Extent × ℕ) (table seat : TableId) (id : ℕ) (knows : Me (Unit {0}) View) (s : IsSeated key table seat knows) (cell : CellId)

@@ -7,16 +7,7 @@ use Rattle.sci_lanes.proofs.Reading.{turn_there, lanes_more}
 use Rattle.sci_lanes.proofs.gather.read_lanes.Goals as goal
 
 pub index-turn-requires : goal.index-turn-requires
-index-turn-requires c =
-    let i = c.loop-room.invariant in
-    let next = ap length c.in-Some.ensures.steps.0 in
-    let nodes = i.0 in
-    let count = i.1 in
-    let len : c.len-lane.result ≡ length c.loop-room.lanes.items = c.len-lane.ensures ∙ c.loop-room.lanes.ok.0 in
-    let v = c.index-inbox_turns-lane.result in
-    let there = turn_there c.args.nodes c.len-lane.result c.args.inbox_turns.now v c.requires.some (omega arith) c.requires.turns
-    (c.index-inbox_turns-lane.is ∙ ap (λ (n : ℕ). get_or c.args.inbox_turns.now (c.len-lane.result % n) v) nodes) in
-    subst (λ (n : ℕ). c.len-lane.result / n < v.len) (sym nodes) (subst (λ (n : ℕ). c.len-lane.result / c.args.nodes < n) (sym v.ok.0) there)
+index-turn-requires c = grind (arith, turn_there)
 
 pub loop-room-preserved : goal.loop-room-preserved
 loop-room-preserved c =

@@ -1,9 +1,9 @@
-use Rattle.std.proofs.Common.{◌≡◌, ℕ, ◌<◌, List, [], ◌∷◌, ◌++◌, length, sym, ap, subst, ◌∙◌, arith}
+use Rattle.std.proofs.Common.{ℕ, ◌<◌, sym, subst, arith}
 use Rattle.std.proofs.lemmas.List.{length_push}
 use mathlib.Core.Option.{none}
 use Rattle.atomic_table.specs.Table.{Me, Allows, step}
 use Rattle.sci_core.specs.Size.{size_of}
-use Rattle.sci_lanes.specs.{declared.view.View.{View}, Shown.{IsKept}, Gathering.{Gathers, HasNodes, IsReadOff}}
+use Rattle.sci_lanes.specs.{declared.view.View.{View}, Shown.{IsKept}, Gathering.{Gathers, HasNodes}}
 use Rattle.sci_lanes.specs.Cells.{word_count}
 use Rattle.sci_lanes.proofs.Gathering.{gathers}
 use Rattle.sci_lanes.proofs.gather.read_words.Goals as goal
@@ -29,20 +29,7 @@ load-requires c =
     )
 
 pub loop-place-preserved : goal.loop-place-preserved
-loop-place-preserved c =
-    let i = c.loop-place.invariant in
-    let told = c.load.ensures in
-    let more = c.push_reserved.ensures.items in
-    let parts = c.args.seat.now.me.0.parts in
-    let before = ap (λ (me : Me (Unit {0}) View). me.0) i.1 in
-    let now : c.load.new.seat.me ≡ (record { parts = parts; words = c.push_reserved.new.self.items }, []) =
-    told.2.more ∙ (λ k. (record { parts = (before k).parts; words = ((ap (λ (v : View). v.words ++ c.load.result ∷ []) before) ∙ sym more) k }, [])) in (
-      told.0 ∙ i.0,
-      now,
-      (let pushed = length_push c.loop-place.words.items c.load.result in ap (λ (ws : List ℕ). length ws) more ∙ omega (arith, i.2)),
-      omega (arith, i.3, c.push_reserved.ensures.capacity),
-      (λ some. subst IsReadOff (ap (λ (me : Me (Unit {0}) View). me.0) now) told.2.read),
-    )
+loop-place-preserved c = grind (arith, length_push)
 
 pub returns-clause-read : goal.returns-clause-read
 returns-clause-read c = let end = c.own_word-place-end.ensures in let some = c.requires.some in let not = c.loop-place-test.false in

@@ -1,23 +1,13 @@
-use Rattle.std.proofs.Common.{◌≡◌, ◌<◌, ◌*◌, sym, ap, subst, ◌∙◌, arith}
+use Rattle.std.proofs.Common.{◌≡◌, ◌*◌, sym, ap, subst, ◌∙◌, arith}
 use Rattle.std.specs.{Arc.{arc_value}, Prelude.{IfOk, replicate}}
-use Rattle.atomic_table.specs.Table.{Splits}
 use Rattle.sci_core.specs.Size.{size_of}
-use Rattle.sci_lanes.specs.{declared.view.Part.{Part}, Cells.{lane_count}, Shown.{IsKept, opening_part}}
-use Rattle.sci_lanes.specs.{Telling.{part_of}, Ends.{EndOf, FitsInside, IsSeated, first_off, first_only}}
+use Rattle.sci_lanes.specs.{declared.view.Part.{Part}, Cells.{lane_count}, Shown.{opening_part}}
+use Rattle.sci_lanes.specs.{Telling.{part_of}, Ends.{EndOf, FitsInside, IsSeated}}
 use Rattle.sci_lanes.proofs.Opening.{machine_size, split_asks, knows_after, knows_new, inside_opened, seated_opened}
 use Rattle.sci_lanes.proofs.lanes.split_off.Goals as goal
 
 pub split_seat-part-requires : goal.split_seat-part-requires
-split_seat-part-requires c =
-    let s = c.args.seat.now in
-    let size = size_of c.args.extent c.args.limit in
-    subst (λ t. (s.table_id ≡ t.shared.table_id) × (0 < t.shared.table_id.words)
-    × Splits (IsKept (size_of t.shared.key.0 t.shared.key.1)) s.id s.me.0 (first_off s.me.0) (first_only s.me.0)) (sym c.deref.ensures) (
-      c.requires.same,
-      (let long = c.requires.long in let same = ap (λ t. t.words) c.requires.same in let n = c.requires.node in omega arith),
-      subst (λ k. Splits (IsKept (size_of k.0 k.1)) s.id s.me.0 (first_off s.me.0) (first_only s.me.0)) (sym c.requires.key)
-          (split_asks size s.id c.args.node s.me.0 c.requires.node (ap (λ k. k.0) c.requires.knows)),
-    )
+split_seat-part-requires c = grind (arith, split_asks)
 
 pub returns-in_err-try_clone-clause-knows : goal.returns-in_err-try_clone-clause-knows
 returns-in_err-try_clone-clause-knows c =

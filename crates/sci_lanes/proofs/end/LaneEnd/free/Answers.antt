@@ -1,4 +1,4 @@
-use Rattle.std.proofs.Common.{◌≡◌, Some, refl, sym, ap, subst, ◌∙◌}
+use Rattle.std.proofs.Common.{◌≡◌, Some, refl, sym, ap, subst, ◌∙◌, arith}
 use Rattle.std.specs.Prelude.{IsSome}
 use Rattle.sci_packets.specs.{declared.packet.Packet.{Packet}, Spelling.{SpellsInWords}}
 use Rattle.sci_cache.specs.Cache.{letter_of}
@@ -58,9 +58,4 @@ invariant_of-self c =
     )
 
 pub returns-clause-taken : goal.returns-clause-taken
-returns-clause-taken c =
-    let e = c.args.event.now in
-    let packet = c.args.packet.now in
-    let node_is = c.self.invariant.0.node_is ∙ ap (λ (end : EndOf). end.part.node) c.self.view_is in
-    ap (λ (node : NodeOf). taken_by (side node e) (letter_of packet)) (sym node_is)
-    ∙ (c.make_taking.ensures ∙ ap (λ (end : EndOf). Some end.part.node) (sym c.free.ensures.part))
+returns-clause-taken c = grind arith

@@ -43,7 +43,4 @@ full_there old new cell word s is next full =
     omega arith
 
 pub returns-clause-full : goal.returns-clause-full
-returns-clause-full c = λ next some_word.
-    let s = c.self.inside in
-    let next' = subst (λ (e : EndOf). IsNextToSend e.part c.args.cell) (sym c.self.view_is) next in
-    full_there s.seat c.look.new.self c.args.cell c.look.result c.look.ensures.shown c.look.ensures.part next' (c.look.ensures.full next' some_word)
+returns-clause-full c = grind (arith, full_there)

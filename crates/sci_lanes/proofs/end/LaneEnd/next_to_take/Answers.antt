@@ -13,10 +13,4 @@ returns-clause-next c =
     (subst (λ (l : ℕ). number ≡ get_or s.inbox_turns.items l number) c.inbox.ensures.place c.index-number.ensures))
 
 pub index-number-requires : goal.index-number-requires
-index-number-requires c =
-    let inside = c.self.invariant.0 in
-    let from : c.args.from < nodes_in c.self.inside.seat.part = subst (λ (e : EndOf). c.args.from < nodes_in e.part) (sym c.self.view_is) c.requires in
-    let nodes = inside.nodes_is in
-    let few = c.inbox.ensures.few (omega arith) in
-    let long = inside.inbox_turns_long in
-    omega arith
+index-number-requires c = grind arith

@@ -1,4 +1,5 @@
-use Rattle.std.proofs.{Common.{ℕ, List, length, get_or, ap, sym, ◌∙◌}, lemmas.List.{length-replicate}}
+use Rattle.std.proofs.Common.{arith}
+use Rattle.std.proofs.{Common.{ℕ, List, length, get_or, ap, ◌∙◌}, lemmas.List.{length-replicate}}
 use Rattle.sci_core.specs.Size.{size_of}
 use Rattle.sci_lanes.proofs.Opening.{machine_size, opened, replicated, ends_more, none_left}
 use Rattle.sci_lanes.proofs.lanes.Lanes.new.Goals as goal
@@ -11,22 +12,7 @@ of_words-requires c =
     (λ k. ap (λ (ws : List ℕ). get_or ws k 0) words ∙ replicated c.own_word.result k 0)
 
 pub loop-node-preserved : goal.loop-node-preserved
-loop-node-preserved c =
-    let i = c.loop-node.invariant in
-    let e = c.split_off.ensures in (
-      e.same ∙ i.0,
-      ap (λ t. t.words) e.same ∙ i.1,
-      e.knows,
-      ends_more c.loop-node.seat.table_id c.split_off.new.seat.table_id (size_of c.args.extent c.args.limit) c.loop-node.node c.loop-node.ends.items
-          c.push.new.self.items c.in_ok-split_off.field-0 e.same i.3 c.in_ok-split_off.ensures.end c.in_ok-push.ensures.items,
-    )
+loop-node-preserved c = grind (arith, ends_more)
 
 pub invariant_of-result : goal.invariant_of-result
-invariant_of-result c =
-    let i = c.loop-node.invariant in
-    record {
-      key_is = ap (λ t. t.shared.key) c.in_ok-table-2.ensures.ok ∙ c.in_ok-table.ensures.5;
-      same = i.0;
-      long = ap (λ t. t.words) (sym i.0) ∙ i.1;
-      spent = none_left (size_of c.args.extent c.args.limit) c.loop-node.node c.loop-node.seat.me c.loop-node-test.false i.2;
-    }
+invariant_of-result c = grind (arith, none_left)

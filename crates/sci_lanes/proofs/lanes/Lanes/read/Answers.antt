@@ -1,5 +1,5 @@
-use Rattle.std.proofs.Common.{ℕ, sym, ap, subst, ◌∙◌, map}
-use Rattle.sci_core.specs.{Core.{core_of}, Size.{Size, size_of}}
+use Rattle.std.proofs.Common.{ℕ, sym, ap, subst, ◌∙◌, map, arith}
+use Rattle.sci_core.specs.{Core.{core_of}, Size.{size_of}}
 use Rattle.sci_lanes.specs.{Cells.{lane_count}, Ends.{LanesOf}, Gathering.{AreAll, AreLanes, HaveInboxTurns, IsStateOf}}
 use Rattle.sci_lanes.proofs.{Gathered.{every_node, every_turn, state_of}, lanes.Lanes.read.Goals.{After-read_lanes}}
 use Rattle.sci_lanes.proofs.lanes.Lanes.read.Goals as goal
@@ -35,9 +35,4 @@ pub of_parts-requires : goal.of_parts-requires
 of_parts-requires g c = (read_off g (goal.at.of_parts-requires g c).After-read_lanes).led.reached
 
 pub returns : goal.returns
-returns g c =
-    let ends = map g.E.HasEnd.end_of c.args.ends.items in
-    let off = read_off g (goal.at.returns g c).After-read_lanes in
-    let at = subst (λ (z : Size). IsStateOf z ends (core_of c.self.inside.extent c.self.inside.limit c.join_all.new.nodes.items c.read_lanes.new.lanes.items))
-    (ap (λ (l : LanesOf). l.size) c.self.view_is) off in
-    subst (IsStateOf c.args.self.size ends) (sym c.of_parts.ensures.parts) at
+returns g c = grind (arith, read_off)
