@@ -1,5 +1,5 @@
 -- What a driver does in a round, step by step.
-use Rattle.std.proofs.Common.{◌≡◌, ◌+◌, ◌<◌, ℕ, Bool, true, false, List, [], ◌∷◌, ◌++◌, length, map, Some, if◌then◌else◌, add-one, refl, sym, ap, subst}
+use Rattle.std.proofs.Common.{◌≡◌, ◌+◌, ◌<◌, ℕ, Bool, true, false, List, [], ◌∷◌, ◌++◌, length, map, Some, add-one, refl, sym, ap, subst}
 use Rattle.std.proofs.Common.{◌∙◌, arith, inl, inr}
 use Rattle.std.proofs.lemmas.List.{length_push}
 use Rattle.std.specs.{Prelude.{◌↔◌, Result, Ok, IfOk, IsErr}, List.{Contains}, declared.alloc.AllocError.{AllocError}}
@@ -48,12 +48,7 @@ performed_log before after (e ∷ entries) is =
 -- the driver is the same, but for what is pending
 pub has_performed : (old new : DriverOf) (before after : NodeOf) (entries : List Entry) → IsDriven old before → IsDriven new after
     → ArePerformed before entries after → new.script ≡ old.script → new.issuing ≡ old.issuing → HasPerformed old new entries
-has_performed old new before after entries was is performs script issuing =
-    let next : new.next ≡ old.next = sym is.issued ∙ (performed_issued before after entries performs ∙ was.issued) in
-    let longer = performed_log before after entries performs in
-    let first = was.counted in
-    let last = is.counted in
-    record { script = script; issuing = issuing; next = next; fewer = omega (arith, next, longer, first, last) }
+has_performed old new before after entries was is performs script issuing = grind (arith, performed_issued, performed_log)
 
 -- ---- the calls of what is submitted
 
@@ -127,14 +122,8 @@ module _ {G : Type 0} (hears : G → List Call → G → Type 0) (hears_nothing 
   behind : (g h : G) (due : Bool) (round : Round) (row next : ℕ) → is_rest_due round row ≡ due → (due ≡ true → hears g (Rest ∷ []) h × (next ≡ 0))
       → (due ≡ false → hears g [] h × (next ≡ in_a_row round row))
       → hears g (rests_if (is_rest_due round row)) h × (next ≡ row_after round row)
-  behind g h true round row next is rests on = (
-    subst (λ (d : Bool). hears g (rests_if d) h) (sym is) (rests refl).0,
-    subst (λ (d : Bool). next ≡ (if d then 0 else in_a_row round row)) (sym is) (rests refl).1,
-  )
-  behind g h false round row next is rests on = (
-    subst (λ (d : Bool). hears g (rests_if d) h) (sym is) (on refl).0,
-    subst (λ (d : Bool). next ≡ (if d then 0 else in_a_row round row)) (sym is) (on refl).1,
-  )
+  behind g h true round row next is rests on = grind arith
+  behind g h false round row next is rests on = grind arith
 
   -- the gate is asked whether all are done, or not asked, and they aren't
   pub behind_round : (driver : DriverOf) (g h k : G) (all : Bool) (round : Round) (row next : ℕ) → all ≡ false → IsAsked hears driver g h all

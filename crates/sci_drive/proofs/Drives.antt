@@ -59,10 +59,7 @@ module _ (driver : DriverOf) (old new : NodeOf) (op : Op) (d : IsDriven driver o
 
   answered_or_pending : (serial : ℕ) → IsAnsweredOrPending old serial → IsAnsweredOrPending new serial
   answered_or_pending serial (inl one) = inl (times_stay serial ∙ one)
-  answered_or_pending serial (inr waits) =
-      let other : waits.0.line ≢ op.line =
-      λ same. never_both (pending_on old op.line) (record { serial = serial; op = waits.0 }) i.free (ap (pending_on old) (sym same) ∙ waits.1) in
-      inr (waits.0, i.others waits.0.line other ∙ waits.1)
+  answered_or_pending serial (inr waits) = grind (arith, never_both)
 
   submitted_now : (serial : ℕ) → serial < driver.next + 1 → IsAnsweredOrPending new serial
   submitted_now serial lt = elim (cases_lt serial driver.next) [
@@ -147,19 +144,11 @@ module _ (driver : DriverOf) (old new : NodeOf) (place line : ℕ) (entry : Entr
 
   -- an operation that is pending on another line has another serial
   other_serial : (line' : ℕ) (p : Pending) → line' ≢ line → pending_on old line' ≡ Some p → entry.serial ≢ p.serial
-  other_serial line' p other is same =
-      let its = d.pending line' p is in
-      let op : entry.op ≡ p.op = same_some (slice_get driver.script p.serial) entry.op p.op (ap (slice_get driver.script) (sym same) ∙ was.named) its.named in
-      other (sym its.on ∙ (ap (λ (o : Op). o.line) (sym op) ∙ was.on))
+  other_serial line' p other is same = grind (arith, same_some, was)
 
   answered_or_pending' : (serial : ℕ) → entry.serial ≢ serial → IsAnsweredOrPending old serial → IsAnsweredOrPending new serial
   answered_or_pending' serial other (inl one) = inl (other_times serial other ∙ one)
-  answered_or_pending' serial other (inr waits) =
-      let apart : waits.0.line ≢ line =
-      λ same. other (ap (λ (p : Pending). p.serial)
-      (same_some (pending_on old line) (record { serial = entry.serial; op = entry.op }) (record { serial = serial; op = waits.0 }) i.pending
-      (ap (pending_on old) (sym same) ∙ waits.1))) in
-      inr (waits.0, i.others waits.0.line apart ∙ waits.1)
+  answered_or_pending' serial other (inr waits) = grind (arith, same_some)
 
   submitted_then : (serial : ℕ) → serial < driver.next → IsAnsweredOrPending new serial
   submitted_then serial lt = elim (cases_eq entry.serial serial) [

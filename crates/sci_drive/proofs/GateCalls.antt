@@ -17,10 +17,7 @@ use Rattle.sci_drive.specs.{Calls.{times_before, times_done, told}, Driving.{Dri
 split : {X : Type 0} (xs ys front back : List X) (x : X) → xs ++ ys ≡ front ++ x ∷ back
     → ((rest : List X) × (xs ≡ front ++ x ∷ rest) × (back ≡ rest ++ ys)) ⊎ ((rest : List X) × (front ≡ xs ++ rest) × (ys ≡ rest ++ x ∷ back))
 split [] ys front back x e = inr (front, refl, e)
-split (z ∷ xs) ys [] back x e =
-    let same : z ≡ x = cc in
-    let rest : xs ++ ys ≡ back = cc in
-    inl (xs, ap (λ y. y ∷ xs) same, sym rest)
+split (z ∷ xs) ys [] back x e = grind arith
 split (z ∷ xs) ys (f ∷ front) back x e =
     let same : z ≡ f = cc in
     let rest : xs ++ ys ≡ front ++ x ∷ back = cc in
@@ -60,9 +57,7 @@ told_first front rest before b once =
     was_told b.was_done (times_done front + times_done rest + before) (omega arith)
 
 still_told : (a b : DriverOf) (calls : List Call) → times_done calls + times_before a ≡ times_before b → a.was_done ≡ true → b.was_done ≡ true
-still_told a b calls once was =
-    let one : times_before a ≡ 1 = ap (λ (done : Bool). if done then 1 else 0) was in
-    was_told b.was_done (times_done calls) (omega arith)
+still_told a b calls once was = grind (arith, was_told)
 
 -- ---- calls, and then more
 
@@ -108,20 +103,10 @@ module _ (a b c : DriverOf) (x y z : NodeOf) (first second : List Call) (f : Are
   ]
 
   quiet_on : a.was_done ≡ true → told (first ++ second) ≡ []
-  quiet_on was =
-      let early : told first ≡ [] = f.quiet was in
-      let late : told second ≡ [] = s.quiet (still_told a b first f.once was) in
-      told_append first second ∙ (ap (λ (l : List Entry). l ++ told second) early ∙ late)
+  quiet_on was = grind (arith, still_told, told_append)
 
   pub calls_on : AreCalls a c x z (first ++ second)
-  calls_on = record {
-    told_all = told_on;
-    submitted = submitted_on;
-    allowed = allowed_on;
-    once = once_on;
-    last = last_on;
-    quiet = quiet_on;
-  }
+  calls_on = grind (arith, told_on, submitted_on, allowed_on, once_on, last_on, quiet_on)
 
 -- ---- one call, or none
 

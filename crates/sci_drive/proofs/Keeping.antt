@@ -1,7 +1,7 @@
 -- What the deeds of a driver issue, and that they keep to its window.
 use Rattle.std.proofs.Common.{◌≡◌, ◌+◌, ◌<◌, ℕ, zero, suc, Bool, List, [], ◌∷◌, ◌++◌, length, map, drop, Some, Ok, refl, sym, ap, subst, ◌∙◌, arith}
 use Rattle.std.proofs.Common.{append_assoc, drop-cons}
-use Rattle.std.proofs.lemmas.{List.{append-nil, length_push}, Option.{get_or_from_slice_get, slice_get_within}}
+use Rattle.std.proofs.lemmas.{List.{length_push}, Option.{get_or_from_slice_get, slice_get_within}}
 use Rattle.std.specs.{Prelude.{slice_get}, declared.alloc.AllocError.{AllocError}}
 use Rattle.sci_words.specs.declared.operation.Op.{Op}
 use Rattle.sci_history.specs.declared.entry.Entry.{Entry}

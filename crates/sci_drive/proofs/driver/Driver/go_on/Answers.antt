@@ -1,23 +1,12 @@
 -- Round after round, with what is asked and the rests between them.
-use Rattle.std.proofs.Common.{◌+◌, [], ◌++◌, true, false, refl, arith, ◌∙◌, rules}
+use Rattle.std.proofs.Common.{◌+◌, ◌++◌, true, false, arith, ◌∙◌, rules}
 use Rattle.sci_drive.specs.Resting.{in_a_row, is_rest_due}
 use Rattle.sci_drive.proofs.GateRests.{after_asked, after_rest, after_round, ended, gone_on, has_not_gone, row_is_short}
 use Rattle.sci_drive.proofs.DriverRounds.{behind_last, behind_round, one_round_more}
 use Rattle.sci_drive.proofs.driver.Driver.go_on.Goals as goal
 
 pub loop-turn-init : goal.loop-turn-init
-loop-turn-init g c =
-    let node = g.W.Worker.node c.args.worker.now in
-    record {
-      driven = c.requires.driven;
-      script = refl;
-      issuing = refl;
-      stays = g.met.W.Worker.stays_itself c.args.worker.now;
-      few = omega arith;
-      order = λ was. was;
-      gone = has_not_gone g.G.Gate.hears g.met.G.Gate.hears_nothing g.met.G.Gate.hears_on c.args.gate.now c.args.self.now node;
-      rounds = ([], g.met.W.Worker.does_nothing c.args.worker.now, (refl, refl, refl, refl, refl, refl));
-    }
+loop-turn-init g c = grind (arith, has_not_gone)
 
 pub returns-in_err-round-clause-calls : goal.returns-in_err-round-clause-calls
 returns-in_err-round-clause-calls g c =

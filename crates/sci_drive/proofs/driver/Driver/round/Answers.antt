@@ -1,9 +1,9 @@
 -- A round submits, performs and takes a turn, and may tell the gate at its end.
-use Rattle.std.proofs.Common.{◌≡◌, Bool, true, false, List, [], ◌∷◌, ◌++◌, map, rules, refl, subst, sym, ap, ◌∙◌}
+use Rattle.std.proofs.Common.{◌≡◌, Bool, true, false, List, [], ◌∷◌, ◌++◌, map, rules, refl, subst, sym, ap, ◌∙◌, arith}
 use Rattle.std.proofs.lemmas.List.{append-nil}
 use Rattle.std.specs.{Prelude.{◌↔◌, IfOk, IsErr, Ok, Err, Result}, declared.alloc.AllocError.{AllocError}}
 use Rattle.sci_policy.specs.{declared.progress.Progress.{Progress}, Deeds.{Deed, Turns}, Worker.{IsNodeTurn}}
-use Rattle.sci_drive.specs.{declared.driver.Round.{Round}, Calls.{Call, Done, HasHeard, end_told}, Driving.{DriverOf, IsAnswered, IsDriven, IsInOrder}}
+use Rattle.sci_drive.specs.{declared.driver.Round.{Round}, Calls.{HasHeard, end_told}, Driving.{DriverOf, IsAnswered, IsDriven, IsInOrder}}
 use Rattle.sci_drive.specs.Rounds.{IsDrivenRound, HasDone, HasPerformed, performed, turn_of}
 use Rattle.sci_drive.proofs.{Drives.{tells, turns}, GateCalls.{done_call, no_calls}, InOrder.{tells_in_order, turns_in_order}}
 use Rattle.sci_drive.proofs.{DriverRounds.{goes, has_performed}, driver.Driver.round.Goals.{After-turn}}
@@ -69,13 +69,7 @@ no_end false = refl
 quiet : (g : _) (c : After-turn g) → HasHeard g.G.Gate.hears c.perform-answered.new.gate c.perform-answered.new.gate c.perform-answered.new.self
     c.perform-answered.new.self (g.W.Worker.node c.perform-answered.new.worker) (g.W.Worker.node c.turn.new.self)
     (end_told c.perform-answered.new.self.was_done c.perform-answered.new.self.was_done)
-quiet g c =
-    let driver = c.perform-answered.new.self in
-    let gate = c.perform-answered.new.gate in
-    let old = g.W.Worker.node c.perform-answered.new.worker in
-    let new = g.W.Worker.node c.turn.new.self in
-    subst (λ (calls : List Call). HasHeard g.G.Gate.hears gate gate driver driver old new calls) (sym (no_end driver.was_done))
-    (g.met.G.Gate.hears_nothing gate, no_calls driver driver old new refl refl c.turn.ensures.work.log)
+quiet g c = grind (arith, no_end, no_calls)
 
 pub returns-in_err-progress-clause-driven : goal.returns-in_err-progress-clause-driven
 returns-in_err-progress-clause-driven g c = driven g (goal.at.returns-in_err-progress-clause-driven g c).After-turn
@@ -102,15 +96,10 @@ returns-in_err-progress-clause-goes g c =
     )
 
 pub returns-then-not-self-clause-driven : goal.returns-then-not-self-clause-driven
-returns-then-not-self-clause-driven g c =
-    let node = g.W.Worker.node c.turn.new.self in
-    tells _ node (subst (λ (d : DriverOf). IsDriven d node) (sym c.self.view_is) (driven g (goal.at.returns-then-not-self-clause-driven g c).After-turn))
+returns-then-not-self-clause-driven g c = grind (arith, tells, driven)
 
 pub returns-then-not-self-clause-order : goal.returns-then-not-self-clause-order
-returns-then-not-self-clause-order g c = λ was.
-    let node = g.W.Worker.node c.turn.new.self in
-    tells_in_order _ node
-    (subst (λ (d : DriverOf). IsInOrder d node) (sym c.self.view_is) (ordered g (goal.at.returns-then-not-self-clause-order g c).After-turn was))
+returns-then-not-self-clause-order g c = grind (arith, tells_in_order, ordered)
 
 pub returns-then-not-self-clause-goes : goal.returns-then-not-self-clause-goes
 returns-then-not-self-clause-goes g c =

@@ -1,4 +1,4 @@
-use Rattle.std.proofs.Common.{arith, ◌≡◌, ◌+◌, ◌<◌, ◌≤◌, Option, inl, inr, ℕ, Bool, true, false, List, [], ◌∷◌, length, Some, None, refl, sym, subst, ◌∙◌}
+use Rattle.std.proofs.Common.{arith, ◌≡◌, ◌+◌, ◌<◌, ◌≤◌, Option, ℕ, Bool, true, false, List, [], ◌∷◌, length, Some, None, refl, sym, subst, ◌∙◌}
 use Rattle.std.proofs.lemmas.{Bool.{cases_lt, eqb-true, ltb-false, ltb-true}, List.Folds.{Any-from_list_any}}
 use Rattle.std.proofs.lemmas.Option.{slice_get_past, slice_get_read}
 use Rattle.std.specs.Prelude.{nat_eq, nat_lt, slice_get, Result, Ok, Err, IfErr, IsErr, IsSome}
@@ -14,10 +14,7 @@ use Rattle.sci_drive.proofs.driver.Driver.submit.Goals as goal
 
 -- the next operation of the script
 next_is : (g : _) (c : In-Some g) → next_op (left_of c.self.view_is) ≡ Some c.in-Some.op.now
-next_is g c =
-    let driver : DriverOf = left_of c.self.view_is in
-    let found = c.in-Some.ensures.lookup in
-    slice_get_read driver.script (length driver.script) driver.next c.in-Some.op.now refl (ltb-true driver.next (length driver.script) (sym found.0)) found.1
+next_is g c = grind (arith, left_of, slice_get_read, ltb-true)
 
 pub returns-in-Ok-clause-driven : goal.returns-in-Ok-clause-driven
 returns-in-Ok-clause-driven g c =
@@ -36,10 +33,7 @@ is_contained line lines is = let any = Any-from_list_any (λ (y : ℕ). nat_eq y
     subst (Contains lines) (eqb-true any.1 line any.4) (any.0, any.2, any.3)
 
 not_below : (a b : ℕ) (below : Bool) → (a < b → below ≡ true) → below ≡ false → b ≤ a
-not_below a b below is not = elim (cases_lt a b) [
-  | inl lt ↦ absurd (let yes : below ≡ true = is lt in cc)
-  | inr le ↦ le
-]
+not_below a b below is not = grind (arith, cases_lt)
 
 past : (script : List Op) (next : ℕ) → false ≡ nat_lt next (length script) → slice_get script next ≡ None
 past script next not = slice_get_past script next (ltb-false next (length script) (sym not))
