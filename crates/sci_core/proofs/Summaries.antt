@@ -1,6 +1,6 @@
 -- Dead events, one after another.
 use Rattle.std.proofs.Common.{◌≡◌, ℕ, suc, ◌+◌, ◌<◌, List, [], ◌∷◌, ◌++◌, length, take, get_or, sym, ap, ◌∙◌, append_assoc, arith}
-use Rattle.std.proofs.lemmas.List.{append-nil, length-take-le, take_more, Sums.{fold_more}}
+use Rattle.std.proofs.lemmas.List.{length-take-le, take_more, Sums.{fold_more}}
 use Rattle.sci_words.specs.declared.event.Event.{Event}
 use Rattle.sci_core.specs.declared.{obstacle.Obstacle.{Obstacle}}
 use Rattle.sci_core.specs.{Core.{Core, run_from, step}, Dead.{dead_at, dead_events, obstacle_if_dead}}
@@ -8,9 +8,7 @@ use Rattle.sci_core.specs.{Core.{Core, run_from, step}, Dead.{dead_at, dead_even
 -- of one event more
 pub dead_events_more : (core : Core) (place : ℕ) (events : List Event) (e : Event)
     → dead_events core place (events ++ e ∷ []) ≡ dead_events core place events ++ dead_at (place + length events) (obstacle_if_dead (run_from core events) e)
-dead_events_more core place [] e =
-    let here : place ≡ place + 0 = omega arith in
-    append-nil (dead_at place (obstacle_if_dead core e)) ∙ ap (λ (at : ℕ). dead_at at (obstacle_if_dead core e)) here
+dead_events_more core place [] e = grind arith
 dead_events_more core place (x ∷ events) e =
     let here = dead_at place (obstacle_if_dead core x) in
     ap (λ (more : List (ℕ × Obstacle)). here ++ more) (dead_events_more (step core x) (suc place) events e)

@@ -1,7 +1,6 @@
 -- A reached state is well formed, and one event more leads to a reached state.
-use Rattle.std.proofs.Common.{subst, ap, ◌∙◌}
-use Rattle.std.specs.Prelude.{IfOk}
-use Rattle.sci_core.specs.{Core.{Core}, Done.{LastChanges, made_by}}
+use Rattle.std.proofs.Common.{ap, ◌∙◌, arith}
+use Rattle.sci_core.specs.{Core.{Core}}
 use Rattle.sci_core.proofs.ReachedLaws.{reached_coherent, applied_effects}
 use Rattle.sci_core.proofs.WellFormed.WellFormedSteps.{reached_well, reached_either, size_either}
 use Rattle.sci_core.proofs.machine.Machine.apply.Goals as goal
@@ -14,9 +13,7 @@ invariant_of-self c = reached_either c.apply.result c.self.inside.state c.apply.
     c.apply.ensures.same
 
 pub returns-clause-effect : goal.returns-clause-effect
-returns-clause-effect c =
-    let effects = applied_effects c.apply.result c.self.inside.state c.apply.new.self c.args.event.now c.self.invariant c.apply.ensures.done in
-    subst (λ (old : Core). IfOk c.apply.result (λ _. LastChanges old c.apply.new.self (made_by old c.args.event.now))) c.self.view_is effects
+returns-clause-effect c = grind (arith, applied_effects)
 
 pub returns-clause-coherent : goal.returns-clause-coherent
 returns-clause-coherent c =

@@ -16,12 +16,7 @@ returns-in_err-round-clause-refused c =
     λ _. refused_after exchanges c.args.self.now c.rounds.self c.round.new.self c.rounds.count c.rounds.invariant.leads (c.in_err-round.ensures.refused refl)
 
 pub overflow_add-count : goal.overflow_add-count
-overflow_add-count c =
-    let few = c.rounds.invariant.few in
-    let less = (next_lowers c.rounds.self c.in-Some.node c.in-Some.line c.in-Some.kind c.next_ask.ensures.reached c.rounds.invariant.drained
-    c.in-Some.ensures.node c.in-Some.ensures.line c.in-Some.ensures.next).lowers c.round.new.self c.in_ok-round.ensures.round in
-    let events = few_events c.args.self.now c.extent-extent.ensures.reached in
-    omega arith
+overflow_add-count c = grind (arith, next_lowers, few_events)
 
 pub rounds-smaller : goal.rounds-smaller
 rounds-smaller c = (next_lowers c.rounds.self c.in-Some.node c.in-Some.line c.in-Some.kind c.next_ask.ensures.reached c.rounds.invariant.drained

@@ -10,15 +10,10 @@ returns-then-node_of-extent-clause-enabled c =
     sym (ap is_some (stepping_nobody c.args.self.now c.args.event.now (omega (arith, c.if-node_of-extent.true, c.extent.ensures.nodes, c.node_of.ensures))))
 
 pub returns-in-Issue-clause-enabled : goal.returns-in-Issue-clause-enabled
-returns-in-Issue-clause-enabled c =
-    issue_free c.args.self.now c.args.event.now c.in-Issue.node c.in-Issue.op c.node.result.now (is_none c.issue_obstacle.result) c.in-Issue.is
-    (omega (arith, c.if-node_of-extent.false, c.extent.ensures.nodes, c.node_of.ensures)) c.node.ensures.node c.issue_obstacle.ensures.enabled
+returns-in-Issue-clause-enabled c = grind (arith, issue_free)
 
 pub returns-in-Perform-clause-enabled : goal.returns-in-Perform-clause-enabled
-returns-in-Perform-clause-enabled c =
-    perform_free c.args.self.now c.args.event.now c.in-Perform.node c.in-Perform.line c.node-in-Perform.result.now (is_none c.perform_obstacle.result)
-    c.in-Perform.is (omega (arith, c.if-node_of-extent.false, c.extent.ensures.nodes, c.node_of.ensures)) c.node-in-Perform.ensures.node
-    c.perform_obstacle.ensures.enabled
+returns-in-Perform-clause-enabled c = grind (arith, perform_free)
 
 pub returns-in-Ask-clause-enabled : goal.returns-in-Ask-clause-enabled
 returns-in-Ask-clause-enabled c =
@@ -36,9 +31,7 @@ returns-in-Refuse-clause-enabled c =
     (omega (arith, c.if-node_of-extent.false, c.extent.ensures.nodes, c.node_of.ensures)) c.take_obstacle-in-Refuse.ensures
 
 pub returns-in-Reply-clause-enabled : goal.returns-in-Reply-clause-enabled
-returns-in-Reply-clause-enabled c =
-    reply_free c.args.self.now c.args.event.now c.in-Reply.node c.node-in-Reply.result.now (is_none c.reply_obstacle.result) c.in-Reply.is
-    (omega (arith, c.if-node_of-extent.false, c.extent.ensures.nodes, c.node_of.ensures)) c.node-in-Reply.ensures.node c.reply_obstacle.ensures.enabled
+returns-in-Reply-clause-enabled c = grind (arith, reply_free)
 
 pub returns-in-Accept-clause-enabled : goal.returns-in-Accept-clause-enabled
 returns-in-Accept-clause-enabled c =

@@ -49,9 +49,7 @@ pub overflow_add-result : goal.overflow_add-result
 overflow_add-result c = let few = (done (goal.at.overflow_add-result c).In_ok-count).few in omega arith
 
 pub returns-clause-made : goal.returns-clause-made
-returns-clause-made c =
-    worked_one c.args.self.now c.round.new.self c.make.new.self c.empty_lines.new.self c.args.node c.args.line c.in_ok-count.count c.in_ok-round.ensures.made
-    c.in_ok-make.ensures.ok c.in_ok-count.ensures.made
+returns-clause-made c = grind (arith, worked_one)
 
 pub returns-clause-few : goal.returns-clause-few
 returns-clause-few c = (done (goal.at.returns-clause-few c).In_ok-count).few

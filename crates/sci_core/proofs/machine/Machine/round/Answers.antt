@@ -70,9 +70,7 @@ returns-clause-round c =
     c.in_ok-make-4.ensures.ok
 
 pub returns-clause-made : goal.returns-clause-made
-returns-clause-made c =
-    after_four c.args.self.now c.args.node c.args.line c.args.kind c.get-target.result c.make.new.self c.make-2.new.self c.make-3.new.self c.make-4.new.self
-    (record { ask = c.in_ok-make.ensures.ok; serve = c.in_ok-make-2.ensures.ok; reply = c.in_ok-make-3.ensures.ok }) c.in_ok-make-4.ensures.ok
+returns-clause-made c = grind (arith, after_four)
 
 pub returns-clause-drained : goal.returns-clause-drained
 returns-clause-drained c =

@@ -1,18 +1,15 @@
 -- The packet that is sent is the one that the ask makes.
-use Rattle.std.proofs.Common.{◌≡◌, refl, ap, sym, subst, ◌∙◌, arith}
-use Rattle.std.specs.Prelude.{IsSome}
+use Rattle.std.proofs.Common.{refl, ap, sym, ◌∙◌, arith}
 use Rattle.sci_cache.specs.Cache.{letter_of}
 use Rattle.sci_core.specs.{declared.lane.LaneKind.TheVariants.{Requests}, Node.{NodeOf, node_asking}}
-use Rattle.sci_core.specs.{Core.{node_at, sends}, contracts.state.State.{the_view}}
+use Rattle.sci_core.specs.{contracts.state.State.{the_view}}
 use Rattle.sci_core.proofs.Step.{Stepping.{stepping_idle}, Applied.{target_below, sent_done, sent_enabled}}
 use Rattle.sci_core.proofs.Step.States.{read_at}
 use Rattle.sci_words.specs.declared.event.Event.TheVariants as event
 use Rattle.sci_core.proofs.state.State.ask.Goals as goal
 
 pub returns-in_default-clause-refused : goal.returns-in_default-clause-refused
-returns-in_default-clause-refused c =
-    let none = ap (λ (node : NodeOf). node_asking node c.args.line c.args.kind) (sym c.node.ensures) ∙ c.asked.ensures.none c.in_default.is in
-    stepping_idle c.args.self.now (event.Ask c.args.n c.args.line c.args.kind) c.requires.n (ap (sends Requests) none)
+returns-in_default-clause-refused c = grind (arith, stepping_idle)
 
 pub send-requires-clause-to : goal.send-requires-clause-to
 send-requires-clause-to c =
@@ -31,12 +28,7 @@ returns-in-Err-clause-refused c =
     )
 
 pub apply_ask-requires : goal.apply_ask-requires
-apply_ask-requires c =
-    let here : c.index_mut.result.now ≡ node_at c.args.self.now c.args.n =
-    read_at _ _ c.from.result c.args.n _ (c.self.view_is ∙ c.in_default-send.ensures.ok) c.self.invariant.parts_long c.from.ensures c.requires.n
-    c.index_mut.ensures.value in
-    subst IsSome (sym (ap (λ (node : NodeOf). node_asking node c.args.line c.args.kind) here
-    ∙ (ap (λ (node : NodeOf). node_asking node c.args.line c.args.kind) (sym c.node.ensures) ∙ c.in-Some.ensures.asked.1))) refl
+apply_ask-requires c = grind (arith, read_at)
 
 pub returns-clause-done : goal.returns-clause-done
 returns-clause-done c =

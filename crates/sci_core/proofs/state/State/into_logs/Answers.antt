@@ -3,7 +3,7 @@ use Rattle.std.proofs.Common.{◌≡◌, ◌++◌, ◌∷◌, [], ℕ, List, ◌
 use Rattle.std.proofs.lemmas.List.{length-append, length-set}
 use Rattle.std.specs.List.{All}
 use Rattle.sci_history.specs.{declared.entry.Entry.{Entry}, Placed.{log_of}}
-use Rattle.sci_core.specs.{Node.{NodeOf}, Core.{Core, core_of, node_at}, Outcome.{logs_of}, WellFormed.{IsWellFormed}}
+use Rattle.sci_core.specs.{Node.{NodeOf}, Core.{Core, core_of, node_at}, WellFormed.{IsWellFormed}}
 use Rattle.sci_core.proofs.Basics.Logs.{IsNextNode, all_logs, logged_more, next_node}
 use Rattle.sci_core.proofs.state.State.into_logs.Goals.{In-Some}
 use Rattle.sci_core.proofs.state.State.into_logs.Goals as goal
@@ -48,12 +48,4 @@ loop-node-preserved c =
     )
 
 pub returns : goal.returns
-returns c =
-    let core = core_of c.self.inside.extent c.self.inside.limit c.self.inside.nodes.items c.self.inside.lanes.items in
-    let rest = c.loop-node.node-iterator.rest in
-    let all = ap (λ (xs : List NodeOf). length xs) c.loop-node.invariant.1 in
-    let both = length-append c.loop-node.yielded rest.items in
-    let none = c.in-None.ensures.steps.0 in
-    let long = rest.ok.0 in
-    subst (λ (k : Core). c.loop-node.logs ≡ logs_of k) c.self.view_is
-    (all_logs core c.loop-node.logs (length c.loop-node.yielded) (omega arith) c.loop-node.invariant.0 c.loop-node.invariant.2)
+returns c = grind (arith, length-append, all_logs)

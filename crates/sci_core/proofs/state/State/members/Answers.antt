@@ -7,11 +7,7 @@ use Rattle.sci_cache.specs.Member.{contents_held}
 use Rattle.sci_core.proofs.state.State.members.Goals as goal
 
 pub loop-place-init : goal.loop-place-init
-loop-place-init c = record {
-  walked = rw (c.in_ok-nodes.ensures.items, c.head-next.ensures) (walk_begins c.args.self.now c.args.line c.requires.shape);
-  counted = ap (λ (l : List ℕ). length l) c.in_ok-nodes.ensures.items;
-  sought = rw c.in_ok-nodes.ensures.items (sought_first c.args.self.now c.args.line);
-}
+loop-place-init c = grind (arith, walk_begins, sought_first)
 
 pub overflow_cast-node : goal.overflow_cast-node
 overflow_cast-node c =

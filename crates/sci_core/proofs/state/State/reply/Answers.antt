@@ -1,10 +1,10 @@
 -- The packet that is sent is the answer that waits.
-use Rattle.std.proofs.Common.{◌≡◌, None, Some, Option, option_map, refl, ap, sym, subst, ◌∙◌}
+use Rattle.std.proofs.Common.{◌≡◌, None, Some, Option, option_map, refl, ap, sym, subst, ◌∙◌, arith}
 use Rattle.std.specs.Prelude.{IfSome}
 use Rattle.sci_packets.specs.declared.packet.Packet.{Packet}
 use Rattle.sci_cache.specs.Cache.{Letter, letter_of}
-use Rattle.sci_core.specs.{declared.lane.LaneKind.TheVariants.{Answers}, Node.{NodeOf, node_replying, replied_by}}
-use Rattle.sci_core.specs.{Core.{sends, node_at}, contracts.state.State.{the_view}}
+use Rattle.sci_core.specs.{declared.lane.LaneKind.TheVariants.{Answers}, Node.{NodeOf, node_replying}}
+use Rattle.sci_core.specs.{Core.{node_at}, contracts.state.State.{the_view}}
 use Rattle.sci_core.proofs.Step.{Stepping.{stepping_idle}, Applied.{sent_done, sent_enabled, waits_replying}}
 use Rattle.sci_words.specs.declared.event.Event.TheVariants as event
 use Rattle.sci_core.proofs.state.State.reply.Goals as goal
@@ -15,12 +15,7 @@ gone old new None taken none = subst (λ (o : Option (NodeOf × Letter)). IfSome
 gone old new (Some answer) taken none = subst (λ (o : Option (NodeOf × Letter)). IfSome o (λ sent. new ≡ sent.0)) (sym taken) refl
 
 pub returns-in_default-clause-refused : goal.returns-in_default-clause-refused
-returns-in_default-clause-refused c =
-    let none : (node_at c.args.self.now c.args.n).waiting ≡ None =
-    ap (λ (node : NodeOf). node.waiting) (sym c.node.ensures)
-    ∙ (sym c.waiting.ensures ∙ ap (option_map letter_of) (sym c.copied.ensures ∙ c.in_default.is)) in
-    stepping_idle c.args.self.now (event.Reply c.args.n) c.requires.n
-    (ap (λ (w : Option Letter). sends Answers (replied_by (node_at c.args.self.now c.args.n) w)) none)
+returns-in_default-clause-refused c = grind (arith, stepping_idle)
 
 pub returns-in-Err-clause-refused : goal.returns-in-Err-clause-refused
 returns-in-Err-clause-refused c =

@@ -2,8 +2,8 @@
 use Rattle.std.proofs.Common.{◌≡◌, List, set, drop, sym, ap, subst, ◌∙◌, arith}
 use Rattle.std.specs.Prelude.{option_map, slice_get}
 use Rattle.sci_cache.specs.Cache.{Letter, letter_of}
-use Rattle.sci_core.specs.{declared.lane.LaneKind.{LaneKind}, Node.{NodeOf}}
-use Rattle.sci_core.specs.{Core.{Core, lane_place, lane_of, with_lane}, Taking.{IsTakable}}
+use Rattle.sci_core.specs.{declared.lane.LaneKind.{LaneKind}}
+use Rattle.sci_core.specs.{Core.{Core, lane_place, lane_of, with_lane}}
 use Rattle.sci_core.proofs.Step.States.{read_at}
 use Rattle.sci_core.proofs.Step.Takings.{taking_from_nobody, taking_empty, takable, taking_untaken, taking_done}
 use Rattle.sci_core.proofs.state.State.take.Goals as goal
@@ -12,32 +12,13 @@ pub returns-then-from-nodes-clause-not : goal.returns-then-from-nodes-clause-not
 returns-then-from-nodes-clause-not c = λ _. taking_from_nobody c.args.self.now c.args.taking c.args.from c.args.n c.requires.n (omega arith)
 
 pub returns-in_default-clause-not : goal.returns-in_default-clause-not
-returns-in_default-clause-not c = λ _.
-    let core = c.args.self.now in
-    let front = c.front.ensures ∙ ap (λ (lane : List Letter). slice_get lane 0) c.lane.ensures
-    ∙ ap (λ (k : LaneKind). slice_get (lane_of core k c.args.from c.args.n) 0) c.lane_kind-kind.ensures in
-    taking_empty core c.args.taking c.args.from c.args.n c.requires.n (omega arith)
-    (sym front ∙ ap (option_map letter_of) (sym c.copied.ensures ∙ c.in_default.is))
+returns-in_default-clause-not c = grind (arith, taking_empty)
 
 pub take-requires : goal.take-requires
-take-requires c =
-    let core = c.args.self.now in
-    let front = c.front.ensures ∙ ap (λ (lane : List Letter). slice_get lane 0) c.lane.ensures
-    ∙ ap (λ (k : LaneKind). slice_get (lane_of core k c.args.from c.args.n) 0) c.lane_kind-kind.ensures in
-    let some = sym front ∙ ap (option_map letter_of) (sym c.copied.ensures ∙ c.in-Some.is) in
-    let read = read_at _ _ c.from.result c.args.n _ c.self.view_is c.self.invariant.parts_long c.from.ensures c.requires.n c.index_mut.ensures.value in
-    subst (λ (node : NodeOf). IsTakable c.args.taking node (letter_of c.in-Some.packet))
-    (sym read) (takable core c.args.taking c.args.from c.args.n (letter_of c.in-Some.packet) c.requires.well (omega arith) c.requires.n some)
+take-requires c = grind (arith, read_at, takable)
 
 pub returns-then-not-take-clause-not : goal.returns-then-not-take-clause-not
-returns-then-not-take-clause-not c = λ _.
-    let core = c.args.self.now in
-    let front = c.front.ensures ∙ ap (λ (lane : List Letter). slice_get lane 0) c.lane.ensures
-    ∙ ap (λ (k : LaneKind). slice_get (lane_of core k c.args.from c.args.n) 0) c.lane_kind-kind.ensures in
-    let some = sym front ∙ ap (option_map letter_of) (sym c.copied.ensures ∙ c.in-Some.is) in
-    let read = read_at _ _ c.from.result c.args.n _ c.self.view_is c.self.invariant.parts_long c.from.ensures c.requires.n c.index_mut.ensures.value in
-    taking_untaken core c.args.taking c.args.from c.args.n c.index_mut.result.now (letter_of c.in-Some.packet) c.requires.n (omega arith) some read
-    (c.take.ensures.not c.if-not-take.true)
+returns-then-not-take-clause-not c = grind (arith, read_at, taking_untaken)
 
 pub returns-clause-done : goal.returns-clause-done
 returns-clause-done c = λ _.
