@@ -8,7 +8,7 @@ use Rattle.sci_words.specs.declared.event.Event.{Event}
 use Rattle.sci_packets.specs.{declared.body.Body.{Body}}
 use Rattle.sci_cache.specs.{State.{CacheState, waits}, Serving.{serving}, Cache.{Letter, line_of}}
 use Rattle.sci_core.specs.declared.lane.LaneKind.TheVariants.{Requests, Answers}
-use Rattle.sci_core.specs.{Core.{Core, lane_of, lane_place, node_at}, Node.{NodeOf}, Reached.{IsReached}, Sharing.{is_about, packets_of}, Size.{Size}}
+use Rattle.sci_core.specs.{Core.{Core, lane_of, lane_place, node_at}, Reached.{IsReached}, Sharing.{is_about, packets_of}, Size.{Size}}
 use Rattle.sci_core.proofs.{Basics.Options.{of_some}, Step.Places.{place_to}, Tidy.TidyRuns.{reached_tidy}}
 use Rattle.sci_policy.specs.{Lines.{state_on}, Policy.{PolicyOf}}
 use Rattle.sci_fair.specs.Steady.{AreSteadyTurns, AreTurns, HasWindows, IsSteadyTurn, Working}
@@ -61,22 +61,7 @@ module _ (K : Change) (i n to line : ℕ) (old new : Working) (letter : Letter) 
 
   -- the line waits when its request has been taken
   waits_taken : Waits n line taken.held.trace.c2
-  waits_taken = elim (cases_eq n i) [
-    | inr other ↦
-        subst (λ (part : NodeOf). waits (state_on part line) ≡ true) (sym (taken.held.trace.taken.so.since.others n other))
-        (asked_waits old.core n to line letter taken.good.reached some t inside about stood_among)
-    | inl same ↦
-        let held = taken.held in
-        let c1 = held.trace.c1 in
-        let since = held.trace.accepted.since in
-        let n1 : n < c1.size.nodes = subst (λ (z : Size). n < z.nodes) (sym since.size) some in
-        let t1 : to < c1.size.nodes = subst (λ (z : Size). to < z.nodes) (sym since.size) t in
-        let l1 : line < c1.size.lines = subst (λ (z : Size). line < z.lines) (sym since.size) inside in
-        let first = asked_waits c1 n to line letter since.reached n1 t1 l1 about
-        (subst (IsAmong letter) (sym (held.trace.accepted.requests n to some t)) stood_among) in
-        let steady = subst (λ (m : ℕ). GoesBy K m held.trace.p1 c1 held.trace.e2 held.trace.p2 held.trace.c2) (sym same) held.takes in
-        waits_all K n line held.trace.p1 c1 held.trace.e2 held.trace.p2 held.trace.c2 held.trace.are_takes steady first
-  ]
+  waits_taken = grind (arith, cases_eq, taken, asked_waits, stood_among, waits_all)
 
   -- a request that is under way then was under way before
   was_among : (other : ℕ) (packet : Letter) → other < old.core.size.nodes → IsAmong packet (lane_of taken.held.trace.c2 Requests n other)

@@ -123,9 +123,7 @@ step_accepts : (e : Event) (line : ℕ) (work : Option Bool) (s t : CacheState) 
     → (rank work t == rank work s) ≡ true → (awaits_home s ≡ true) ⊎ (is_open_head work s ≡ true) → (awaits_home t ≡ true) ⊎ (is_open_head work t ≡ true)
 step_accepts e line work s t (Stays same) kind keeps either =
     subst (λ (r : CacheState). (awaits_home r ≡ true) ⊎ (is_open_head work r ≡ true)) (sym same) either
-step_accepts e line work s t (By_accept is a accepts) kind keeps (inl awaits) =
-    inr (of_some (λ (r : CacheState). (rank work r == rank work s) ≡ true → is_open_head work r ≡ true) (accepting s a) t accepts
-    (awaiting_accepts work s a awaits) keeps)
+step_accepts e line work s t (By_accept is a accepts) kind keeps (inl awaits) = grind (arith, of_some, awaiting_accepts)
 step_accepts e line work s t (By_accept is a accepts) kind keeps (inr opened) =
     absurd (let clash : None ≡ Some t = sym (open_accepts work s a opened) ∙ accepts in cc)
 step_accepts e line work s t (By_serve is m r b serves) kind keeps either = absurd (accept_no_service e kind is)

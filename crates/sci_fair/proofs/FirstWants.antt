@@ -1,6 +1,6 @@
 -- What a policy wants, by the first rule that fits: where nothing can be performed, to purge; then to send what must be sent; and then to
 -- claim what is due.
-use Rattle.std.proofs.Common.{◌≡◌, ◌<◌, ◌&&◌, ℕ, Bool, true, false, if◌then◌else◌, Option, Some, None}
+use Rattle.std.proofs.Common.{◌≡◌, ◌<◌, ◌&&◌, ℕ, Bool, true, false, if◌then◌else◌, Option, Some, None, arith}
 use Rattle.std.proofs.Common.{refl, sym, ap, subst, ◌∙◌}
 use Rattle.std.specs.{Prelude.{is_some, option_map}, Option.{option_and_then, option_or}}
 use Rattle.sci_words.specs.{declared.{event.AskKind.{AskKind}, operation.Op.{Op}}, Operation.{is_maker}}
@@ -38,11 +38,7 @@ module _ (policy : PolicyOf) (node : NodeOf) where
   performs_first : (o : Option ℕ) → oldest node (λ line. is_some (node_performing node line)) ≡ o → PerformsNot (wanted policy node)
       → perform_wanted node ≡ None
   performs_first None is other = ap (option_map Perform) is
-  performs_first (Some line) is other =
-      let first : ruled policy node ≡ Some (Perform line) =
-      ap (λ (q : Option ℕ). option_or (option_map Perform q) (option_or (purge_wanted policy node) (option_or (send_wanted node)
-      (option_or (due_wanted policy node) (operation_wanted node))))) is in
-      absurd (other line (ap (held_back joining) first ∙ kept_want joining (Perform line) refl))
+  performs_first (Some line) is other = grind (arith, kept_want)
 
   no_perform : PerformsNot (wanted policy node) → perform_wanted node ≡ None
   no_perform = performs_first (oldest node (λ line. is_some (node_performing node line))) refl
@@ -80,14 +76,7 @@ module _ (policy : PolicyOf) (node : NodeOf) where
   pub wants_send : (line : ℕ) (k : AskKind) → ((at : ℕ) → at < lines_of node → is_purged policy node at ≡ false)
       → least node (λ at. must_send (state_on node at)) ≡ Some line → own_ask (has_maker node line) (state_on node line) ≡ Some k
       → asks_home_to_change (Ask line k) ≡ false → PerformsNot (wanted policy node) → wanted policy node ≡ Some (Ask line k)
-  wants_send line k never first own plain other =
-      let rule : ruled policy node ≡ Some (Ask line k) =
-      ap (λ (w : Option Want). option_or w (option_or (purge_wanted policy node) (option_or (send_wanted node)
-      (option_or (due_wanted policy node) (operation_wanted node))))) (no_perform other)
-      ∙ (ap (λ (w : Option Want). option_or w (option_or (send_wanted node) (option_or (due_wanted policy node) (operation_wanted node)))) (no_purge never)
-      ∙ (ap (λ (q : Option ℕ). option_or (option_and_then (ask_of node) q) (option_or (due_wanted policy node) (operation_wanted node))) first
-      ∙ ap (λ (j : Option AskKind). option_or (option_map (Ask line) j) (option_or (due_wanted policy node) (operation_wanted node))) own)) in
-      ap (held_back joining) rule ∙ kept_want joining (Ask line k) plain
+  wants_send line k never first own plain other = grind (arith, no_perform, no_purge, kept_want)
 
   -- ---- what is due
 

@@ -208,10 +208,7 @@ quiet_size n (i ∷ order) first last turns = quiet_size n order turns.0 last tu
 
 quiet_shorter : (n b : ℕ) (order : List ℕ) (first last : Working) → AreTurns (QuietTurn n) order first last → b < first.core.size.nodes → b ≢ n
     → length (lane_of last.core Requests n b) ≤ length (lane_of first.core Requests n b)
-quiet_shorter n b [] first last turns t other =
-    let long : length (lane_of first.core Requests n b) ≡ length (lane_of last.core Requests n b) =
-    ap (λ (w : Working). length (lane_of w.core Requests n b)) turns in
-    omega (arith, long)
+quiet_shorter n b [] first last turns t other = grind arith
 quiet_shorter n b (i ∷ order) first last turns t other =
     let one = turns.1.lanes b t other in
     let rest = quiet_shorter n b order turns.0 last turns.2 (subst (λ (z : Size). b < z.nodes) (sym turns.1.size) t) other in
@@ -252,11 +249,7 @@ emptied_by n b (front ∷ rest) order first last good some t other turns windows
 never_quiet : (n : ℕ) (window : List ℕ) (first last : Working) → IsAmong n window → AreTurns (QuietTurn n) window first last
     → ((b : ℕ) → b < first.core.size.nodes → b ≢ n → length (lane_of first.core Requests n b) ≤ 3) → ⊥
 never_quiet n [] first last among turns short = elim among [ ]
-never_quiet n (i ∷ window) first last (inl same) turns short =
-    let full = turns.1.full (sym same) in
-    let few = short full.0 full.1 full.2 in
-    let many = full.3 in
-    absurd (omega (arith, few, many))
+never_quiet n (i ∷ window) first last (inl same) turns short = grind arith
 never_quiet n (i ∷ window) first last (inr later) turns short =
     never_quiet n window turns.0 last later turns.2 (λ b below other. (
     let was : b < first.core.size.nodes = subst (λ (z : Size). b < z.nodes) turns.1.size below in

@@ -62,10 +62,7 @@ home_of_letter core n line to letter reached some inside t awaits asks about amo
     (sent.0, sym (is.to ∙ place_to core.size.nodes Requests n to t) ∙ sent.1)
 
 short_before : (before after : List Letter) (letter : Letter) (lane : List Letter) → lane ≡ before ++ letter ∷ after → length lane ≤ 4 → length before ≤ 4
-short_before before after letter lane is short =
-    let whole : length lane ≡ length (before ++ letter ∷ after) = ap length is in
-    let parts = length-append before (letter ∷ after) in
-    omega (arith, whole, parts, short)
+short_before before after letter lane is short = grind (arith, length-append)
 
 pub where_home : (core : Core) (n line : ℕ) → IsReached core → IsBetweenTurns core → n < core.size.nodes → line < core.size.lines → Awaits n line core
     → AskedAt n (line % core.size.nodes) line 4 core ⊎ AnsweredAt n line core
@@ -98,9 +95,7 @@ all_at P (b ∷ before) after letter all = all_at P before after letter all.1
 
 plain_front : (front letter : Letter) (rest before after : List Letter) → front ∷ rest ≡ before ++ letter ∷ after → IsOpen (front ∷ rest)
     → changes_list letter.body ≡ true → front.body ≡ Cread → ⊥
-plain_front front letter rest [] after is opened changes cread =
-    let same : front ≡ letter = (let both : front ∷ rest ≡ letter ∷ after = is in cc) in
-    cread_changes letter.body (ap (λ (l : Letter). l.body) (sym same) ∙ cread) changes
+plain_front front letter rest [] after is opened changes cread = grind (arith, cread_changes)
 plain_front front letter rest (b ∷ before) after is opened changes cread =
     let tail : rest ≡ before ++ letter ∷ after = (let both : front ∷ rest ≡ b ∷ (before ++ letter ∷ after) = is in cc) in
     let none = all_at (λ l. changes_list l.body ≡ false) before after letter
@@ -180,22 +175,14 @@ awaits_on i n line to old new letter good held some inside t awaits about among 
 
 pub free_taken : {K : Change} (i : ℕ) (old new : Working) → WorksByTurns old.core → (held : HeldBy K i old new) → (m : ℕ)
     → (node_at held.trace.c2 m).waiting ≡ None
-free_taken i old new good held m = elim (cases_eq m i) [
-  | inl same ↦ subst (λ (k : ℕ). (node_at held.trace.c2 k).waiting ≡ None) (sym same) held.trace.taken.free
-  | inr other ↦ ap (λ (part : NodeOf). part.waiting) (held.trace.taken.so.since.others m other) ∙ good.between.free m
-]
+free_taken i old new good held m = grind (arith, cases_eq)
 
 -- what is left behind the front, of a lane in which the request stands
 pub left_cases : (front letter : Letter) (rest before after more left : List Letter) → front ∷ rest ≡ before ++ letter ∷ after → rest ≡ more ++ left
     → ((ahead : List Letter) × (left ≡ ahead ++ letter ∷ after) × (length ahead < length before)) ⊎ ((gone : List Letter) × (after ≡ gone ++ left))
 left_cases front letter rest [] after more left lane is =
     let same : rest ≡ after = (let both : front ∷ rest ≡ letter ∷ after = lane in cc) in inr (more, sym same ∙ is)
-left_cases front letter rest (b ∷ before) after more left lane is =
-    let same : rest ≡ before ++ letter ∷ after = (let both : front ∷ rest ≡ b ∷ (before ++ letter ∷ after) = lane in cc) in
-    elim (suffix_cases more left before letter after (sym is ∙ same)) [
-      | inl stands_ ↦ inl (stands_.0, stands_.1, (let few = stands_.2 in omega (arith, few)))
-      | inr gone ↦ inr gone
-    ]
+left_cases front letter rest (b ∷ before) after more left lane is = grind (arith, suffix_cases)
 
 pub front_of : (before after : List Letter) (letter : Letter) → (front : Letter) × (rest : List Letter) × (front ∷ rest ≡ before ++ letter ∷ after)
 front_of [] after letter = (letter, after, refl)

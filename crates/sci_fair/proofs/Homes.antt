@@ -81,10 +81,7 @@ wbok_if false one other is = cc
 home_word : (home : HomeState) (s : CacheState) (n at_home : ℕ) (letter : Letter) → awaits_home s ≡ true → IsSentIn at_home s letter → head_of home ≡ Some n
     → is_home_fresh home ≡ is_fresh s → IfSome (home_serving home n letter.body) (λ (served : HomeState × Body). served.1 ≡ Wbok)
 home_word (at.Home d) s n at_home letter awaits sent head fresh = let clash : None ≡ Some n = head in cc
-home_word (at.Fresh p d) (Claiming f c) n at_home letter awaits sent head fresh =
-    let same : p ≡ n = cc in
-    subst (λ (b : Body). IfSome (home_serving (at.Fresh p d) n b) (λ (served : HomeState × Body). served.1 ≡ Wbok)) (sym sent.0)
-    (wbok_if (p == n) (at.Gone n) (at.Fresh p d) (eq-eqb p n same))
+home_word (at.Fresh p d) (Claiming f c) n at_home letter awaits sent head fresh = grind (arith, wbok_if, eq-eqb)
 home_word (at.Fresh p d) (Clearing c) n at_home letter awaits sent head fresh = grind (arith, wbok_if, eq-eqb)
 home_word (at.Fresh p d) (Returning c) n at_home letter awaits sent head fresh = cc
 home_word (at.Gone p) (Returning c) n at_home letter awaits sent head fresh = grind (arith, wbok_if, eq-eqb)
@@ -209,10 +206,7 @@ awaits_leads _ awaits = absurd (grind arith)
 word_waits : (node : NodeOf) (letter : Letter) (next : NodeOf) → changes_list letter.body ≡ true → ServedAs node letter next
     → IfSome (home_serving (home_of node letter.line) letter.source letter.body) (λ (served : HomeState × Body). served.1 ≡ Wbok)
     → next.waiting ≡ Some (answering letter Wbok)
-word_waits node letter next changes (At_home served is serves made) word =
-    let wbok = of_some (λ (served : HomeState × Body). served.1 ≡ Wbok) (home_serving (home_of node letter.line) letter.source letter.body) served serves
-    word in
-    ap (λ (part : NodeOf). part.waiting) (sym made) ∙ ap (λ (b : Body). Some (answering letter b)) wbok
+word_waits node letter next changes (At_home served is serves made) word = grind (arith, of_some)
 word_waits node letter next changes (In_cache served serves made) word =
     let clash : None ≡ Some served = sym (no_cache (state_on node letter.line) letter.source letter.body changes) ∙ serves in cc
 
@@ -222,12 +216,8 @@ served_word : (h n : ℕ) (p : PolicyOf) (x : Core) (e : Event) (q : PolicyOf) (
     → letter.line < x.size.lines → is_request letter.body ≡ true → is_about n letter.line letter ≡ true → changes_list letter.body ≡ true
     → awaits_home s ≡ true → IsSentIn (letter.line % x.size.nodes) s letter → state_on (node_at x n) letter.line ≡ s → NobodyJoins letter.line x
     → answer_to x n letter.line ≡ None → h ≡ letter.line % x.size.nodes → Replying h n (answering letter Wbok) y
-served_word h n p x e q y letter rest s st f lane (inr refuse) inside asks about changes awaits sent state nobody none home =
-    let own = subst (λ (o : Event). IsSteady h p x o q y) refuse st in
-    let decides : taking_event p (node_at x h) n h (Some letter) ≡ Some (event.Refuse n h) =
-    subst (λ (l : List Letter). taking_event p (node_at x h) n h (slice_get l 0) ≡ Some (event.Refuse n h)) lane own.own.decides.0 in
-    absurd (plain_cread letter.body
-    (refuses_cread p (node_at x h) letter (refuses_it p (node_at x h) n h letter (is_some (node_at x h).waiting) decides)) changes)
+served_word h n p x e q y letter rest s st f lane (inr refuse) inside asks about changes awaits sent state nobody none home = grind (arith, plain_cread,
+    refuses_cread, refuses_it)
 served_word h n p x e q y letter rest s st f lane (inl serve) inside asks about changes awaits sent state nobody none home =
     let own = subst (λ (o : Event). IsSteady h p x o q y) serve st in
     let node = node_at x h in

@@ -193,9 +193,7 @@ module _ (test : CacheState → Bool) (well : IsServedWell test) (n j : ℕ) (fr
 
   serves : (p : PolicyOf) (x : Core) (q : PolicyOf) (y : Core) (request : Letter) (next : NodeOf) → (request.line ≡ front.line → is_cread request.body ≡ false)
       → ServedAs (node_at x n) request next → node_at y n ≡ next → Passes test n front.line x → Passes test n front.line y
-  serves p x q y request next plain (At_home served home serves_ made) now is =
-      subst (λ (part : NodeOf). test (state_on part front.line) ≡ true) (sym now ∙ refl)
-      (subst (λ (part : NodeOf). test (state_on part front.line) ≡ true) made is)
+  serves p x q y request next plain (At_home served home serves_ made) now is = grind arith
   serves p x q y request next plain (In_cache served does made) now is =
       cached p x q y request served plain does is next now (ap (λ (part : NodeOf). part.cache) made)
 

@@ -1,7 +1,7 @@
 -- In a machine that works by turns, behind a Cread stands no request that changes a list at its home. Where a policy wants such
 -- a request, no line of its node joins, so the node has no Cread under way. What a lane gains elsewhere is no such request.
 use Rattle.std.proofs.Common.{◌≡◌, ◌<◌, ◌*◌, ◌%◌, ◌⊎◌, ℕ, zero, suc, Bool, true, false, cond, arith, List, [], ◌∷◌, ◌++◌, filter, get_or, set}
-use Rattle.std.proofs.Common.{Option, Some, None, refl, sym, ap, subst, ◌∙◌, inl, inr, replicate, rules}
+use Rattle.std.proofs.Common.{Option, Some, None, refl, sym, subst, ◌∙◌, inl, inr, replicate, rules}
 use Rattle.std.proofs.lemmas.{Bool.{cases_Bool}, List.{get_or_past, Elements.{All-weaker, filter-append, recursion_from_All}}}
 use Rattle.std.specs.{Prelude.{IfSome, option_to_list}, List.{AllByRecursion, flat_map}}
 use Rattle.sci_history.proofs.Order.{all-append}
@@ -12,7 +12,7 @@ use Rattle.sci_cache.specs.State.{CacheState}
 use Rattle.sci_cache.specs.{Asking.{Asked, asking}, Kinds.{joins}, Line.{LineState, ask_or_fault}, Cache.{Letter, cache_asked, line_of}}
 use Rattle.sci_core.specs.declared.lane.LaneKind.{LaneKind, TheVariants.{Requests, Answers}}
 use Rattle.sci_core.specs.Core.{Core, Side, Idle, Changes, Sends, Takes, changes, lane_at, lane_of, lane_place, node_at, node_of, opening, performs, sends}
-use Rattle.sci_core.specs.Core.{side, step_by, stepping, with_node}
+use Rattle.sci_core.specs.Core.{side, step_by, stepping}
 use Rattle.sci_core.specs.Node.{NodeOf, asked_by, lines_of, node_asking, node_issuing, node_performing, node_replying}
 use Rattle.sci_core.specs.{Draining.{IsDrained}, Reached.{IsReached}, Sharing.{is_about, packets_of}, Size.{Size}}
 use Rattle.sci_core.specs.{Tidy.{HasItsPackets, IsSentIn}, WellFormed.{IsInLane}}
@@ -174,9 +174,7 @@ SideFits core n _ = Unit {0}
 
 side_open : (core new : Core) (n : ℕ) (s : Side) → AreOpen core → SideFits core n s → step_by core n s ≡ Some new → AreOpen new
 side_open core new n Idle opened fits is = cc
-side_open core new n (Changes next) opened fits is =
-    let made : with_node core n next ≡ new = cc in
-    lanes_same core new opened (ap (λ (c : Core). c.lanes) (sym made))
+side_open core new n (Changes next) opened fits is = grind (arith, lanes_same)
 side_open core new n (Sends kind next letter) opened fits is = grind (arith, lane_changed, open_push)
 side_open core new n (Takes kind from taking) opened fits is = grind (arith, lane_changed, open_rest)
 

@@ -89,9 +89,7 @@ stopped_before m n line order rest first mid last later stopped = grind (arith, 
 module _ (m : Marking) (n line : ℕ) (small : line < MAX_LINES) where
   counted : (j k : ℕ) (p : PolicyOf) (x : Core) → nat_lt (p.patience + 1) PATIENCE ≡ true → k ≡ suc j → 63 ≤ p.patience + j
       → (next_policy p (node_at x n)).patience ≡ p.patience + 1 → Called m n line (pred k) (next_policy p (node_at x n)) x
-  counted zero k p x lasts is few next =
-      let low : p.patience + 1 < 64 = ltb-true (p.patience + 1) 64 lasts in
-      absurd (omega (arith, low, few))
+  counted zero k p x lasts is few next = grind (arith, ltb-true)
   counted (suc j) k p x lasts is few next = Counts j (ap pred is) (omega (arith, few, next))
 
   -- a call

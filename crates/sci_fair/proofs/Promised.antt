@@ -1,5 +1,5 @@
 -- An answer that is on its way keeps the rank of its line: the node accepts it in its next turn.
-use Rattle.std.proofs.Common.{◌≡◌, ◌≢◌, ◌<◌, ◌==◌, ℕ, Bool, true, false, List, [], ◌∷◌, if◌then◌else◌, get_or-set_same, get_or-set_other}
+use Rattle.std.proofs.Common.{◌≡◌, ◌≢◌, ◌<◌, ◌==◌, ℕ, Bool, true, false, List, [], ◌∷◌, if◌then◌else◌, get_or-set_same, get_or-set_other, arith}
 use Rattle.std.proofs.Common.{Option, Some, None, refl, sym, ap, subst, ◌∙◌, inl, inr}
 use Rattle.std.proofs.lemmas.Bool.{cases_Bool, cases_eq}
 use Rattle.std.specs.Prelude.{unwrap_or}
@@ -14,7 +14,7 @@ use Rattle.sci_core.specs.{Size.{Size}, Tidy.{IsAccepted}}
 use Rattle.sci_core.proofs.{Basics.Options.{found, of_some}, ReachedLaws.{reached_accepted}}
 use Rattle.sci_core.proofs.Step.{NodeSides.{AcceptedAs, accept_as}, Places.{place_answers, place_to}}
 use Rattle.sci_core.proofs.{Tidy.{TidySteps.{about_from, about_line, answer_asker}}, WellFormed.WellFormedSteps.{reached_well}}
-use Rattle.sci_policy.specs.{Lines.{state_on}, Policy.{PolicyOf, turned}, Turn.{is_accept}}
+use Rattle.sci_policy.specs.{Lines.{state_on}, Policy.{PolicyOf}, Turn.{is_accept}}
 use Rattle.sci_fair.specs.{Rank.{rank, work_on}, Steady.{AreSteadyTurns, IsSteadyTurn, Working, WorksByTurns}}
 use Rattle.sci_fair.proofs.{Ahead.{Ahead}, Awaiting.{same_rank, same_work}, Descents.{turns_part}, HomeAnswers.{answers_kept}, LaneTurns.{among_gained}}
 use Rattle.sci_fair.proofs.{StateSteps.{accept_one, size_kept}, Steadied.{IsSteady, Steadily}, SteadyTurns.{Held, steady_turn}, Trace.{AreAll}}
@@ -134,11 +134,7 @@ module _ (n line from : ℕ) (letter : Letter) (s t : CacheState) (work : Option
 
   -- but the node's turn leaves none
   own_none : (old new : Working) → (held : Held n old new) → OnWay n line from letter s t work old.core → ⊥
-  own_none old new held way =
-      let tr = held.trace in
-      let on = accept_all (turned (old.policies n)) old.core tr.e1 tr.p1 tr.c1 tr.are_accepts held.accepts way in
-      let none : IsAmong letter [] = subst (IsAmong letter) (tr.empty from way.sender) on.among in
-      elim none [ ]
+  own_none old new held way = grind (arith, accept_all)
 
   other_on : (i : ℕ) (old new : Working) → (held : Held i old new) → i ≢ n → i < old.core.size.nodes → n < old.core.size.nodes
       → OnWay n line from letter s t work old.core → OnWay n line from letter s t work new.core

@@ -72,18 +72,7 @@ fits_still old new body fits (inr none) =
 
 module _ (core new : Core) (n : ℕ) (others : (m : ℕ) → m ≢ n → node_at new m ≡ node_at core m) where
   carried : (letter : Letter) → (asker_of letter ≡ n → Carries (node_at core n) (node_at new n) letter.line) → FitsRead core letter → FitsRead new letter
-  carried letter carries fits = λ asking. elim (cases_eq (asker_of letter) n) [
-    | inl same ↦
-        let was = carries same (subst (λ (m : ℕ). state_on (node_at new m) letter.line ≡ Asking) same asking) in
-        subst (λ (m : ℕ). fits_read (work_on (node_at new m) letter.line) letter.body ≡ true) (sym same)
-        (fits_still (work_on (node_at core n) letter.line) (work_on (node_at new n) letter.line) letter.body
-        (subst (λ (m : ℕ). fits_read (work_on (node_at core m) letter.line) letter.body ≡ true) same
-        (fits (subst (λ (m : ℕ). state_on (node_at core m) letter.line ≡ Asking) (sym same) was.0))) was.1)
-    | inr other ↦
-        let node = others (asker_of letter) other in
-        subst (λ (part : NodeOf). fits_read (work_on part letter.line) letter.body ≡ true) (sym node)
-        (fits (subst (λ (part : NodeOf). state_on part letter.line ≡ Asking) node asking))
-  ]
+  carried letter carries fits = grind (arith, cases_eq, fits_still, others)
 
   -- each packet of a list
   all_carried : (lane : List Letter) → AllByRecursion (λ letter. asker_of letter ≡ n → Carries (node_at core n) (node_at new n) letter.line) lane
@@ -293,14 +282,7 @@ module _ (core : Core) (n line : ℕ) (part : LineState) (reached : IsReached co
       all_parts Elsewhere (flat_map (λ (p : NodeOf). option_to_list p.waiting) core.parts) (flat_map (λ (lane : List Letter). lane) core.lanes) none_about
 
   other_line : (letter : Letter) → Elsewhere letter → asker_of letter ≡ n → Carries (node_at core n) next letter.line
-  other_line letter away own = λ asking. elim (cases_eq letter.line line) [
-    | inl same ↦ absurd (let clash : true ≡ false = sym (about_from n line letter same own) ∙ away in cc)
-    | inr other ↦ (
-      ap (λ (l : LineState). l.state) (sym (get_or-set_other (node_at core n).cache.lines line letter.line part untouched other))
-          ∙ asking,
-      inl refl,
-    )
-  ]
+  other_line letter away own = grind (arith, cases_eq, about_from, get_or-set_other)
 
   others_carried : (lane : List Letter) → AllByRecursion Elsewhere lane
       → AllByRecursion (λ letter. asker_of letter ≡ n → Carries (node_at core n) next letter.line) lane
@@ -335,11 +317,7 @@ cache_answers state n body = search rules
 -- what waits at a node that has served a request
 pub served_waiting : (core : Core) (node next : NodeOf) (request : Letter) → is_request request.body ≡ true → FitsRead core request → ServedAs node request next
     → IfSome next.waiting (FitsRead core)
-served_waiting core node next request asks fit (At_home served home is made) =
-    let answers = of_some (λ (r : HomeState × Body). is_request r.1 ≡ false) _ served is (home_answers _ request.source request.body) in
-    subst (λ (part : NodeOf). IfSome part.waiting (FitsRead core)) made
-    (answer_fits core request served.1 asks answers (λ work fits.
-    of_some (λ (r : HomeState × Body). fits_read work r.1 ≡ true) _ served is (home_fits work _ request.source request.body fits)) fit)
+served_waiting core node next request asks fit (At_home served home is made) = grind (arith, of_some, home_answers, answer_fits, home_fits)
 served_waiting core node next request asks fit (In_cache served is made) = grind (arith, of_some, cache_answers, answer_fits, cache_none)
 
 pub refused_waiting : (core : Core) (node later : NodeOf) (request : Letter) → is_request request.body ≡ true → is_cread request.body ≡ true

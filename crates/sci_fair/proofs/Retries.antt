@@ -2,7 +2,7 @@
 -- another rank when its answer comes; and so does the line that a Purge reaches. So in steady turns there is none of them for long.
 use Rattle.std.proofs.Common.{◌≡◌, ◌<◌, ◌%◌, ◌==◌, ◌⊎◌, ℕ, Bool, true, false, arith, List, [], ◌∷◌}
 use Rattle.std.proofs.Common.{Option, Some, None, refl, sym, ap, subst, ◌∙◌, inl, inr, rules, get_or-set_same}
-use Rattle.std.specs.Prelude.{IfSome, is_some, slice_get}
+use Rattle.std.specs.Prelude.{IfSome}
 use Rattle.sci_history.specs.Seen.{IsAmong}
 use Rattle.sci_words.specs.declared.event.{Event.{Event}}
 use Rattle.sci_packets.specs.{declared.body.Body.{Body, TheVariants.{Purge}}, Table.{is_request}}
@@ -15,7 +15,6 @@ use Rattle.sci_core.specs.{Shape.{follows, state_at}, Sharing.{answer_in, answer
 use Rattle.sci_core.proofs.{Basics.Options.{of_some}, Step.{NodeSides.{At_home, In_cache, ServedAs, serve_as}, Places.{place_to}}}
 use Rattle.sci_core.proofs.{Tidy.TidyRuns.{reached_tidy}, WellFormed.WellFormedSteps.{reached_well}}
 use Rattle.sci_policy.specs.{Lines.{state_on}, Policy.{PolicyOf, is_cread}}
-use Rattle.sci_turn.specs.Moves.{taking_event}
 use Rattle.sci_fair.specs.{Rank.{rank, work_on}, Steady.{AreSteadyTurns, HasWindows, Working, WorksByTurns}}
 use Rattle.sci_fair.specs.Retries.{is_tried_once}
 use Rattle.sci_fair.proofs.{Awaiting.{accepted_idle, same_rank}, Followers.{purge_finds}, Kept.{IsIn, kept_along, kept_in, once}, LaneTurns.{among_stands}}
@@ -87,13 +86,7 @@ served_purge n p x e q y request st inside purge follow next now (In_cache serve
 takes_purge : (n to : ℕ) (p : PolicyOf) (x : Core) (e : Event) (q : PolicyOf) (y : Core) (request : Letter) (rest : List Letter) → IsSteady to p x e q y
     → lane_of x Requests n to ≡ request ∷ rest → (e ≡ event.Serve n to) ⊎ (e ≡ event.Refuse n to) → request.line < x.size.lines → request.body ≡ Purge
     → follows (state_on (node_at x to) request.line) ≡ true → ⊥
-takes_purge n to p x e q y request rest st lane (inr refuse) inside purge follow =
-    let own = subst (λ (o : Event). IsSteady to p x o q y) refuse st in
-    let node = node_at x to in
-    let decides : taking_event p node n to (Some request) ≡ Some (event.Refuse n to) =
-    subst (λ (l : List Letter). taking_event p node n to (slice_get l 0) ≡ Some (event.Refuse n to)) lane own.own.decides.0 in
-    let cread = refuses_cread p node request (refuses_it p node n to request (is_some node.waiting) decides) in
-    let clash : true ≡ false = sym cread ∙ purge_plain request.body purge in cc
+takes_purge n to p x e q y request rest st lane (inr refuse) inside purge follow = grind (arith, refuses_cread, refuses_it, purge_plain)
 takes_purge n to p x e q y request rest st lane (inl serve) inside purge follow =
     let own = subst (λ (o : Event). IsSteady to p x o q y) serve st in
     let node = node_at x to in

@@ -169,24 +169,11 @@ module _ (size : Size) (n j : ℕ) (some : n < size.nodes) (f : j < size.nodes) 
 
   -- the policy counts the turn
   pub counts_turn : {K : Change} (old new : Working) → (held : HeldBy K n old new) → (new.policies n).turns ≡ (turned (old.policies n)).turns
-  counts_turn {K = K} old new held =
-      let t = held.trace in
-      let begins = turned (old.policies n) in
-      let first = turns_all K n begins old.core t.e1 t.p1 t.c1 held.accepts in
-      let second = turns_all K n t.p1 t.c1 t.e2 t.p2 t.c2 held.takes in
-      let third = turns_all K n t.p2 t.c2 t.e3 t.p3 new.core held.asks in
-      let all : t.p3.turns ≡ begins.turns = third ∙ (second ∙ first) in
-      elim t.last [
-        | inl same ↦ ap (λ (r : PolicyOf). r.turns) same ∙ all
-        | inr next ↦ ap (λ (r : PolicyOf). r.turns) next ∙ (next_turns t.p3 (node_at new.core n) ∙ all)
-      ]
+  counts_turn {K = K} old new held = grind (arith, turns_all, next_turns)
 
   pub look_turns : {K : Change} (old new : Working) → (held : HeldBy K n old new) → (g : j < old.core.size.nodes)
       → (held.trace.looks j g).p.turns ≡ (turned (old.policies n)).turns
-  look_turns {K = K} old new held g =
-      let t = held.trace in
-      let look = t.looks j g in
-      turns_all K n t.p1 t.c1 look.first look.p look.c (held.before j g) ∙ turns_all K n (turned (old.policies n)) old.core t.e1 t.p1 t.c1 held.accepts
+  look_turns {K = K} old new held g = grind (arith, turns_all)
 
   -- the turn in which requests are let go: what is kept then is about a line that awaits its home's word
   pub lets_go : {K : Change} (old new : Working) → (held : HeldBy K n old new) → (at : StandsAt size n j front old)

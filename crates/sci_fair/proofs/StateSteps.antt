@@ -1,5 +1,5 @@
 -- What a steady event of a node does to the state of one of its lines, and to the lanes of requests.
-use Rattle.std.proofs.Common.{◌≡◌, ◌<◌, ℕ, true, false, List, [], ◌∷◌}
+use Rattle.std.proofs.Common.{◌≡◌, ◌<◌, ℕ, true, false, List, [], ◌∷◌, arith}
 use Rattle.std.proofs.Common.{Ok, Option, Some, None, refl, sym, ap, subst, ◌∙◌, inl, inr}
 use Rattle.std.proofs.lemmas.{Bool.{cases_eq}}
 use Rattle.sci_words.specs.declared.event.{AskKind.{AskKind}, Event.{Event}}
@@ -38,10 +38,7 @@ module _ {K : Change} (n : ℕ) (p : PolicyOf) (x : Core) (q : PolicyOf) (y : Co
       (stepped x y n (event.Accept from i) (side (node_at x n) (event.Accept from i)) st.some st.own.kind.own refl st.steps)
 
   pub reply_one : (i : ℕ) → IsGoing K n p x (event.Reply i) q y → SendsOne x y n Answers (node_replying (node_at x n))
-  reply_one i st =
-      sends_one x y n Answers (node_replying (node_at x n)) st.reached st.some
-      (λ sent there. waiting_target x n sent.1 st.reached st.some (replied_sent (node_at x n) (node_at x n).waiting sent refl there))
-      (stepped x y n (event.Reply i) (side (node_at x n) (event.Reply i)) st.some st.own.kind.own refl st.steps)
+  reply_one i st = grind (arith, sends_one, waiting_target, replied_sent, stepped)
 
   pub ask_one : (i line : ℕ) (k : AskKind) → IsGoing K n p x (event.Ask i line k) q y → SendsOne x y n Requests (node_asking (node_at x n) line k)
   ask_one i line k st =

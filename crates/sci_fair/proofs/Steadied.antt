@@ -37,12 +37,7 @@ module _ (n : ℕ) (start : PolicyOf) (old : Core) (reached : IsReached old) (so
   same_along : (p : PolicyOf) (core : Core) (events : List Event) (q : PolicyOf) (new : Core) (line : ℕ) → HasTurned n start old p core
       → Does n p core events q new → level_in old n line q new ≡ level_in old n line start old
       → level_in old n line p core ≡ level_in old n line start old
-  same_along p core events q new line turned does same =
-      let low = turned.lower line in
-      elim (falls_along p core events q new line turned does) [
-        | inl lower ↦ omega (arith, low, lower, same)
-        | inr purged ↦ (let four = purged.0 in let six = purged.1 in absurd (omega (arith, four, six, same)))
-      ]
+  same_along p core events q new line turned does same = grind (arith, falls_along)
 
 -- ---- steady steps
 

@@ -181,10 +181,7 @@ module _ (wide : ℕ) (stops : Stop wide) {X : Type 0} (at : X → Working) (lef
     steady : rest_of size b ≡ rest_of size a → IsSteadyTurn n (at a) (at b) × (left b ≡ left a)
 
   same_left : (most a b x y : ℕ) → b ≤ a → y ≤ x → budget most b + y ≡ budget most a + x → b ≡ a
-  same_left most a b x y le low same = elim (cases_lt b a) [
-    | inl lt ↦ (let less = budget_less most a b lt in absurd (omega (arith, less, low, same)))
-    | inr high ↦ omega (arith, le, high)
-  ]
+  same_left most a b x y le low same = grind (arith, cases_lt, budget_less)
 
   step_by : (size : Size) (n : ℕ) (a b : X) → WorksByTurns (at a).core → (at a).core.size ≡ size → Advances at left n a b → Step size n a b
   step_by size n a b good is (Changes works same fewer) =

@@ -1,7 +1,7 @@
 -- An operation that waits loses nothing to others: what its line is worth never rises, until it is performed.
 use Rattle.std.proofs.Common.{◌≡◌, ◌≢◌, ◌≤◌, ◌<◌, ◌+◌, ℕ, zero, suc, Bool, true, false, arith, rules}
 use Rattle.std.proofs.Common.{List, [], ◌∷◌, Option, Some, None, refl, sym, ap, subst, ◌∙◌, inl, inr}
-use Rattle.std.proofs.Common.{get_or-set_other, ◌&&◌, if◌then◌else◌}
+use Rattle.std.proofs.Common.{get_or-set_other, if◌then◌else◌}
 use Rattle.std.proofs.lemmas.Bool.{cases_eq, cases_lt, leb-true}
 use Rattle.std.specs.{Prelude.{IsSome, nat_le}, List.{AllByRecursion}}
 use Rattle.sci_words.specs.{declared.event.Event.{Event}, Operation.{is_maker}}
@@ -12,7 +12,7 @@ use Rattle.sci_core.proofs.{Basics.Options.{of_some}, Settling.Drains.{some_node
 use Rattle.sci_core.proofs.WellFormed.WellFormedSteps.{reached_well}
 use Rattle.sci_policy.specs.{Lines.{state_on}, Policy.{PolicyOf, has}}
 use Rattle.sci_turn.proofs.Working.{stepped}
-use Rattle.sci_fair.specs.{Changes.{rank_at}, Later.{AreWorked}, Rank.{can_perform, counts_use, level, rank, work_in, work_on}, Steady.{Working, WorksByTurns}}
+use Rattle.sci_fair.specs.{Changes.{rank_at}, Later.{AreWorked}, Rank.{can_perform, level, rank, work_in, work_on}, Steady.{Working, WorksByTurns}}
 use Rattle.sci_fair.specs.Waiting.{AreTurnsBeside, IsTurnBeside}
 use Rattle.sci_fair.proofs.{Few.{issued, line_worth, reserve, size_of_step, turn_line}, RankTables.{level_rank}}
 use Rattle.sci_fair.proofs.{ReadCarries.{changed_by}, ReadSteps.{performed_out}, SteadyTurns.{turned_alone}, Works.{work_good}}
@@ -114,10 +114,7 @@ module _ (n line : ℕ) where
   worth_as p work state = level (has p.used line) work state + reserve (can_perform work state)
 
   same_worth : (w v : Working) → w.policies n ≡ v.policies n → IsLeft v.core w.core → its_worth w ≡ its_worth v
-  same_worth w v policies left =
-      ap (λ (p : PolicyOf). worth_as p (work_on (node_at w.core n) line) (state_on (node_at w.core n) line)) policies
-      ∙ (ap (λ (o : Option Bool). worth_as (v.policies n) o (state_on (node_at w.core n) line)) left.0
-      ∙ ap (worth_as (v.policies n) (work_on (node_at v.core n) line)) left.1)
+  same_worth w v policies left = grind arith
 
   same_rank : (one two : Core) → IsLeft one two → rank_at two n line ≡ rank_at one n line
   same_rank one two left = ap (λ (o : Option Bool). rank o (state_on (node_at two n) line)) left.0 ∙ ap (rank (work_on (node_at one n) line)) left.1
@@ -201,11 +198,7 @@ module _ (n line : ℕ) where
   bits_within false false r low = omega (arith, low)
 
   worth_pending : (w : Working) (maker : Bool) → work_on (node_at w.core n) line ≡ Some maker → its_worth w ≤ 104
-  worth_pending w maker waits =
-      let s = state_on (node_at w.core n) line in
-      subst (λ (o : Option Bool). worth_as (w.policies n) o s ≤ 104) (sym waits)
-      (bits_within (counts_use s && has (w.policies n).used line) (can_perform (Some maker) s) (rank (Some maker) s)
-      (leb-true (rank (Some maker) s) 9 (pending_rank maker s)))
+  worth_pending w maker waits = grind (arith, bits_within, leb-true, pending_rank)
 
   some_work : (o : Option Pending) → IsSome o → (maker : Bool) × (work_in o ≡ Some maker)
   some_work None some = cc
@@ -213,8 +206,4 @@ module _ (n line : ℕ) where
 
   pub waiting_changes : (changes : ℕ) (order : List ℕ) (first last : Working) → WorksByTurns first.core → IsSome (pending_on (node_at first.core n) line)
       → AreTurnsBeside n line changes order first last → changes ≤ 104
-  waiting_changes changes order first last good some turns =
-      let work = some_work (pending_on (node_at first.core n) line) some in
-      let few = few_beside changes order first last work.0 good work.1 turns in
-      let most = worth_pending first work.0 work.1 in
-      omega (arith, few, most)
+  waiting_changes changes order first last good some turns = grind (arith, some_work, few_beside, worth_pending)
