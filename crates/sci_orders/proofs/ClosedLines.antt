@@ -1,5 +1,5 @@
 -- Where a line is closed, an operation that waits there may be performed before anything else is done.
-use Rattle.std.proofs.Common.{◌≡◌, ◌≢◌, ℕ, zero, suc, ◌<◌, ◌≤◌, nat_eq, List, length, refl, sym, ap, subst, ◌∙◌, arith}
+use Rattle.std.proofs.Common.{◌≡◌, ◌≢◌, ℕ, zero, suc, ◌<◌, ◌≤◌, nat_eq, length, refl, sym, ap, subst, ◌∙◌, arith}
 use Rattle.std.proofs.Common.{Some, inl, inr}
 use Rattle.std.proofs.lemmas.{Bool.{and_parts, cases_eq}, List.{get_or-set_other}}
 use Rattle.sci_orders.proofs.Changes.{answer_given, issued_apart, issued_length, issued_other, list_below, performed_apart, performed_length, performed_other}
@@ -10,7 +10,6 @@ use Rattle.sci_orders.specs.Eager.{MayIssue}
 use Rattle.sci_orders.specs.Positions.{AreWithin, Fits, Operations, Position, answer_at, answers_of, operation_at, own_of, step_at}
 use Rattle.sci_orders.specs.Positions.{with_issued_at, with_performed_at, word_place}
 use Rattle.sci_words.specs.{declared.{operation.Op.{Op}}}
-use Rattle.sci_orders.specs.declared.standing.Answer.{Answer}
 use Rattle.sci_orders.specs.declared.standing.Answer.TheVariants as answer
 
 -- an operation of a node waits on a line
@@ -39,11 +38,7 @@ module _ (operations : Operations) (window : ℕ) (p r : Position) (line n i : �
   }
 
   issued_grows : (m : ℕ) → length (answers_of p m) ≤ length (answers_of (with_issued_at p n) m)
-  issued_grows m = elim (cases_eq m n) [
-    | inl e ↦ subst (λ (k : ℕ). length (answers_of p k) ≤ length (answers_of (with_issued_at p n) k)) (sym e)
-        (let long = issued_length p n lt in omega (arith, long))
-    | inr other ↦ let same = ap (λ (as_ : List Answer). length as_) (issued_apart p n m other) in omega (arith, same)
-  ]
+  issued_grows m = grind (arith, cases_eq, issued_length, issued_apart)
 
   issued_closed : Issues operations window p r n i → IsClosed operations r line
   issued_closed issues = record {
@@ -135,10 +130,7 @@ words_apart lines operations n i m j within below low apart same = grind arith
 module _ (lines : ℕ) (operations : Operations) (window : ℕ) (within : AreWithin lines operations) where
   pub line_first : (count : ℕ) (p q : Position) (line : ℕ) → Fits operations p → AreAnswered operations q → IsClosed operations p line
       → Leads operations window count p q → BeginsOn operations window count p q line
-  line_first zero p q line fits all closed is =
-      let w = closed.some in
-      let waits = ap (λ (x : Position). answer_at x closed.node w.place) (sym is) ∙ w.waits in
-      absurd (all.done closed.node w.place (waiting_below q closed.node w.place waits) waits)
+  line_first zero p q line fits all closed is = grind (arith, waiting_below)
   line_first (suc count) p q line fits all closed (r, s, rest) =
       let n = s.node in
       let i = s.place in

@@ -46,16 +46,7 @@ module _ (operations : Operations) (window : ℕ) (p q : Position) (n i : ℕ) (
   issue_if : (may : Bool) → may_issue_next (own_of operations n) (answers_of p n) window i ≡ may
       → (if may then Some (with_issued_at p n) else None) ≡ Some q → Issues operations window p q n i
   issue_if false may is = cc
-  issue_if true may is =
-      let at : i ≡ length (answers_of p n) = sym (eqb-true (length (answers_of p n)) i (and_parts (length (answers_of p n) == i) _ may).0) in
-      record {
-        at = at;
-        may = record {
-          below = subst (λ (k : ℕ). k < length (own_of operations n)) at below;
-          may = subst (λ (k : ℕ). may_issue_next (own_of operations n) (answers_of p n) window k ≡ true) at may;
-        };
-        is = sym (same_some (with_issued_at p n) q is);
-      }
+  issue_if true may is = grind (arith, eqb-true, and_parts, same_some)
 
   as_is : (o : Option Answer) → slice_get (answers_of p n) i ≡ o → step_as operations window p n i o ≡ Some q
       → Issues operations window p q n i ⊎ Performs operations p q n i
@@ -74,10 +65,7 @@ module _ (operations : Operations) (window : ℕ) (p q : Position) (n i : ℕ) (
 -- the next operation of a node comes a step further exactly if the node may issue it
 pub next_issues : (operations : Operations) (window : ℕ) (p q : Position) (n next : ℕ) → next ≡ length (answers_of p n) → next < length (own_of operations n)
     → step_at operations window p n next ≡ Some q → MayIssue operations window p n × (q ≡ with_issued_at p n)
-next_issues operations window p q n next is below step = elim (step_is operations window p q n next below step) [
-  | inl issues ↦ (issues.may, issues.is)
-  | inr performs ↦ let low = waiting_below p n next performs.waits in absurd (omega arith)
-]
+next_issues operations window p q n next is below step = grind (arith, step_is, waiting_below)
 
 pub next_stays : (operations : Operations) (window : ℕ) (p : Position) (n next : ℕ) → next ≡ length (answers_of p n) → step_at operations window p n next ≡ None
     → MayIssue operations window p n → ⊥
@@ -175,9 +163,7 @@ reached_leads lines operations window (suc count) p (q, reached, step) =
 
 pub found_on : (lines : ℕ) (operations : Operations) (window before count : ℕ) (p q : Position) → IsFoundIn lines operations window before p
     → LeadsEagerly operations window count p q → IsFoundIn lines operations window (before + count) q
-found_on lines operations window before zero p q found is =
-    let same : before ≡ before + 0 = omega arith in
-    subst (λ (k : ℕ). IsFoundIn lines operations window k q) same (subst (IsFoundIn lines operations window before) is found)
+found_on lines operations window before zero p q found is = grind arith
 found_on lines operations window before (suc count) p q found (r, step, rest) =
     let same : suc before + count ≡ before + suc count = omega arith in
     subst (λ (k : ℕ). IsFoundIn lines operations window k q) same
@@ -208,11 +194,7 @@ begins_on operations window count p r q m n i rest below step = grind arith
 
 pub issue_first : (operations : Operations) (window count : ℕ) (p q : Position) (m : ℕ) → Fits operations p → AreAnswered operations q
     → MayIssue operations window p m → Leads operations window count p q → Begins operations window count p q m
-issue_first operations window zero p q m fits all may is =
-    let whole = all.issued m in
-    let same : length (answers_of p m) ≡ length (answers_of q m) = ap (λ (x : Position). length (answers_of x m)) is in
-    let below = may.below in
-    absurd (omega arith)
+issue_first operations window zero p q m fits all may is = grind arith
 issue_first operations window (suc count) p q m fits all may (r, s, rest) =
     let n = s.node in
     let i = s.place in

@@ -253,11 +253,7 @@ module _ (size : Size) (operations : Operations) (window : ℕ) (plain : Plain) 
   step_issues : (n : ℕ) → length (answers_of p n) < length (own_of operations n) → IsFree operations p n (length (answers_of p n)) → waiting_at p n < window
       → step_at operations window p n (length (answers_of p n)) ≡ Some (with_issued_at p n)
   unfolding step_at
-  step_issues n below free few =
-      let i = length (answers_of p n) in
-      let may = may_if operations window p n free few in
-      ap (step_as operations window p n i) (slice_get_past (answers_of p n) i (omega arith))
-      ∙ ap (λ (b : Bool). if b then Some (with_issued_at p n) else None) may
+  step_issues n below free few = grind (arith, may_if, slice_get_past)
 
   step_performs : (n i : ℕ) → answer_at p n i ≡ answer.Waiting
       → step_at operations window p n i ≡ Some (with_performed_at (operation_at operations n i) p n i)

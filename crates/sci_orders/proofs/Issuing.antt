@@ -58,54 +58,14 @@ module _ (size : Size) (operations : Operations) (plain : Plain) (done : List En
   none_waits (Some pending) is = let from = stands.waits n op.line pending is in absurd (free from.0 from.1 from.2)
 
   can_issue_next : can_issue plain n op ≡ true
-  can_issue_next =
-      let is = known.each n next below in
-      let line = is.line in
-      let few = known.few n in
-      let issued = stands.issued n is_node in
-      let lines : plain.size.lines ≡ size.lines = ap (λ (s : Size). s.lines) stands.size_is in
-      let limit : plain.size.limit ≡ size.limit = ap (λ (s : Size). s.limit) stands.size_is in
-      can_issue_by plain n op (omega arith) is.word is.words (none_waits (waits_at plain n op.line) refl) (omega arith)
+  can_issue_next = grind (arith, stands, is_node, can_issue_by, none_waits)
 
   issue_waits : (m k : ℕ) (pending : Pending) → waits_at (with_issued plain n op) m k ≡ Some pending → Waiter operations (with_issued_at p n) m k
-  issue_waits m k pending is =
-      let old : waits_at plain m k ≡ Some pending → Waiter operations (with_issued_at p n) m k = λ was. (
-      let from = stands.waits m k pending was in
-      (from.0, issued_other p n m from.0 has_answers (waiting_before p n m from.0 from.1) ∙ from.1, from.2)) in
-      elim (cases_eq m n) [
-        | inl e ↦ elim (cases_eq k op.line) [
-          | inl on ↦ (
-            next,
-            ap (λ (j : ℕ). answer_at (with_issued_at p n) j next) e ∙ issued_here p n has_answers,
-            ap (λ (j : ℕ). (operation_at operations j next).line) e ∙ sym on,
-          )
-          | inr off ↦ old (sym (issued_waits_other plain n m k op has_port (λ both. off both.1)) ∙ is)
-        ]
-        | inr other ↦ old (sym (issued_waits_other plain n m k op has_port (λ both. other both.0)) ∙ is)
-      ]
+  issue_waits m k pending is = grind (arith, stands, issued_other, has_answers, waiting_before, cases_eq, issued_here, issued_waits_other, has_port)
 
   issue_held : (m j : ℕ) → answer_at (with_issued_at p n) m j ≡ answer.Waiting
       → waits_at (with_issued plain n op) m (operation_at operations m j).line ≡ Some (pending_of operations m j)
-  issue_held m j is =
-      let lines = stands.lines n is_node in
-      let line = (known.each n next below).line in
-      let here : waits_at (with_issued plain n op) n op.line ≡ Some (pending_of operations n next) =
-      issued_waits_here plain n op has_port (omega arith) ∙ ap (λ (s : ℕ). Some (record { serial = s; op = op })) (stands.issued n is_node) in
-      let old : ((m ≡ n) × (j ≡ next) → ⊥) → waits_at (with_issued plain n op) m (operation_at operations m j).line ≡ Some (pending_of operations m j) =
-      λ not_. (
-      let was : answer_at p m j ≡ answer.Waiting = sym (issued_other p n m j has_answers not_) ∙ is in
-      let apart : (m ≡ n) × ((operation_at operations m j).line ≡ op.line) → ⊥ = λ both. free j (ap (λ (k : ℕ). answer_at p k j) (sym both.0) ∙ was)
-      (ap (λ (k : ℕ). (operation_at operations k j).line) (sym both.0) ∙ both.1) in
-      issued_waits_other plain n m (operation_at operations m j).line op has_port apart ∙ stands.held m j was) in
-      elim (cases_eq m n) [
-        | inl e ↦ elim (cases_eq j next) [
-          | inl at ↦ ap (λ (k : ℕ). waits_at (with_issued plain n op) k (operation_at operations k j).line) e
-              ∙ (ap (λ (k : ℕ). waits_at (with_issued plain n op) n (operation_at operations n k).line) at
-              ∙ (here ∙ (ap (λ (k : ℕ). Some (pending_of operations n k)) (sym at) ∙ ap (λ (k : ℕ). Some (pending_of operations k j)) (sym e))))
-          | inr off ↦ old (λ both. off both.1)
-        ]
-        | inr other ↦ old (λ both. other both.0)
-      ]
+  issue_held m j is = grind (arith, stands, is_node, pending_of, issued_waits_here, has_port, issued_other, has_answers, issued_waits_other, cases_eq)
 
   issue_stands : Stands size operations (with_issued plain n op) done (with_issued_at p n)
   issue_stands =

@@ -1,12 +1,12 @@
 -- An operation that waits is performed, in a position and in the memory that stands there.
-use Rattle.std.proofs.Common.{◌≡◌, ◌≢◌, ℕ, ◌+◌, ◌*◌, ◌<◌, List, [], ◌∷◌, ◌++◌, length, refl, sym, ap, subst, ◌∙◌, arith, inl, inr}
+use Rattle.std.proofs.Common.{◌≡◌, ◌≢◌, ℕ, ◌+◌, ◌*◌, ◌<◌, List, [], ◌∷◌, ◌++◌, length, sym, ap, subst, ◌∙◌, arith, inl, inr}
 use Rattle.std.proofs.lemmas.Bool.{cases_eq}
 use Rattle.std.proofs.lemmas.List.{get_or-set_same, get_or-set_other, length-set, Elements.{Contains-append_left, Contains-push, Contains-push_cases}}
 use Rattle.std.specs.{List.{Contains}, Prelude.{Option, Some, None, option_map, option_to_list, slice_index, slice_index_or}}
 use Rattle.sci_words.specs.{Operation.{effect}, Stamped.{after, zero_stamped}}
 use Rattle.sci_words.specs.declared.{limits.TheConstants.{WORDS_PER_LINE}, operation.Op.{Op}, stamped.Stamped.{Stamped}}
 use Rattle.sci_history.specs.{Memory.{stamped_at}, declared.entry.Entry.{Entry}}
-use Rattle.sci_core.{proofs.Basics.Options.{same_some}, specs.{Size.{Size}, declared.pending.Pending.{Pending}}}
+use Rattle.sci_core.{specs.{Size.{Size}, declared.pending.Pending.{Pending}}}
 use Rattle.sci_orders.proofs.Changes.{list_below, performed_fits, performed_here, performed_length, performed_other, performed_rest, performed_waits}
 use Rattle.sci_orders.proofs.Changes.{reply_done, waiting_below}
 use Rattle.sci_orders.proofs.{Issuing.{MakesStep}, Plains.{memory_performs, plain_makes}, Ports.{perform_changes, performed_waits_here, performed_waits_other}}
@@ -64,60 +64,25 @@ module _ (size : Size) (operations : Operations) (plain : Plain) (done : List En
 
   -- it alone waited on its line
   alone : (j : ℕ) → answer_at p n j ≡ answer.Waiting → (operation_at operations n j).line ≡ op.line → j ≡ i
-  alone j is on =
-      let a = stands.held n j is in
-      let b = stands.held n i waits in
-      let same : Some (pending_of operations n j) ≡ Some (pending_of operations n i) = sym a ∙ (ap (λ (k : ℕ). waits_at plain n k) on ∙ b) in
-      ap (λ (x : Pending). x.serial) (same_some (pending_of operations n j) (pending_of operations n i) same)
+  alone j is on = grind (arith, pending_of)
 
   -- its answer is the reply of the entry
   performed_answer : answer_at after_ n i ≡ answer_of entry.reply
-  performed_answer =
-      let is = known.each n i own_below in
-      performed_here op p n i has_answers issued_below
-      ∙ ap (λ (w : ℕ). answer_of (effect op w).1) (stands.words op.line op.word is.line is.word)
+  performed_answer = grind (arith, own_below, performed_here, has_answers, issued_below)
 
   answered : (m j : ℕ) → answer_at after_ m j ≡ answer.Waiting → (m ≡ n) × (j ≡ i) → ⊥
-  answered m j is both =
-      reply_done entry.reply (sym performed_answer
-      ∙ (ap (λ (k : ℕ). answer_at after_ n k) (sym both.1) ∙ (ap (λ (k : ℕ). answer_at after_ k j) (sym both.0) ∙ is)))
+  answered m j is both = grind (arith, reply_done, performed_answer)
 
   perform_waits : (m k : ℕ) (pending : Pending) → waits_at new m k ≡ Some pending → Waiter operations after_ m k
-  perform_waits m k pending is =
-      let keeps : ((m ≡ n) × (k ≡ op.line) → ⊥) → Waiter operations after_ m k = λ not_. (
-      let from = stands.waits m k pending (sym (other_waits m k not_) ∙ is) in
-      let apart : (m ≡ n) × (from.0 ≡ i) → ⊥ = λ both. not_ (
-        both.0,
-        sym from.2 ∙ (ap (λ (j : ℕ). (operation_at operations m j).line) both.1 ∙ ap (λ (j : ℕ). (operation_at operations j i).line) both.0),
-      ) in
-      (from.0, performed_other op p n i m from.0 has_answers apart ∙ from.1, from.2)) in
-      elim (cases_eq m n) [
-        | inl e ↦ elim (cases_eq k op.line) [
-          | inl on ↦ (
-              let clash : None ≡ Some pending =
-              sym waits_none ∙ (ap (λ (j : ℕ). waits_at new j op.line) (sym e) ∙ (ap (λ (j : ℕ). waits_at new m j) (sym on) ∙ is)) in cc)
-          | inr off ↦ keeps (λ both. off both.1)
-        ]
-        | inr other ↦ keeps (λ both. other both.0)
-      ]
+  perform_waits m k pending is = grind (arith, other_waits, performed_other, has_answers, cases_eq, waits_none)
 
   perform_held : (m j : ℕ) → answer_at after_ m j ≡ answer.Waiting → waits_at new m (operation_at operations m j).line ≡ Some (pending_of operations m j)
-  perform_held m j is =
-      let not_ = answered m j is in
-      let was : answer_at p m j ≡ answer.Waiting = sym (performed_other op p n i m j has_answers not_) ∙ is in
-      other_waits m (operation_at operations m j).line (λ both. not_ (
-        both.0,
-        alone j (ap (λ (k : ℕ). answer_at p k j) (sym both.0) ∙ was) (ap (λ (k : ℕ). (operation_at operations k j).line) (sym both.0) ∙ both.1),
-      ))
-      ∙ stands.held m j was
+  perform_held m j is = grind (arith, answered, performed_other, has_answers, other_waits, alone)
 
   -- ---- entries
 
   is_entry : IsAnswered operations after_ entry
-  is_entry = record {
-    issued = (let same = performed_length op p n i n has_answers in let low = issued_below in omega arith);
-    is = record { below = own_below; op = refl; reply = performed_answer };
-  }
+  is_entry = grind (arith, performed_length, has_answers, issued_below, own_below, performed_answer)
 
   perform_each : (e : Entry) → Contains (done ++ entry ∷ []) e → IsAnswered operations after_ e
   perform_each e has = elim (Contains-push_cases done entry e has) [

@@ -8,15 +8,13 @@ use Rattle.std.specs.Prelude.{IfSome, is_none, option_map, slice_index_or, unwra
 use Rattle.sci_words.specs.{Operation.{has_words}, Stamped.{after, reply_of, zero_stamped}}
 use Rattle.sci_words.specs.declared.{event.Event.{Event}, limits.TheConstants.{WORDS_PER_LINE}, operation.Op.{Op}, stamped.Stamped.{Stamped}}
 use Rattle.sci_history.specs.{Memory.{contents_after, stamped_at}, declared.entry.Entry.{Entry}}
-use Rattle.sci_cache.specs.Cache.{Letter}
 use Rattle.sci_core.proofs.{Basics.Options.{of_some}, History.Works.{SameWork, ask_work, serve_work, accept_work}, ReachedLaws.{any_effects, last_within}}
 use Rattle.sci_core.proofs.{Settling.Drains.{some_node, made_by as made_one}, Shape.ShapeRuns.{pending_known}}
-use Rattle.sci_core.proofs.Step.{NodeSides.{PerformedAs, perform_as, serve_as, refuse_as, reply_as, RefusedAs, ServedAs}, Sides.{steps_by_sides}}
+use Rattle.sci_core.proofs.Step.{NodeSides.{PerformedAs, perform_as, serve_as, refuse_as, reply_as}, Sides.{steps_by_sides}}
 use Rattle.sci_core.proofs.Step.Steps.{Stepped, By_issue, By_perform, By_ask, By_serve, By_refuse, By_reply, By_accept, stepping_stepped}
 use Rattle.sci_core.proofs.WellFormed.WellFormedSteps.{any_well, step_well}
 use Rattle.sci_core.specs.{Core.{Core, node_at, step, stepping, with_node}, Done.{Changes, ChangesBy, made_by, performed}}
-use Rattle.sci_core.specs.Node.{NodeOf, may_issue, no_node, node_issued, node_issuing, node_performing, pending_on, node_asking, node_serving}
-use Rattle.sci_core.specs.Node.{node_refusing}
+use Rattle.sci_core.specs.Node.{NodeOf, may_issue, no_node, node_issued, node_issuing, node_performing, pending_on}
 use Rattle.sci_core.specs.{Reached.{IsReachable}, Sharing.{last_at, last_of}, Size.{Size}, WellFormed.{IsWellFormed}, declared.pending.Pending.{Pending}}
 use Rattle.sci_orders.specs.Plain.{Plain, Port, can_issue, entry_at, plain_made, plain_of, plain_performed, plain_stepping, port_at, port_of, waits_at}
 use Rattle.sci_orders.specs.Plain.{with_issued, with_performed}
@@ -93,20 +91,9 @@ stepped_ports : (core new : Core) (e : Event) (made : Option Entry) → is_seen 
     → map port_of new.parts ≡ map port_of core.parts
 stepped_ports core new e made hidden nothing (By_issue n op next event lt is then_ none) = let clash : true ≡ false = ap is_seen (sym event) ∙ hidden in cc
 stepped_ports core new e made hidden nothing (By_perform n line done lt is then_ some) = cc
-stepped_ports core new e made hidden nothing (By_ask n line kind sent is sends_well s none) =
-    ap (λ (x : Core). map port_of x.parts) (sym s.then_)
-    ∙ ports_same core n sent.0 (of_some (λ (x : NodeOf × Letter). SameWork (node_at core n) x.0) (node_asking (node_at core n) line kind) sent is
-    (ask_work (node_at core n) line kind))
-stepped_ports core new e made hidden nothing (By_serve t none) =
-    let part = node_at core t.node in
-    ap (λ (x : Core). map port_of x.parts) (sym t.then_)
-    ∙ ports_same core t.node t.next
-    (serve_work part t.letter t.next (of_some (ServedAs part t.letter) (node_serving part t.letter) t.next t.takes (serve_as part t.letter)))
-stepped_ports core new e made hidden nothing (By_refuse t none) =
-    let part = node_at core t.node in
-    let does = of_some (RefusedAs part t.letter) (node_refusing part t.letter) t.next t.takes (refuse_as part t.letter) in
-    ap (λ (x : Core). map port_of x.parts) (sym t.then_)
-    ∙ ports_same core t.node t.next (subst (SameWork part) does.then_ (record { pending = refl; issued = refl; log = refl }))
+stepped_ports core new e made hidden nothing (By_ask n line kind sent is sends_well s none) = grind (arith, ports_same, of_some, ask_work)
+stepped_ports core new e made hidden nothing (By_serve t none) = grind (arith, ports_same, serve_work, of_some, serve_as)
+stepped_ports core new e made hidden nothing (By_refuse t none) = grind (arith, of_some, refuse_as, ports_same)
 stepped_ports core new e made hidden nothing (By_reply n sent is sends_well s none) = grind (arith, of_some, reply_as, ports_same)
 stepped_ports core new e made hidden nothing (By_accept t none) = grind (arith, ports_same, of_some, accept_work)
 

@@ -1,12 +1,12 @@
 -- Each step brings one operation one step further, so two steps for each bring each to its answer.
 use Rattle.std.proofs.Common.{◌≡◌, ℕ, zero, suc, ◌+◌, ◌*◌, ◌<◌, ◌≤◌, not, Bool, true, false, cond, if◌then◌else◌, List, [], ◌∷◌, ◌++◌, length, set, get_or}
-use Rattle.std.proofs.Common.{replicate, Option, Some, None, refl, sym, ap, ◌∙◌, arith}
+use Rattle.std.proofs.Common.{replicate, Option, Some, None, refl, ap, ◌∙◌, arith}
 use Rattle.std.proofs.lemmas.{List.{length_push, length-set, Sums.{count_by-le-length, sum_by_push, sum_by-cons, sum_by-set}}, Option.{get_or_from_slice_get}}
 use Rattle.std.specs.{List.{sum_by}, Prelude.{count_by, slice_get}}
 use Rattle.sci_words.specs.{Operation.{effect}, declared.operation.Op.{Op}}
 use Rattle.sci_core.proofs.Basics.Options.{same_some}
 use Rattle.sci_orders.proofs.{Changes.{answer_given, list_below, not_waiting, reply_done, waiting_below}, Reaching.{reached_fits}}
-use Rattle.sci_orders.specs.Positions.{AreWithin, Fits, IsReachedIn, Operations, Position, answer_at, answers_of, is_waiting, may_issue_next, operation_at}
+use Rattle.sci_orders.specs.Positions.{AreWithin, Fits, IsReachedIn, Operations, Position, answer_at, answers_of, is_waiting, may_issue_next}
 use Rattle.sci_orders.specs.Positions.{operation_count, own_of, step_as, step_at, with_issued_at, with_performed_at, word_place}
 use Rattle.sci_orders.specs.declared.standing.Answer.{Answer}
 use Rattle.sci_orders.specs.declared.standing.Answer.TheVariants as answer
@@ -46,17 +46,12 @@ perform_counts op p n i waits =
 module _ (operations : Operations) (window : ℕ) (p q : Position) (n i : ℕ) (fits : Fits operations p) (below : i < length (own_of operations n)) where
   issue_step : (may : Bool) → (if may then Some (with_issued_at p n) else None) ≡ Some q → all_steps_taken q ≡ suc (all_steps_taken p)
   issue_step false is = cc
-  issue_step true is =
-      let nodes = fits.nodes in
-      let known = list_below operations n i below in
-      ap all_steps_taken (sym (same_some (with_issued_at p n) q is)) ∙ issue_counts p n (omega arith)
+  issue_step true is = grind (arith, list_below, same_some, issue_counts)
 
   as_counts : (o : Option Answer) → slice_get (answers_of p n) i ≡ o → step_as operations window p n i o ≡ Some q
       → all_steps_taken q ≡ suc (all_steps_taken p)
   as_counts None is step = issue_step (may_issue_next (own_of operations n) (answers_of p n) window i) step
-  as_counts (Some answer.Waiting) is step =
-      ap all_steps_taken (sym (same_some (with_performed_at (operation_at operations n i) p n i) q step))
-      ∙ perform_counts (operation_at operations n i) p n i (get_or_from_slice_get (answers_of p n) i answer.Waiting answer.Stored is)
+  as_counts (Some answer.Waiting) is step = grind (arith, same_some, perform_counts, get_or_from_slice_get)
   as_counts (Some answer.Stored) is step = cc
   as_counts (Some (answer.Got w)) is step = cc
 

@@ -15,6 +15,4 @@ returns-then-from-line c =
     (ap (λ (b : Bool). not b && ((get_or own i no_operation).line == c.args.line)) late ∙ on))
 
 pub returns : goal.returns
-returns c =
-    let end = c.loop-i-test.false in
-    sym (none_any (comes_to c.args.own.now c.args.issued c.args.line) (length c.args.own.now) (λ k low. c.loop-i.invariant k (omega arith)))
+returns c = grind (arith, none_any)

@@ -17,6 +17,4 @@ returns-then-from-line c =
     (ap (λ (b : Bool). b && ((get_or own j no_operation).line == c.args.line)) waits ∙ on))
 
 pub returns : goal.returns
-returns c =
-    let end = c.loop-j-test.false in
-    sym (none_any (waits_on c.args.own.now c.args.answers.now c.args.line) (length c.args.answers.now) (λ k low. c.loop-j.invariant k (omega arith)))
+returns c = grind (arith, none_any)

@@ -1,34 +1,19 @@
 -- The next operation of the first such node is issued, or the node may not issue it.
-use Rattle.std.proofs.Common.{◌≡◌, List, length, sym, ap, subst, ◌∙◌, arith, inl, inr}
+use Rattle.std.proofs.Common.{◌≡◌, length, sym, ap, subst, ◌∙◌, arith, inl, inr}
 use Rattle.std.proofs.lemmas.{Bool.{cases_lt}, List.{length-map}}
-use Rattle.std.specs.{Prelude.{Vec, option_map}, Vec.{vec_len}, declared.alloc.Global.{Global}}
-use Rattle.sci_words.specs.declared.operation.Op.{Op}
+use Rattle.std.specs.{Prelude.{option_map}}
 use Rattle.sci_orders.proofs.{Copies.{own_is}, Eager.{next_issues, next_stays}}
 use Rattle.sci_orders.proofs.orders.Orders.first_issue.Goals.{After-len, else-next-len, then-next-len+in_ok-further+in_default}
 use Rattle.sci_orders.specs.{Eager.{MayIssue}, Positions.{answers_of, lists_of, own_of, position_of}}
-use Rattle.sci_orders.specs.declared.standing.{Answer.{Answer}}
 use Rattle.sci_orders.proofs.orders.Orders.first_issue.Goals as goal
 
 -- as many operations of the node are issued as there are answers
 issued : (c : After-len) → c.len-next.result ≡ length (answers_of (position_of c.args.standing.now) c.loop-n.n)
-issued c =
-    let long = length-map c.args.self.now.operations.now (λ (v : Vec Op Global). v.items) in
-    let many = length-map c.args.standing.now.answers.items (λ (v : Vec Answer Global). v.items) in
-    let nodes = c.requires.nodes in
-    let below = c.loop-n-test.true in
-    let answers = ap (λ (as_ : List Answer). length as_)
-    (own_is c.args.standing.now.answers.items c.loop-n.n c.index.result.now (omega arith) c.index.ensures) in
-    let there = c.len-next.ensures in
-    omega arith
+issued c = grind (arith, length-map, own_is)
 
 -- and the node has as many operations
 own : (c : After-len) → c.len.result ≡ length (own_of (lists_of c.args.self.now.operations.now) c.loop-n.n)
-own c =
-    let operations = ap (λ (ops : List Op). length ops)
-    (own_is c.args.self.now.operations.now c.loop-n.n c.index-self-n.result c.loop-n-test.true c.index-self-n.is) in
-    let there = c.len.ensures in
-    let same = ap (λ (v : Vec Op Global). vec_len v) c.index-self-n.is in
-    omega arith
+own c = grind (arith, own_is)
 
 pub returns-in-Some-clause-some : goal.returns-in-Some-clause-some
 returns-in-Some-clause-some c =

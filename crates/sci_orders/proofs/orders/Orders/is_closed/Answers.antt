@@ -1,5 +1,5 @@
 -- Each node is looked at.
-use Rattle.std.proofs.Common.{◌≡◌, ◌&&◌, ◌||◌, ◌+◌, ◌<◌, not, ℕ, Bool, true, false, List, [], length, get_or, refl, sym, ap, ◌∙◌, arith, inl, inr}
+use Rattle.std.proofs.Common.{◌≡◌, ◌&&◌, ◌||◌, ◌+◌, ◌<◌, not, ℕ, Bool, true, false, List, [], length, get_or, refl, sym, ap, ◌∙◌, arith}
 use Rattle.std.proofs.lemmas.{Bool.{cases_eq}, List.{get_or-map, length-map}}
 use Rattle.std.specs.{List.{list_any, range_with_len}, Prelude.{Vec}, declared.alloc.Global.{Global}}
 use Rattle.sci_words.specs.declared.operation.Op.{Op}
@@ -28,9 +28,7 @@ own_here vecs n vec own lt is = is ∙ sym (get_or-map (λ (v : Vec Op Global). 
 
 answers_here : (standing : Standing) (operations n : ℕ) (vec : Vec Answer Global) (as_ : List Answer) → length (position_of standing).answers ≡ operations
     → n < operations → vec ≡ get_or standing.answers.items n vec → as_ ≡ vec.items → as_ ≡ answers_of (position_of standing) n
-answers_here standing operations n vec as_ nodes lt at is =
-    let many = length-map standing.answers.items (λ (v : Vec Answer Global). v.items) in
-    is ∙ sym (own_is standing.answers.items n vec (omega (arith, nodes, many, lt)) at)
+answers_here standing operations n vec as_ nodes lt at is = grind (arith, length-map, own_is)
 
 nodes_below : (vecs : List (Vec Op Global)) (n : ℕ) → n < length vecs → n < length (lists_of vecs)
 nodes_below vecs n lt = let long = length-map vecs (λ (v : Vec Op Global). v.items) in omega (arith, long, lt)
@@ -101,10 +99,7 @@ returns-then-has_to_come c =
 
 -- one node more is held
 held_more : (held : ℕ → Bool) (n : ℕ) → ((m : ℕ) → m < n → held m ≡ true) → held n ≡ true → (m : ℕ) → m < n + 1 → held m ≡ true
-held_more held n before here m low = elim (cases_eq m n) [
-  | inl e ↦ ap held e ∙ here
-  | inr other ↦ before m (omega (arith, low, other))
-]
+held_more held n before here m low = grind (arith, cases_eq)
 
 pub loop-n-preserved : goal.loop-n-preserved
 loop-n-preserved c =
@@ -136,15 +131,4 @@ loop-n-preserved c =
     ]
 
 pub returns : goal.returns
-returns c =
-    let operations = lists_of c.args.self.now.operations.now in
-    let p = position_of c.args.standing.now in
-    let test = λ (n : ℕ). has_waiting (own_of operations n) (answers_of p n) c.args.line in
-    let held = λ (n : ℕ). is_held (own_of operations n) (answers_of p n) c.args.line in
-    let long = length-map c.args.self.now.operations.now (λ (v : Vec Op Global). v.items) in
-    let end = c.loop-n-test.false in
-    let most = c.loop-n.auto.n-end in
-    let whole : c.loop-n.n ≡ length operations = omega arith in
-    let all = all_pass held (length operations) (λ m low. c.loop-n.invariant.held m (omega (arith, low, whole))) in
-    c.loop-n.invariant.waits ∙ (ap (λ (k : ℕ). list_any test (range_with_len 0 k)) whole
-    ∙ sym (ap (λ (b : Bool). list_any test (range_with_len 0 (length operations)) && b) all ∙ and_true (list_any test (range_with_len 0 (length operations)))))
+returns c = grind (arith, length-map, all_pass, and_true)
