@@ -104,29 +104,14 @@ versions_apart : (first : List Stamped) (a x b y : Step) → IsTwin first a x �
 versions_apart first a x b y s t line = grind arith
 
 twin_comes : (first : List Stamped) (reason : Reason) (a x b y : Step) → IsTwin first a x → IsTwin first b y → ComesAfter reason x y → ComesAfter reason a b
-twin_comes first Logged a x b y s t h =
-    let place_a = s.place in
-    let place_b = t.place in
-    let lt = h.1 in
-    (t.node ∙ (h.0 ∙ sym s.node), omega arith)
-twin_comes first ReadsFrom a x b y s t h =
-    let apart = versions_apart first a x b y s t h.0 in
-    let same = h.3 in
-    (t.line ∙ (h.0 ∙ sym s.line), t.making ∙ h.1, s.making ∙ h.2, omega arith)
+twin_comes first Logged a x b y s t h = grind arith
+twin_comes first ReadsFrom a x b y s t h = grind (arith, versions_apart)
 twin_comes first FromRead a x b y s t h = grind (arith, versions_apart)
 twin_comes first Coherence a x b y s t h = grind (arith, versions_apart)
 
 twin_came : (first : List Stamped) (reason : Reason) (a x b y : Step) → IsTwin first a x → IsTwin first b y → ComesAfter reason a b → ComesAfter reason x y
-twin_came first Logged a x b y s t h =
-    let place_a = s.place in
-    let place_b = t.place in
-    let lt = h.1 in
-    (sym t.node ∙ (h.0 ∙ s.node), omega arith)
-twin_came first ReadsFrom a x b y s t h =
-    let line : y.entry.op.line ≡ x.entry.op.line = sym t.line ∙ (h.0 ∙ s.line) in
-    let apart = versions_apart first a x b y s t line in
-    let same = h.3 in
-    (line, sym t.making ∙ h.1, sym s.making ∙ h.2, omega arith)
+twin_came first Logged a x b y s t h = grind arith
+twin_came first ReadsFrom a x b y s t h = grind (arith, versions_apart)
 twin_came first FromRead a x b y s t h = grind (arith, versions_apart)
 twin_came first Coherence a x b y s t h = grind (arith, versions_apart)
 

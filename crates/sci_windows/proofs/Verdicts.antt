@@ -8,7 +8,7 @@ use Rattle.sci_words.specs.Stamped.{line_after, reply_of, zero_stamped}
 use Rattle.sci_history.specs.{declared.entry.Entry.{Entry}, declared.verdict.FaultKind.{FaultKind}, declared.verdict.Verdict.{Verdict}}
 use Rattle.sci_history.specs.declared.verdict.FaultKind.TheVariants.{VersionTwice, VersionMissing, WrongReply, OutOfOrder, LastDiffers}
 use Rattle.sci_history.specs.declared.verdict.Verdict.TheVariants as verdicts
-use Rattle.sci_history.specs.Audit.{IsLineFault, IsVerdict, Names, first_failing, first_missing, first_twice, first_wrong, is_reply_wrong}
+use Rattle.sci_history.specs.Audit.{IsLineFault, IsVerdict, Names, first_failing, first_twice, first_wrong, is_reply_wrong}
 use Rattle.sci_history.specs.Audit.{line_after_all, same_reply, words_after}
 use Rattle.sci_history.specs.{Lawful.{Lawful}, Memory.{stamped_at}, Placed.{AreOwn, is_on_line, maker_count, on_line, placed_entries}}
 use Rattle.sci_history.proofs.{Audits.{fault_or_none, no_fault}, Lawfulness.{lawful_line}}
@@ -143,15 +143,8 @@ pub counted_fault : (es : List Entry) (first last : Stamped) (kind : FaultKind) 
     → IsLineFault (map (over first.line) es) (relative_stamped first last) kind named → IsCountedFault es first last kind named
 counted_fault es first last VersionTwice named long h =
     names_over first.line (first_twice es) named (subst (λ (o : Option Entry). Names o named) (twice_over first.line es) h)
-counted_fault es first last VersionMissing named long h = (
-  none_over first.line (first_twice es) (sym (twice_over first.line es) ∙ h.0),
-  names_over first.line (first_missing es) named (subst (λ (o : Option Entry). Names o named) (missing_over first.line es) h.1),
-)
-counted_fault es first last WrongReply named long h = (
-  none_over first.line (first_twice es) (sym (twice_over first.line es) ∙ h.0),
-  none_over first.line (first_missing es) (sym (missing_over first.line es) ∙ h.1),
-  names_over first.line (first_wrong_from first.line es) named (subst (λ (o : Option Entry). Names o named) (wrong_placed first.line es long) h.2),
-)
+counted_fault es first last VersionMissing named long h = grind (arith, none_over, twice_over, names_over, missing_over)
+counted_fault es first last WrongReply named long h = grind (arith, none_over, twice_over, missing_over, names_over, wrong_placed)
 counted_fault es first last OutOfOrder named long h = grind (arith, none_over, twice_over, missing_over, wrong_placed, names_over, disordered_over)
 counted_fault es first last LastDiffers named long h = grind (arith, none_over, wrong_placed, twice_over, missing_over, disordered_over, differ_over)
 

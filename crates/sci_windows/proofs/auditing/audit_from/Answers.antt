@@ -1,4 +1,4 @@
-use Rattle.std.proofs.Common.{◌∙◌}
+use Rattle.std.proofs.Common.{◌∙◌, arith}
 use Rattle.sci_windows.proofs.{Loops.{audit_within, lawful_is, verdict_is}, Verdicts.{IsWindow}}
 use Rattle.sci_windows.proofs.auditing.audit_from.Goals.{After-audit}
 use Rattle.sci_windows.proofs.auditing.audit_from.Goals as goal
@@ -9,15 +9,7 @@ audit-requires c =
     (c.deref.ensures ∙ c.in_ok-contents.ensures.contents) c.requires.lines c.requires.within
 
 window : (c : After-audit) → IsWindow c.args.logs.now c.args.first.now c.args.last.now
-window c = record {
-  own = c.in_ok-relative.ensures.own;
-  sixteen = c.in_ok-relative.ensures.sixteen;
-  few = c.are_few.ensures.0 c.if-not-are_few.false;
-  long = c.requires.lines;
-  first_lines = c.in_ok-contents.ensures.first;
-  last_lines = c.in_ok-contents.ensures.lines;
-  early = c.requires.early;
-}
+window c = grind arith
 
 pub returns-clause-verdict : goal.returns-clause-verdict
 returns-clause-verdict c =
@@ -26,7 +18,4 @@ returns-clause-verdict c =
     c.audit.ensures.verdict
 
 pub returns-clause-lawful : goal.returns-clause-lawful
-returns-clause-lawful c =
-    lawful_is c.args.first.now c.args.last.now c.args.logs.now c.in_ok-relative.relative c.deref.result.now c.audit.result
-    (window (goal.at.returns-clause-lawful c).After-audit) c.in_ok-relative.ensures.logs (c.deref.ensures ∙ c.in_ok-contents.ensures.contents)
-    c.audit.ensures.lawful
+returns-clause-lawful c = grind (arith, lawful_is, window)

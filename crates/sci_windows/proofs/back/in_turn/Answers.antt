@@ -1,4 +1,4 @@
-use Rattle.std.proofs.Common.{◌≡◌, ◌+◌, ◌<◌, ◌++◌, ◌∷◌, [], List, length, get_or, set, ap, sym, subst, ◌∙◌, arith}
+use Rattle.std.proofs.Common.{◌+◌, ◌<◌, ◌++◌, ◌∷◌, [], List, length, get_or, set, ap, sym, subst, arith}
 use Rattle.sci_history.specs.{declared.entry.Entry.{Entry}, Placed.{log_of}}
 use Rattle.sci_history.proofs.AuditFinds.{no_entry}
 use Rattle.sci_windows.proofs.Turns.{AreTaken, all_taken, next_within, taken_next, taken_none}
@@ -7,25 +7,16 @@ use Rattle.sci_windows.proofs.back.in_turn.Goals as goal
 
 within : (c : After-of) → get_or c.loop-node.next (get_or c.args.nodes.now c.loop-node.node-index 0) 0
     < length (log_of c.args.logs.now (get_or c.args.nodes.now c.loop-node.node-index 0))
-within c =
-    next_within c.args.logs.now c.args.nodes.now c.loop-node.next c.loop-node.node-index c.loop-node.made.items c.loop-node-test.true
-    (c.requires.known c.loop-node.node-index 0 c.loop-node-test.true) c.requires.each c.loop-node.invariant
+within c = grind (arith, next_within)
 
 pub loop-node-init : goal.loop-node-init
 loop-node-init c = taken_none c.args.logs.now c.args.nodes.now c.in_ok-made.made.items c.in_ok-made.ensures.items
 
 pub bounds-of-place : goal.bounds-of-place
-bounds-of-place c =
-    let is = ap length c.of.ensures.log in
-    let lt = within (goal.at.bounds-of-place c).After-of in
-    omega arith
+bounds-of-place c = grind (arith, within)
 
 pub offset_bounds-of-place : goal.offset_bounds-of-place
-offset_bounds-of-place c =
-    let is = ap length c.of.ensures.log in
-    let lt = within (goal.at.offset_bounds-of-place c).After-of in
-    let fits = c.of.type_inv in
-    omega arith
+offset_bounds-of-place c = grind (arith, within)
 
 pub overflow_add-next : goal.overflow_add-next
 overflow_add-next c =
@@ -49,7 +40,4 @@ loop-node-preserved c =
     subst (AreTaken logs nodes (set next node (place + 1)) (i + 1)) (sym c.in_ok-push.ensures.items) step
 
 pub returns-clause-own : goal.returns-clause-own
-returns-clause-own c =
-    let end : c.loop-node.node-index ≡ length c.args.nodes.now = omega arith in
-    all_taken c.args.logs.now c.args.nodes.now c.loop-node.next c.loop-node.node-index c.loop-node.made.items
-    (sym c.nodes-sixteen.ensures.nodes ∙ c.nodes-sixteen.ensures.sixteen) end c.requires.each c.loop-node.invariant
+returns-clause-own c = grind (arith, all_taken)

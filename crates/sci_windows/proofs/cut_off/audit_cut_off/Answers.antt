@@ -11,12 +11,7 @@ line_faults-requires c =
     (c.deref.ensures ∙ c.in_ok-contents.ensures.contents) refl c.requires.within
 
 pub before_last-requires : goal.before_last-requires
-before_last-requires c =
-    let long : length c.deref.result.now ≡ length c.args.first.now =
-    ap length (c.deref.ensures ∙ c.in_ok-contents.ensures.contents) ∙ relative_long c.args.first.now c.args.first.now refl in
-    let faults = ap length c.deref-2.ensures.value in
-    let found = c.in_ok-faults.ensures.found in
-    omega (arith, long, faults, found.many, c.lines-lines.ensures.lines, c.lines-lines.ensures.few)
+before_last-requires c = grind (arith, relative_long)
 
 verdict : (c : After-before_last) → IsVerdictCutOff c.args.logs.now c.args.first.now c.before_last.result
 verdict c =
@@ -30,7 +25,7 @@ verdict c =
       within = c.requires.within;
       lines = c.in_ok-contents.ensures.first;
       early = c.requires.early;
-    }) c.in_ok-relative.ensures.logs long c.in_ok-faults.ensures.found
+    }) c.in_ok-relative.ensures.logs long c.in_ok-faults.ensures
     (subst (λ (xs : List (Option LineFault)). IsBeforeLast xs c.before_last.result) c.deref-2.ensures.value c.before_last.ensures)
 
 pub returns-clause-verdict : goal.returns-clause-verdict

@@ -1,4 +1,4 @@
-use Rattle.std.proofs.Common.{◌≡◌, ◌↔◌, ◌<◌, length, map, sym, ap, subst, ◌∙◌}
+use Rattle.std.proofs.Common.{◌≡◌, ◌↔◌, ◌<◌, length, map, sym, ap, subst, ◌∙◌, arith}
 use Rattle.std.specs.Prelude.{All}
 use Rattle.sci_words.specs.declared.limits.TheConstants.{MAX_NODES}
 use Rattle.sci_history.specs.{declared.order_verdict.{OrderVerdict.{OrderVerdict}, Step.{Step}}, Audit.{entries_of}, Cycle.{IsOrderVerdict, IsOrdered}}
@@ -18,15 +18,7 @@ sequential_order-requires c =
     (c.deref.ensures ∙ c.in_ok-contents.ensures.contents) c.requires.lines c.requires.within
 
 window : (c : After-sequential_order) → IsWindow c.args.logs.now c.args.first.now c.args.last.now
-window c = record {
-  own = c.in_ok-relative.ensures.own;
-  sixteen = c.in_ok-relative.ensures.sixteen;
-  few = c.are_few.ensures.0 c.if-not-are_few.false;
-  long = c.requires.lines;
-  first_lines = c.in_ok-contents.ensures.first;
-  last_lines = c.in_ok-contents.ensures.lines;
-  early = c.requires.early;
-}
+window c = grind arith
 
 pub returns-in-Fault-clause-found : goal.returns-in-Fault-clause-found
 returns-in-Fault-clause-found c =
@@ -50,16 +42,10 @@ returns-in-Fault-clause-order c =
 -- the order that was found, of the relative logs by their names, and its nodes
 order_of : (c : After-deref-in-Order-2) → IsOrderVerdict (relative_logs c.args.first.now c.args.logs.now)
     (relative_contents c.args.first.now c.args.last.now) (orders.Order c.in-Order.order)
-order_of c =
-    named_verdict c.args.logs.now c.in_ok-relative.relative c.args.first.now c.args.last.now c.deref.result.now
-    (orders.Order c.in-Order.order) c.in_ok-relative.ensures.logs (c.deref.ensures ∙ c.in_ok-contents.ensures.contents)
-    (subst (IsOrderVerdict c.in_ok-relative.relative c.deref.result.now) c.in-Order.is c.in_ok-line.ensures.verdict)
+order_of c = grind (arith, named_verdict)
 
 nodes_in : (c : After-deref-in-Order-2) → c.deref-in-Order-2.result.now ≡ map (λ (e : Entry). e.node) (entries_of c.in-Order.order.items)
-nodes_in c =
-    nodes_from c.in-Order.order.items c.deref-in-Order.result.now c.in_ok-nodes-in-Order.nodes.items c.deref-in-Order-2.result.now
-    c.deref-in-Order.ensures.value
-    c.in_ok-nodes-in-Order.ensures c.deref-in-Order-2.ensures.value
+nodes_in c = grind (arith, nodes_from)
 
 pub in_turn-requires-clause-known : goal.in_turn-requires-clause-known
 in_turn-requires-clause-known c =
@@ -88,10 +74,7 @@ returns-in-Order-clause-order c =
 -- the cycle that was found
 cycle_of : (c : After-deref-in-Cycle) → IsOrderVerdict (relative_logs c.args.first.now c.args.logs.now)
     (relative_contents c.args.first.now c.args.last.now) (orders.Cycle c.in-Cycle.steps)
-cycle_of c =
-    named_verdict c.args.logs.now c.in_ok-relative.relative c.args.first.now c.args.last.now c.deref.result.now
-    (orders.Cycle c.in-Cycle.steps) c.in_ok-relative.ensures.logs (c.deref.ensures ∙ c.in_ok-contents.ensures.contents)
-    (subst (IsOrderVerdict c.in_ok-relative.relative c.deref.result.now) c.in-Cycle.is c.in_ok-line.ensures.verdict)
+cycle_of c = grind (arith, named_verdict)
 
 pub steps_in-requires-clause-known : goal.steps_in-requires-clause-known
 steps_in-requires-clause-known c =

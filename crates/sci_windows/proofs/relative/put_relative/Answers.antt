@@ -26,15 +26,10 @@ loop-line-preserved c =
     }
 
 pub returns-clause-contents : goal.returns-clause-contents
-returns-clause-contents c =
-    let lines = c.lines-line-end.ensures.lines in
-    contents_are c.args.first.now c.args.contents.now c.loop-line.made c.requires.first c.loop-line.invariant.long
-    (λ k lt. c.loop-line.invariant.made k (omega arith))
+returns-clause-contents c = grind (arith, contents_are)
 
 pub returns-clause-first : goal.returns-clause-first
-returns-clause-first c =
-    lines_are c.args.first.now c.lines-line-end.result (c.lines-line-end.ensures.lines ∙ sym c.requires.first)
-    (λ k lt. c.loop-line.invariant.first k (omega arith))
+returns-clause-first c = grind (arith, lines_are)
 
 pub returns-clause-lines : goal.returns-clause-lines
 returns-clause-lines c =

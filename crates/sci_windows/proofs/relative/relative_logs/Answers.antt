@@ -1,16 +1,11 @@
-use Rattle.std.proofs.Common.{◌≡◌, ℕ, List, [], length, map, length-set, ◌∙◌, ap, subst, sym, arith}
-use Rattle.std.specs.Prelude.{All}
+use Rattle.std.proofs.Common.{◌≡◌, ℕ, List, [], length, map, length-set, ◌∙◌, ap, arith}
 use Rattle.sci_history.specs.{declared.entry.Entry.{Entry}, Placed.{log_of}}
 use Rattle.sci_windows.specs.Relative.{relative_entry}
 use Rattle.sci_windows.proofs.Loops.{logs_are, own_log, set_next}
 use Rattle.sci_windows.proofs.relative.relative_logs.Goals as goal
 
 pub put-requires-clause-own : goal.put-requires-clause-own
-put-requires-clause-own c =
-    let is : c.in_ok-log.log.items ≡ map (relative_entry c.args.first.now) (log_of c.args.logs.now c.loop-node.node) =
-    c.in_ok-log.ensures ∙ ap (map (relative_entry c.args.first.now)) c.of.ensures.log in
-    subst (All (λ (e : Entry). e.node ≡ c.loop-node.node)) (sym is)
-    (own_log c.args.first.now c.args.logs.now c.loop-node.node c.nodes-nodes.ensures.own)
+put-requires-clause-own c = grind (arith, own_log)
 
 pub loop-node-preserved : goal.loop-node-preserved
 loop-node-preserved c =
@@ -27,6 +22,4 @@ loop-node-preserved c =
     }
 
 pub returns-clause-logs : goal.returns-clause-logs
-returns-clause-logs c =
-    logs_are c.args.first.now c.args.logs.now c.loop-node.made (c.loop-node.invariant.sixteen ∙ sym c.nodes-nodes.ensures.sixteen ∙ c.nodes-nodes.ensures.nodes)
-    (λ node lt. c.loop-node.invariant.made node (omega arith))
+returns-clause-logs c = grind (arith, logs_are)

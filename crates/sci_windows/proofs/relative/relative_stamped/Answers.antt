@@ -1,6 +1,6 @@
 use Rattle.std.proofs.Common.{◌≡◌, ℕ, List, length, get_or, length-set, ◌∙◌, ap, arith}
 use Rattle.sci_history.proofs.Runs.{same_stamped}
-use Rattle.sci_windows.specs.Relative.{relative_stamped, swapped}
+use Rattle.sci_windows.specs.Relative.{swapped}
 use Rattle.sci_windows.proofs.Loops.{line_is, set_next}
 use Rattle.sci_windows.proofs.relative.relative_stamped.Goals as goal
 
@@ -21,8 +21,4 @@ loop-word-preserved c =
     }
 
 pub returns-clause-contents : goal.returns-clause-contents
-returns-clause-contents c =
-    same_stamped (record { line = c.loop-word.line; version = c.counted_from.result }) (relative_stamped c.args.first c.args.stamped)
-    (line_is c.args.first.line c.args.stamped.line c.loop-word.line c.words-first.ensures.width c.words-words.ensures.width c.loop-word.invariant.long
-    (λ k lt. c.loop-word.invariant.made k (omega arith)))
-    c.counted_from.ensures
+returns-clause-contents c = grind (arith, same_stamped, line_is)
