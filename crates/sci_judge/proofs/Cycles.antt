@@ -127,10 +127,7 @@ count_line addresses done (x ∷ xs) (e ∷ es) (suc i) line address rising at a
 -- ---- places of entries
 
 place_rises : (y x : Entry) → y.version < x.version → place y < place x
-place_rises y x less = elim (cases_Bool (makes_entry y)) [
-  | inl yes_ ↦ rw yes_ (omega arith)
-  | inr no_ ↦ rw no_ (omega arith)
-]
+place_rises y x less = grind (arith, cases_Bool)
 
 place_maker : (y x : Entry) → makes_entry y ≡ true → makes_entry x ≡ false → y.version ≤ x.version → place y < place x
 place_maker y x making reading le = rw (making, reading) (omega arith)
@@ -342,30 +339,15 @@ rules_out_order timed trace links known round = λ sites log explained is sequen
 pub linked_step : (timed : Bool) (trace : Trace) (link next : Link) (links rest : List Link) (to : ℕ) (z y : Access) → links ≡ next ∷ rest
     → IsFirst timed trace link next.place → IsAt trace.accesses.items next.place y → AreLinked timed trace next y rest to z
     → (x : Access) × IsAt trace.accesses.items link.place x × AreLinked timed trace link x links to z
-linked_step timed trace link next links rest to z y is first at_y linked =
-    let same = one_access trace.accesses.items next.place first.1 y first.3 at_y in
-    let stands = subst (λ (a : Access). StandsFirst timed trace link.reason link.place next.place first.0 a) same first.4 in (
-      first.0,
-      first.2,
-      subst (λ (ls : List Link). AreLinked timed trace link first.0 ls to z) (sym is) (y, at_y, stands, linked),
-    )
+linked_step timed trace link next links rest to z y is first at_y linked = grind (arith, one_access)
 
 -- the last link
 pub linked_end : (timed : Bool) (trace : Trace) (link : Link) (links : List Link) (to : ℕ) → links ≡ [] → IsFirst timed trace link to
     → (y z : Access) × IsAt trace.accesses.items link.place y × IsAt trace.accesses.items to z × AreLinked timed trace link y links to z
-linked_end timed trace link links to is first = (
-  first.0,
-  first.1,
-  first.2,
-  first.3,
-  subst (λ (ls : List Link). AreLinked timed trace link first.0 ls to first.1) (sym is) first.4,
-)
+linked_end timed trace link links to is first = grind arith
 
 -- an operation more in front of some
 pub turn_step : (timed : Bool) (accesses : List Access) (from next : ℕ) (through rest : List ℕ) (to : ℕ) (z y x w : Access) → through ≡ next ∷ rest
     → IsAt accesses next x → IsAt accesses next w → ComesBefore timed from next y x → AreInTurn timed accesses next w rest to z
     → AreInTurn timed accesses from y through to z
-turn_step timed accesses from next through rest to z y x w is at_x at_w before turn =
-    let same = one_access accesses next x w at_x at_w in
-    subst (λ (ps : List ℕ). AreInTurn timed accesses from y ps to z) (sym is)
-    (w, at_w, subst (λ (a : Access). ComesBefore timed from next y a) same before, turn)
+turn_step timed accesses from next through rest to z y x w is at_x at_w before turn = grind (arith, one_access)

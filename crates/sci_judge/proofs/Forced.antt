@@ -88,10 +88,7 @@ made_by e version some within =
 writing_changes : (kind : Kind) (value : ℕ) → is_writing kind ≡ true → left_by kind ≡ value → reply_of kind ≡ Got value → ⊥
 writing_changes (Load read) value writing leaves got = absurd (let no_ : true ≡ false = sym writing in cc)
 writing_changes (Store wrote) value writing leaves got = stored_not_got (Store wrote) wrote refl (got ∙ ap Got (sym leaves))
-writing_changes (Atomic read wrote) value writing leaves got = elim (cases_eq read wrote) [
-  | inl same ↦ absurd (let no_ : true ≡ false = sym writing ∙ rw (eq-eqb read wrote same) refl in cc)
-  | inr differs ↦ differs (let is : Got read ≡ Got wrote = got ∙ ap Got (sym leaves) in cc)
-]
+writing_changes (Atomic read wrote) value writing leaves got = grind (arith, cases_eq, eq-eqb)
 
 pub writing_makes : (kind : Kind) → is_writing kind ≡ true → is_making kind ≡ true
 writing_makes (Load read) writing = writing
@@ -126,9 +123,7 @@ from_writer e once i version a at_a writing within has =
 -- what leaves a word stands behind the one that wrote it
 pub behind_writer : (e : Explanation) → AreWrittenOnce e.accesses → (i j : ℕ) (a b : Access) (at_a : IsAt e.accesses i a) (at_b : IsAt e.accesses j b)
     → is_writing a.kind ≡ true → left_by a.kind ≡ left_by b.kind → version_in e i a at_a ≤ version_in e j b at_b
-behind_writer e once i j a b at_a at_b writing same =
-    let here = placed_in e j b at_b in
-    from_writer e once i (version_in e j b at_b) a at_a writing here.within (here.leaves ∙ sym same)
+behind_writer e once i j a b at_a at_b writing same = grind (arith, placed_in, from_writer, version_in)
 
 -- and a maker that leaves the word as it was stands behind the one that wrote it
 pub reads_same : (e : Explanation) → AreWrittenOnce e.accesses → (i j : ℕ) (a b : Access) (at_a : IsAt e.accesses i a) (at_b : IsAt e.accesses j b)
@@ -169,19 +164,12 @@ record IsShownBy (e : Explanation) (others versions : List ℕ) (makers : List M
 one_maker : (accesses : List Access) (makers : List Maker) (index p q : ℕ) (a b : Access) → IsMaker accesses makers index p a
     → IsMaker accesses makers index q b
     → (p ≡ q) × (a ≡ b)
-one_maker accesses makers index p q a b is_p is_q =
-    let found : Some is_p.0 ≡ Some is_q.0 = sym is_p.1 ∙ is_q.1 in
-    let maker : is_p.0 ≡ is_q.0 = cc in
-    let place : p ≡ q = sym is_p.2 ∙ (ap (λ (m : Maker). m.place) maker ∙ is_q.2) in
-    let access : Some a ≡ Some b = sym is_p.3 ∙ (ap (slice_get accesses) place ∙ is_q.3) in
-    (place, cc)
+one_maker accesses makers index p q a b is_p is_q = grind arith
 
 -- nor has it two words before it
 one_word : (accesses : List Access) (makers : List Maker) (index v w : ℕ) → IsWordBefore accesses makers index v → IsWordBefore accesses makers index w → v ≡ w
 one_word accesses makers zero v w is_v is_w = is_v ∙ sym is_w
-one_word accesses makers (suc index) v w is_v is_w =
-    let one = one_maker accesses makers index is_v.0 is_w.0 is_v.1 is_w.1 is_v.2 is_w.2 in
-    sym is_v.3 ∙ (ap (λ (x : Access). left_by x.kind) one.1 ∙ is_w.3)
+one_word accesses makers (suc index) v w is_v is_w = grind (arith, one_maker)
 
 inside : (accesses : List Access) (makers : List Maker) (index p : ℕ) (a : Access) → IsMaker accesses makers index p a → index < length makers
 inside accesses makers index p a is = slice_get_within makers index is.0 is.1

@@ -37,10 +37,7 @@ one_access accesses place a b at_a at_b = let same : Some a ≡ Some b = sym at_
 pub held_load : (timed : Bool) (accesses : List Access) (makers : List Maker) (place version : ℕ) (access : Access) → is_making access.kind ≡ false
     → IsAbove timed accesses makers place version access → IsUnder timed accesses makers place version access
     → IsHeld timed accesses makers place version access
-held_load timed accesses makers place version access load low high = record {
-  maker = λ making. absurd (let no_ : true ≡ false = sym making ∙ load in cc);
-  load = λ _. (low, high);
-}
+held_load timed accesses makers place version access load low high = grind arith
 
 pub held_maker : (timed : Bool) (accesses : List Access) (makers : List Maker) (place there version : ℕ) (access other : Access) → is_making access.kind ≡ true
     → 0 < version → IsMaker accesses makers (version - 1) there other → there ≡ place → IsHeld timed accesses makers place version access
@@ -67,7 +64,4 @@ held_more timed accesses versions makers index version here found before place a
 
 -- one maker more
 pub ranked_more : (P : ℕ → Type 0) (index : ℕ) → P index → ((k : ℕ) → k < index → P k) → (k : ℕ) → k < index + 1 → P k
-ranked_more P index here before k lt = elim (cases_eq k index) [
-  | inl same ↦ subst P (sym same) here
-  | inr other ↦ before k (omega arith)
-]
+ranked_more P index here before k lt = grind (arith, cases_eq)

@@ -34,29 +34,10 @@ pub record IsNew (xs : List Access) (a : Access) : Type 0 where
 
 new_differs : (xs : List Access) (a : Access) (i : ℕ) (x : Access) → IsNew xs a → is_writing a.kind ≡ true → IsAt xs i x → is_writing x.kind ≡ true
     → left_by x.kind ≡ left_by a.kind → ⊥
-new_differs xs a i x new writing_a at writing_x same =
-    none_passes (writes (left_by a.kind)) xs i x (new.fresh writing_a) at
-    (and_from (is_writing x.kind) (eqb (left_by x.kind) (left_by a.kind)) writing_x (eq-eqb (left_by x.kind) (left_by a.kind) same))
+new_differs xs a i x new writing_a at writing_x same = grind (arith, none_passes, and_from, eqb, eq-eqb)
 
 pub once_push : (xs : List Access) (a : Access) → AreWrittenOnce xs → IsNew xs a → AreWrittenOnce (xs ++ a ∷ [])
-once_push xs a before new = record {
-  once = λ i j x y at_x at_y writing_x writing_y same. elim (at_push xs a i x at_x) [
-    | inl here_x ↦ elim (at_push xs a j y at_y) [
-      | inl here_y ↦ before.once i j x y here_x here_y writing_x writing_y same
-      | inr end_y ↦ absurd (new_differs xs a i x new (ap (λ (z : Access). is_writing z.kind) end_y.1 ∙ writing_y) here_x writing_x
-          (same ∙ sym (ap (λ (z : Access). left_by z.kind) end_y.1)))
-    ]
-    | inr end_x ↦ elim (at_push xs a j y at_y) [
-      | inl here_y ↦ absurd (new_differs xs a j y new (ap (λ (z : Access). is_writing z.kind) end_x.1 ∙ writing_x) here_y writing_y
-          (sym same ∙ sym (ap (λ (z : Access). left_by z.kind) end_x.1)))
-      | inr end_y ↦ end_x.0 ∙ sym end_y.0
-    ]
-  ];
-  never_zero = λ i x at writing none. elim (at_push xs a i x at) [
-    | inl here ↦ before.never_zero i x here writing none
-    | inr end ↦ new.some (ap (λ (z : Access). is_writing z.kind) end.1 ∙ writing) (ap (λ (z : Access). left_by z.kind) end.1 ∙ none)
-  ];
-}
+once_push xs a before new = grind (arith, at_push, new_differs)
 
 -- the same over the front of a list
 pub once_more : (xs : List Access) (i : ℕ) (d : Access) → i < length xs → AreWrittenOnce (take i xs) → IsNew (take i xs) (get_or xs i d)

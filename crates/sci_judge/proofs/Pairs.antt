@@ -1,9 +1,9 @@
 -- Entries that stand one before another in a list.
-use Rattle.std.proofs.Common.{◌≡◌, ◌⊎◌, ℕ, zero, suc, ◌+◌, ◌<◌, ◌≤◌, Bool, true, List, [], ◌∷◌, map, refl, sym, ap, subst, ◌∙◌, arith, inl, inr, Some}
+use Rattle.std.proofs.Common.{◌≡◌, ◌⊎◌, ℕ, zero, suc, ◌+◌, ◌<◌, Bool, true, List, [], ◌∷◌, map, refl, sym, ap, subst, ◌∙◌, arith, inl, inr, Some}
 use Rattle.std.proofs.lemmas.Bool.{cases_Bool}
-use Rattle.std.specs.{Prelude.{IsTrue, slice_get}, List.{filter}}
+use Rattle.std.specs.{Prelude.{slice_get}, List.{filter}}
 use Rattle.sci_words.specs.{declared.stamped.Stamped.{Stamped}, Stamped.{after}}
-use Rattle.sci_history.specs.{declared.entry.Entry.{Entry}, History.{IsHistory}, Placed.{is_making}, Seen.{IsAmong}}
+use Rattle.sci_history.specs.{declared.entry.Entry.{Entry}, History.{IsHistory}, Seen.{IsAmong}}
 use Rattle.sci_history.proofs.{Consequences.{among_all, among_filter, among_whole}, Histories.{makers-after, versions-after}, Order.{filter_yes, filter_no}}
 use Rattle.sci_versions.specs.Versions.{unversioned}
 use Rattle.sci_versions.proofs.Traces.{among_same}
@@ -49,11 +49,7 @@ before_whole p y x (e ∷ es) h =
 -- in a history what stands before has no higher version, and a lower one if what comes behind is a maker
 pub before_rises : (y x : Entry) (es : List Entry) (old new : Stamped) → IsHistory es old new → IsBefore y x es → StandsBefore y x
 before_rises y x [] old new history h = elim h [ ]
-before_rises y x (e ∷ es) old new history (inl h) =
-    let here : y.version ≡ (after old e.op).version = ap (λ (z : Entry). z.version) h.0 ∙ history.1 in
-    let most = among_all (λ z. (after old e.op).version ≤ z.version) x es (versions-after es (after old e.op) new history.2) h.1 in
-    let more = among_all (λ z. IsTrue (is_making z) → (after old e.op).version < z.version) x es (makers-after es (after old e.op) new history.2) h.1 in
-    (omega arith, λ making. let lt = more making in omega arith)
+before_rises y x (e ∷ es) old new history (inl h) = grind (arith, among_all, versions-after, makers-after)
 before_rises y x (e ∷ es) old new history (inr h) = before_rises y x es (after old e.op) new history.2 h
 
 -- the twins of two such entries
@@ -88,9 +84,7 @@ before_same (d ∷ xs) (e ∷ ys) y x same (inr h) =
 pub entry_among : (serial : ℕ) (accesses : List Access) (i : ℕ) (a : Access) → slice_get accesses i ≡ Some a
     → IsAmong (entry_of (serial + i) a) (entries_from serial accesses)
 entry_among serial [] i a at = absurd cc
-entry_among serial (b ∷ accesses) zero a at =
-    let same : b ≡ a = cc in
-    inl (ap (λ (k : ℕ). entry_of k a) (omega arith) ∙ ap (entry_of serial) (sym same))
+entry_among serial (b ∷ accesses) zero a at = grind arith
 entry_among serial (b ∷ accesses) (suc i) a at =
     inr (subst (λ (k : ℕ). IsAmong (entry_of k a) (entries_from (suc serial) accesses)) (omega arith) (entry_among (suc serial) accesses i a at))
 
@@ -98,12 +92,7 @@ pub entry_before : (serial : ℕ) (accesses : List Access) (i j : ℕ) (a b : Ac
     → IsBefore (entry_of (serial + i) a) (entry_of (serial + j) b) (entries_from serial accesses)
 entry_before serial [] i j a b lt at_a at_b = absurd cc
 entry_before serial (c ∷ accesses) zero zero a b lt at_a at_b = absurd (omega arith)
-entry_before serial (c ∷ accesses) zero (suc j) a b lt at_a at_b =
-    let same : c ≡ a = cc in
-    inl (
-      ap (λ (k : ℕ). entry_of k a) (omega arith) ∙ ap (entry_of serial) (sym same),
-      subst (λ (k : ℕ). IsAmong (entry_of k b) (entries_from (suc serial) accesses)) (omega arith) (entry_among (suc serial) accesses j b at_b),
-    )
+entry_before serial (c ∷ accesses) zero (suc j) a b lt at_a at_b = grind (arith, entry_among)
 entry_before serial (c ∷ accesses) (suc i) zero a b lt at_a at_b = absurd (omega arith)
 entry_before serial (c ∷ accesses) (suc i) (suc j) a b lt at_a at_b =
     let more = entry_before (suc serial) accesses i j a b (omega arith) at_a at_b in

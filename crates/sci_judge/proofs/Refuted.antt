@@ -44,10 +44,7 @@ from_two e once low high there here differ less within at_low at_high = λ i j l
     low_j low_i at_high at_low at_j at_i
 
 below : (e : Explanation) (a b there here : ℕ) → (a ≡ b → ⊥) → there ≤ here → word_in e there ≡ a → word_in e here ≡ b → there < here
-below e a b there here differ le at_a at_b = elim (cases_eq there here) [
-  | inl same ↦ absurd (differ (sym at_a ∙ (ap (word_in e) same ∙ at_b)))
-  | inr other ↦ omega arith
-]
+below e a b there here differ le at_a at_b = grind (arith, cases_eq, word_in)
 
 goes_on : (e : Explanation) → AreWrittenOnce e.accesses → (from : Option Claim) (word next there here : ℕ) (to : Claim) → IsShownSoFar e from → there ≤ here
     → here ≤ top_of e → word_in e there ≡ word → word_in e here ≡ next → ExtendsClaim from word next to → IsShown e to
@@ -192,21 +189,13 @@ path e once [] from end shown is = subst (IsShownSoFar e) is shown
 path e once (step ∷ steps) from end shown is = path e once steps (Some is.0) end (leads e once step from is.0 shown is.1) is.2
 
 circle : (e : Explanation) → AreWrittenOnce e.accesses → (steps : List Step) → IsCircle e.timed e.accesses e.last steps → ⊥
-circle e once steps is =
-    let end = path e once steps None is.0 tt is.1 in
-    let less = end.holds end.place end.place end.within end.within (end.there ∙ sym is.2) end.there in
-    absurd (omega arith)
+circle e once steps is = grind (arith, path)
 
 -- ---- words that nobody wrote
 
 pub none_passes : (p : Access → Bool) (accesses : List Access) (i : ℕ) (x : Access) → list_any p accesses ≡ false → IsAt accesses i x → p x ≡ true → ⊥
 none_passes p [] i x none at passes = absurd cc
-none_passes p (a ∷ accesses) zero x none at passes =
-    let same : a ≡ x = cc in
-    elim (cases_Bool (p a)) [
-      | inl yes_ ↦ absurd (let no_ : true ≡ false = sym (rw yes_ refl) ∙ none in cc)
-      | inr no_ ↦ absurd (let yes_ : true ≡ false = sym passes ∙ (ap p (sym same) ∙ no_) in cc)
-    ]
+none_passes p (a ∷ accesses) zero x none at passes = grind (arith, cases_Bool)
 none_passes p (a ∷ accesses) (suc i) x none at passes =
     elim (cases_Bool (p a)) [
       | inl yes_ ↦ absurd (let no_ : true ≡ false = sym (rw yes_ refl) ∙ none in cc)

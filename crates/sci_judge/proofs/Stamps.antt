@@ -120,12 +120,7 @@ stamped_sixteen accesses versions logs is = ap length is.logged ∙ length-map-r
 -- what holds of a node's entries holds of its log
 pub in_log : (P : Entry → Type 0) (es : List Entry) (logs : List (List Entry)) (node : ℕ) → logs ≡ logs_by_node es
     → AllByRecursion P (filter (is_of_node node) es) → AllByRecursion P (log_of logs node)
-in_log P es logs node is all = elim (cases_lt node MAX_NODES) [
-  | inl small ↦ subst (AllByRecursion P) (sym (ap (λ (ls : List (List Entry)). log_of ls node) is ∙ log_of-logs_of es node small)) all
-  | inr past ↦
-      let long : length logs ≡ MAX_NODES = ap length is ∙ length-map-range_with_len (λ (n : ℕ). filter (is_of_node n) es) 0 MAX_NODES in
-      subst (AllByRecursion P) (sym (get_or_past logs node [] (omega arith))) tt
-]
+in_log P es logs node is all = grind (arith, cases_lt, log_of-logs_of, length-map-range_with_len, get_or_past)
 
 pub stamped_own : (accesses : List Access) (versions : List ℕ) (logs : List (List Entry)) → AreStamped accesses versions logs → AreOwn logs
 stamped_own accesses versions logs is = λ node.

@@ -14,14 +14,7 @@ AreTimelyTo accesses versions place =
 
 one_of : (accesses : List Access) (versions : List ℕ) (ends : List Ended) (i v w : ℕ) (a b : Access) → HasEnds accesses versions ends → IsBehind ends b w
     → slice_get accesses i ≡ Some a → slice_get versions i ≡ Some v → a.end < b.begin → (v ≤ w) × (is_making b.kind ≡ true → v < w)
-one_of accesses versions ends i v w a b has behind at_a at_v less =
-    let ended : Ended = record { end = a.end; version = v } in
-    let there = has i v a at_a at_v in
-    let is : get_or ends there.0 ended ≡ ended = there.2 in
-    let end = ap (λ (e : Ended). e.end) is in
-    let version = ap (λ (e : Ended). e.version) is in
-    let h = behind there.0 ended there.1 (subst (λ (k : ℕ). k < b.begin) (sym end) less) in
-    (subst (λ (k : ℕ). k ≤ w) version h.0, λ making. subst (λ (k : ℕ). k < w) version (h.1 making))
+one_of accesses versions ends i v w a b has behind at_a at_v less = grind arith
 
 pub timely_more : (accesses : List Access) (versions : List ℕ) (ends : List Ended) (place : ℕ) (d : Access) → HasEnds accesses versions ends
     → place < length versions → IsBehind ends (get_or accesses place d) (get_or versions place 0) → AreTimelyTo accesses versions place
@@ -52,10 +45,7 @@ timely_all accesses versions place past before i j v w a b at_a at_b at_v at_w l
 pub behind_most : (ends : List Ended) (most : List ℕ) (access : Access) (count version : ℕ) → AreMost ends most → count ≤ length ends
     → ((place : ℕ) (d : Ended) → place < length ends → (get_or ends place d).end < access.begin → place < count)
     → (get_or most count 0 ≤ version) × (is_making access.kind ≡ true → get_or most count 0 < version) → IsBehind ends access version
-behind_most ends most access count version are within before follows place d inside less =
-    let under = are.each place count d (before place d inside less) within in
-    let low = follows.0 in
-    (omega arith, λ making. let strict = follows.1 making in omega arith)
+behind_most ends most access count version are within before follows place d inside less = grind arith
 
 any_end : (ends : List Ended) (i : ℕ) (d e : Ended) → i < length ends → get_or ends i d ≡ get_or ends i e
 any_end [] i d e lt = absurd (omega arith)

@@ -4,10 +4,10 @@ use Rattle.std.proofs.Common.{get_or, set, take, refl, sym, ap, subst, ◌∙◌
 use Rattle.std.proofs.lemmas.Bool.{cases_eq, eq-eqb, ne_eqb}
 use Rattle.std.proofs.Math.Nat.{le-max_right}
 use Rattle.std.proofs.lemmas.List.{append-nil, get_or-map, get_or-set_other, get_or-set_same, length-map, length-set, length-take-le, map-append}
-use Rattle.std.proofs.lemmas.List.{take_all, take_more}
+use Rattle.std.proofs.lemmas.List.{take_more}
 use Rattle.std.proofs.lemmas.List.{Elements.{All-from_recursion}, Sums.{count_by_more_yes, length-filter, sum_by-cons}}
 use Rattle.std.proofs.lemmas.Option.{get_or_from_slice_get, slice_get_cases, slice_get_within}
-use Rattle.std.specs.{Prelude.{slice_get, count_by}, List.{AllByRecursion, filter}, List.Sorted.{IsStrictlyIncreasing}}
+use Rattle.std.specs.{Prelude.{slice_get, count_by}, List.{AllByRecursion}, List.Sorted.{IsStrictlyIncreasing}}
 use Rattle.sci_words.specs.declared.limits.TheConstants.{MAX_NODES}
 use Rattle.sci_history.specs.{declared.entry.Entry.{Entry}, Audit.{AreWithin, IsWithin}, Oracle.{logs_by_node}, Placed.{is_of_node, is_on_line, log_of}}
 use Rattle.sci_history.proofs.Order.{all-filter}
@@ -15,7 +15,7 @@ use Rattle.sci_history.proofs.Oracles.{filter_push_no, filter_push_yes, log_of-l
 use Rattle.sci_judge.specs.declared.{access.Access.{Access}, judging.SiteVersions.{SiteVersions}, trace.Trace.{Trace}}
 use Rattle.sci_judge.specs.declared.logging.{Log.{Log}, NoLog.{NoLog}}
 use Rattle.sci_judge.specs.declared.logging.NoLog.TheVariants as none
-use Rattle.sci_judge.specs.{Judgement.{addresses_of}, Logged.{AreAllUsed, AreEntriesOf, AreLogged, HaveVersions, IsEntryOf, IsFullOf, IsLogOf}}
+use Rattle.sci_judge.specs.{Judgement.{addresses_of}, Logged.{AreEntriesOf, AreLogged, IsEntryOf, IsFullOf, IsLogOf}}
 use Rattle.sci_judge.specs.Logged.{IsNext, IsNoLog, versions_on}
 use Rattle.sci_judge.proofs.Stamps.{by_node_push, in_log}
 
@@ -32,19 +32,10 @@ entries_push addresses done (x ∷ xs) (y ∷ es) a e h is = (
 
 pub logged_none : (sites : List SiteVersions) (used : List ℕ) (logs : List (List Entry)) → logs ≡ logs_by_node [] → length used ≡ length sites
     → ((line : ℕ) → get_or used line 0 ≡ 0) → AreLogged sites [] used logs
-logged_none sites used logs is long zeros = record {
-  entries = [];
-  same = tt;
-  logged = is;
-  long = long;
-  few = λ line. let z = zeros line in omega arith;
-  versions = λ line d lt. sym (ap (λ (k : ℕ). take k (get_or sites line d).versions.items) (zeros line));
-}
+logged_none sites used logs is long zeros = grind arith
 
 versions_push_yes : (line : ℕ) (es : List Entry) (e : Entry) → e.op.line ≡ line → versions_on line (es ++ e ∷ []) ≡ versions_on line es ++ e.version ∷ []
-versions_push_yes line es e is =
-    ap (map (λ (x : Entry). x.version)) (filter_push_yes (is_on_line line) es e (eq-eqb e.op.line line is))
-    ∙ map-append (λ (x : Entry). x.version) (filter (is_on_line line) es) (e ∷ [])
+versions_push_yes line es e is = grind (arith, filter_push_yes, eq-eqb, map-append)
 
 versions_push_no : (line : ℕ) (es : List Entry) (e : Entry) → (e.op.line ≢ line) → versions_on line (es ++ e ∷ []) ≡ versions_on line es
 versions_push_no line es e differs =
@@ -56,11 +47,7 @@ take_next xs k x at =
 
 pub line_inside : (sites : List SiteVersions) (a : Access) (done : List Access) (used : List ℕ) (logs : List (List Entry)) (e : Entry)
     → AreLogged sites done used logs → IsNext sites logs used a e → e.op.line < length used
-line_inside sites a done used logs e before next =
-    let within = slice_get_within (addresses_of sites) e.op.line a.address next.line in
-    let long : length (addresses_of sites) ≡ length sites = length-map sites (λ (s : SiteVersions). s.address) in
-    let same = before.long in
-    omega arith
+line_inside sites a done used logs e before next = grind (arith, slice_get_within, length-map)
 
 module _ (sites : List SiteVersions) (xs : List Access) (i : ℕ) (d : Access) (used used' : List ℕ) (logs logs' : List (List Entry)) (e : Entry)
     (lt : i < length xs) (before : AreLogged sites (take i xs) used logs) (next : IsNext sites logs used (get_or xs i d) e) (small : e.node < MAX_NODES)

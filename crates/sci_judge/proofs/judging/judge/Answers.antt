@@ -1,4 +1,4 @@
-use Rattle.std.proofs.Common.{◌≡◌, ◌<◌, List, [], ◌∷◌, ◌++◌, Option, ap, append_assoc, ℕ, rules, subst, sym, ◌∙◌}
+use Rattle.std.proofs.Common.{◌≡◌, ◌<◌, List, [], ◌∷◌, ◌++◌, Option, ap, append_assoc, ℕ, rules, subst, sym, ◌∙◌, arith}
 use Rattle.std.proofs.lemmas.{List.{append-nil, map-append}, List.Elements.{All-push}, List.Kept.{AllPairs-from_increasing}}
 use Rattle.std.proofs.lemmas.Map.{Keys.{IsStrictlyIncreasing-from_sorted}, Lookups.{exact_unsigned}, Views.{btree_set_contains_iff}}
 use Rattle.std.specs.{BTreeSet.{keys}, Cmp.{nat_cmp_total}, List.{All, AllPairs, Contains}}
@@ -12,12 +12,7 @@ pub loop-at-init : goal.loop-at-init
 loop-at-init c = record { parted = search rules; each = search rules }
 
 pub judge-requires : goal.judge-requires
-judge-requires c =
-    let address = c.in-Some.at.now in
-    let is : c.operations_at.result.now ≡ at_address address c.args.trace.now.accesses.items =
-    c.operations_at.ensures ∙ (ap (at_address address) c.deref-in-loop-at.ensures.value
-    ∙ (c.in_ok-sorted.ensures.same address ∙ ap (at_address address) c.deref.ensures.value)) in
-    site_known c.args.trace.now.accesses.items c.operations_at.result.now address c.requires is
+judge-requires c = grind (arith, site_known)
 
 pub returns-in-NotCoherent : goal.returns-in-NotCoherent
 returns-in-NotCoherent c =

@@ -1,5 +1,5 @@
 use Rattle.std.proofs.Common.{◌≡◌, ◌⊎◌, ◌∙◌, ℕ, Bool, true, false, List, [], ◌∷◌, ap, arith, inl, inr, refl, subst, sym}
-use Rattle.std.proofs.lemmas.{Bool.{cases_eq}, List.Elements.{Contains-append_cases, Contains-append_left, Contains-append_right, Contains-push_cases}}
+use Rattle.std.proofs.lemmas.{Bool.{cases_eq}, List.Elements.{Contains-append_left, Contains-append_right}}
 use Rattle.std.proofs.lemmas.Map.{Lookups.{exact_unsigned}, Views.{btree_map_contains_key_iff}}
 use Rattle.std.specs.{BTreeSet.{contains}, Cmp.{Equal-is, nat_cmp_total}, List.{Contains, list_any}, Ordering.{is_eq, nat_cmp}}
 use Rattle.sci_judge.specs.{declared.access.Access.{Access}, Judgement.{is_at}}
@@ -27,14 +27,7 @@ other x q false isnt e = e
 
 -- an address at the front of those that come, or behind it
 in_front : (x q : ℕ) (rest : List ℕ) → Contains (x ∷ rest) q → (x ≡ q) ⊎ Contains rest q
-in_front x q rest had =
-    elim (Contains-append_cases (x ∷ []) rest q had) [
-      | inl this ↦ elim (Contains-push_cases [] x q this) [
-        | inl none ↦ let lt = none.1 in absurd (omega (arith, lt))
-        | inr is ↦ inl is
-      ]
-      | inr later ↦ inr later
-    ]
+in_front x q rest had = grind arith
 
 pub loop-address-preserved : goal.loop-address-preserved
 loop-address-preserved c = λ q.

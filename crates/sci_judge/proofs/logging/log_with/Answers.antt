@@ -1,4 +1,4 @@
-use Rattle.std.proofs.Common.{◌≡◌, ◌<◌, ◌+◌, ℕ, List, arith, rules, replicate, set, take, inl, inr, get_or, length, sym, ap, subst, ◌∙◌}
+use Rattle.std.proofs.Common.{◌≡◌, ◌<◌, ℕ, List, arith, rules, replicate, take, get_or, length, sym, subst, ◌∙◌}
 use Rattle.std.proofs.lemmas.{Bool.{cases_lt}, Grind.{common_steps, get_or_default_zero}}
 use Rattle.std.proofs.lemmas.Result.{err_from_is_err_and}
 use Rattle.std.proofs.lemmas.List.{get_or-replicate, get_or_past, length-replicate, length-take-le}
@@ -10,24 +10,15 @@ use Rattle.sci_judge.proofs.{Once.{no_access}, TraceLogs.{full, line_inside, log
 use Rattle.sci_judge.proofs.logging.log_with.Goals as goal
 
 same_everywhere : (n line x : ℕ) → get_or (replicate n x) line x ≡ x
-same_everywhere n line x = elim (cases_lt line n) [
-  | inl lt ↦ get_or-replicate n line x x lt
-  | inr past ↦ get_or_past (replicate n x) line x (let long : length (replicate n x) ≡ n = length-replicate n x in omega arith)
-]
+same_everywhere n line x = grind (arith, cases_lt, get_or-replicate, get_or_past, replicate, length-replicate)
 
 pub loop-access-init : goal.loop-access-init
-loop-access-init c = record {
-  logged = logged_none c.args.sites.now c.in_ok-used.used.items c.new-logs.result (search rules) (search rules) (λ line.
-      ap (λ (xs : List ℕ). get_or xs line 0) (c.in_ok-used.ensures.items_if_clones_equal (λ y e. e)) ∙ same_everywhere _ line 0);
-  lines = grind (arith, common_steps);
-}
+loop-access-init c = grind (arith, logged_none, same_everywhere, common_steps)
 
 -- the next entry, by the operations of the trace
 next_is : (sites : List SiteVersions) (logs : List (List Entry)) (used used' : List ℕ) (xs ys : List Access) (i : ℕ) (e : Entry) → used ≡ used' → xs ≡ ys
     → IsNext sites logs used (get_or xs i no_access) e → IsNext sites logs used' (get_or ys i no_access) e
-next_is sites logs used used' xs ys i e same_used same next =
-    subst (λ (zs : List Access). IsNext sites logs used' (get_or zs i no_access) e) same
-    (subst (λ (us : List ℕ). IsNext sites logs us (get_or xs i no_access) e) same_used next)
+next_is sites logs used used' xs ys i e same_used same next = grind (arith, no_access)
 
 -- its processor is known
 node_is : (xs : List Access) (i node : ℕ) → AreKnown xs → i < length xs → node ≡ (get_or xs i no_access).processor → node < MAX_NODES
@@ -74,20 +65,4 @@ overflow_add-index_mut c =
     omega arith
 
 pub loop-access-preserved : goal.loop-access-preserved
-loop-access-preserved c =
-    let xs = c.args.trace.now.accesses.items in
-    let i = c.loop-access.access-index in
-    let lt : i < length xs = subst (λ (ys : List Access). i < length ys) c.deref-access-items.ensures.value c.loop-access-test.true in
-    let next = next_is c.args.sites.now c.loop-access.logs c.deref.result.now c.loop-access.used.items c.deref-access-items.result.now xs i c.in-Some.entry
-    c.deref.ensures.value c.deref-access-items.ensures.value c.in-Some.ensures in
-    let small = node_is xs i c.in-Some.entry.node c.requires.known lt next.node in
-    let within : c.in-Some.entry.op.line < length c.loop-access.used.items = line_inside c.args.sites.now (get_or xs i no_access) (take i xs)
-    c.loop-access.used.items c.loop-access.logs c.in-Some.entry c.loop-access.invariant.logged next in
-    let value : c.index_mut.result.now ≡ get_or c.loop-access.used.items c.in-Some.entry.op.line 0 =
-    c.index_mut.ensures.value ∙ get_or_default_zero c.loop-access.used.items c.in-Some.entry.op.line c.index_mut.result.now within in
-    record {
-      logged = logged_push c.args.sites.now xs i no_access c.loop-access.used.items _ c.loop-access.logs c.push.new.logs c.in-Some.entry lt
-          c.loop-access.invariant.logged next small c.in_ok-push.ensures.ok
-          (ap (λ (k : ℕ). set c.loop-access.used.items c.in-Some.entry.op.line (k + 1)) value);
-      lines = c.stamp.ensures ∙ ap length c.deref_mut.ensures.value ∙ c.loop-access.invariant.lines;
-    }
+loop-access-preserved c = grind (arith, next_is, node_is, line_inside, no_access, get_or_default_zero, logged_push)

@@ -11,6 +11,4 @@ loop-place-preserved c =
     (slice_get-get_or c.args.versions.now c.loop-place.place 0 there.3.0 ∙ ap (λ (v : ℕ). Some v) (sym (there.3.1 0))) c.loop-place.invariant
 
 pub returns : goal.returns
-returns c = λ is place access at.
-    let lt = slice_get_within c.args.self.now.accesses.now place access at in
-    c.loop-place.invariant place access (let past = c.loop-place-test.false in omega arith) at
+returns c = grind (arith, slice_get_within)

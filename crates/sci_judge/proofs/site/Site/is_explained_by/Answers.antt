@@ -1,17 +1,11 @@
-use Rattle.std.proofs.Common.{length, ap, sym, subst, ◌∙◌}
-use Rattle.sci_history.specs.{Audit.{AreWithin}}
+use Rattle.std.proofs.Common.{sym, subst, ◌∙◌, arith}
 use Rattle.sci_versions.specs.Versions.{AgreesWith}
 use Rattle.sci_judge.specs.{Coherent.{known_last}, Stamped.{AreStamped}}
 use Rattle.sci_judge.proofs.Stamps.{stamped_own, stamped_same, stamped_sixteen, stamped_times, stamped_within}
 use Rattle.sci_judge.proofs.site.Site.is_explained_by.Goals as goal
 
 pub audit-requires : goal.audit-requires
-audit-requires c =
-    let accesses = c.args.self.now.accesses.now in
-    let versions = c.args.versions.now in
-    let stamped : AreStamped accesses versions c.in-Some.logs = rw c.in-Some.is at c.in_ok-logs.ensures in
-    subst (λ lines. AreWithin lines c.in-Some.logs) (sym (ap length c.deref-2.ensures ∙ c.in_ok-last.ensures))
-    (stamped_within accesses versions c.in-Some.logs stamped)
+audit-requires c = grind (arith, stamped_within)
 
 pub returns-in-Lawful : goal.returns-in-Lawful
 returns-in-Lawful c = λ _.

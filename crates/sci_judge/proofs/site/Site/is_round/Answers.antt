@@ -1,14 +1,12 @@
 use Rattle.std.proofs.Common.{◌≡◌, [], ◌+◌, drop, get_or, sym, subst, ◌∙◌, arith}
 use Rattle.std.proofs.lemmas.List.{drop_more}
 use Rattle.std.proofs.Math.ListN.{drop_of_length-le}
-use Rattle.sci_judge.specs.{declared.access.Access.{Access}, Witness.{AreInTurn, ComesBefore}}
+use Rattle.sci_judge.specs.{declared.access.Access.{Access}, Witness.{ComesBefore}}
 use Rattle.sci_judge.proofs.{Cycles.{turn_step}, ForcedChecks.{one_access}}
 use Rattle.sci_judge.proofs.site.Site.is_round.Goals as goal
 
 pub loop-next-init : goal.loop-next-init
-loop-next-init c = λ z y at_z at_y turn.
-    subst (λ (a : Access). AreInTurn c.args.self.now.timed c.args.self.now.accesses.now c.args.maker a c.args.through.now c.args.maker z)
-    (one_access c.args.self.now.accesses.now c.args.maker y z at_y at_z) turn
+loop-next-init c = grind (arith, one_access)
 
 pub loop-next-preserved : goal.loop-next-preserved
 loop-next-preserved c = λ z y at_z at_y turn.
