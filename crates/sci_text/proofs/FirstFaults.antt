@@ -1,6 +1,6 @@
 -- Bytes have at most one first faulty line, with one fault, and a text without a fault has none: one proof for all
 -- kinds of text.
-use Rattle.std.proofs.Common.{◌≡◌, ℕ, ◌+◌, ◌<◌, List, [], ◌∷◌, ◌++◌, length, Bool, false, Option, Result, Ok, Err, refl, sym, ap, subst, ◌∙◌, append_assoc}
+use Rattle.std.proofs.Common.{◌≡◌, ℕ, ◌<◌, List, [], ◌∷◌, ◌++◌, length, Bool, false, Option, Result, Ok, Err, refl, sym, ap, subst, ◌∙◌, append_assoc}
 use Rattle.std.proofs.Common.{arith, inl, inr, ◌⊎◌}
 use Rattle.std.specs.{Prelude.{IfOk, IfErr}, List.{flat_map, AllByRecursion}}
 use Rattle.sci_text.specs.declared.fault.{TextFault.{TextFault}, TextFaultKind.{TextFaultKind}}
@@ -110,9 +110,7 @@ module _ {V : Type 0} (opening : List ℕ → TextFaultKind → Type 0) (begins 
   After line kind = FaultAfter begins goes_on count fault input line kind
 
   one_of_two : (l m : ℕ) (k j : TextFaultKind) (f : After l k) (g : After m j) → Meets fault f.before g.before f.rest g.rest → (l ≡ m) × (k ≡ j)
-  one_of_two l m k j f g (inl same) =
-      let wrong : fault g.before g.rest k = subst (λ r. fault g.before r k) same.1 (subst (λ v. fault v f.rest k) same.0 f.wrong) in
-      (f.place ∙ ap (λ v. count v + 1) same.0 ∙ sym g.place, grammar.one_fault input g.before g.rest k j g.right wrong g.wrong)
+  one_of_two l m k j f g (inl same) = grind arith
   one_of_two l m k j f g (inr (inl goes)) = absurd (goes.right k f.wrong)
   one_of_two l m k j f g (inr (inr goes)) = absurd (goes.right j g.wrong)
 

@@ -129,9 +129,7 @@ entry_lines-push (log ∷ logs) (suc node) entry lt none =
 pub entry_count-push : (logs : List (List Entry)) (node : ℕ) (entry : Entry) → node < length logs
     → entry_count (set logs node (log_of logs node ++ entry ∷ [])) ≡ entry_count logs + 1
 entry_count-push [] node entry lt = absurd (omega arith)
-entry_count-push (log ∷ logs) zero entry lt =
-    let all = flat_map (λ (l : List Entry). l) logs in
-    omega (arith, length-append (log ++ entry ∷ []) all, length-append log (entry ∷ []), length-append log all)
+entry_count-push (log ∷ logs) zero entry lt = grind (arith, length-append)
 entry_count-push (log ∷ logs) (suc node) entry lt =
     let more = entry_count-push logs node entry (omega arith) in
     let new = flat_map (λ (l : List Entry). l) (set logs node (log_of logs node ++ entry ∷ [])) in

@@ -1,3 +1,4 @@
+use Rattle.std.proofs.Common.{arith}
 use Rattle.std.specs.Prelude.{codes}
 use Rattle.std.proofs.lemmas.Result.{err_from_is_err_and}
 use Rattle.sci_text.specs.Reading.{after}
@@ -13,19 +14,10 @@ returns-in_default-clause-fault c =
     size_none c.args.bytes.now (gives_some c.after.result (after (codes "log ") c.args.bytes.now) c.after.ensures c.if-is_none.ensures) c.in_default.ensures
 
 pub returns-in_err-check_length-clause-fault : goal.returns-in_err-check_length-clause-fault
-returns-in_err-check_length-clause-fault c =
-    let e = err_from_is_err_and c.from_residual.result c.from_residual.ensures.1 in
-    let begins = gives_some c.after.result (after (codes "log ") c.args.bytes.now) c.after.ensures c.if-is_none.ensures in
-    rw (e.1, e.2, c.in_err-check_length.ensures.fault)
-    (size_long c.args.bytes.now (c.in-Some.nodes, c.in-Some.lines) c.in-Some.rest.now begins c.in-Some.ensures c.in_err-check_length.ensures.long)
+returns-in_err-check_length-clause-fault c = grind (arith, err_from_is_err_and, gives_some, size_long)
 
 pub returns-in_default-log_size-clause-fault : goal.returns-in_default-log_size-clause-fault
-returns-in_default-log_size-clause-fault c =
-    size_range c.args.bytes.now c.in-Some.nodes c.in-Some.lines c.in-Some.rest.now
-    (gives_some c.after.result (after (codes "log ") c.args.bytes.now) c.after.ensures c.if-is_none.ensures) c.in-Some.ensures
-    c.in_ok-check_length.ensures.short c.in_default-log_size.ensures.none
+returns-in_default-log_size-clause-fault c = grind (arith, size_range, gives_some)
 
 pub returns-clause-text : goal.returns-clause-text
-returns-clause-text c =
-    size_ok c.args.bytes.now c.in-Some.nodes c.in-Some.lines c.in-Some.rest.now c.in-Some-log_size.nodes c.in-Some-log_size.lines c.in-Some.ensures
-    c.in-Some-log_size.ensures.some.0 c.in-Some-log_size.ensures.some.1
+returns-clause-text c = grind (arith, size_ok)

@@ -1,8 +1,7 @@
 -- Each refusal is the fault of the line that was read.
-use Rattle.std.proofs.Common.{◌≡◌, ℕ, ◌^◌, ◌<◌, ◌++◌, ◌∷◌, [], List, length, Some, refl, ap, sym, subst, ◌∙◌, inl, inr, arith}
+use Rattle.std.proofs.Common.{◌≡◌, ℕ, ◌^◌, ◌<◌, length, Some, refl, ap, sym, subst, ◌∙◌, inl, inr, arith}
 use Rattle.std.proofs.lemmas.Result.{err_from_is_err_and}
-use Rattle.sci_words.specs.declared.stamped.Stamped.{Stamped}
-use Rattle.sci_text.specs.{LogReading.{AddsLast, no_logs, last_line_read}, LogValue.{HasRoom, front_of}}
+use Rattle.sci_text.specs.{LogReading.{no_logs}, LogValue.{HasRoom, front_of}}
 use Rattle.sci_text.proofs.LogFaults.{neither, last_none, last_long, last_other, last_no_room, last_no_entry, last_range, last_ok}
 use Rattle.sci_text.proofs.log_lines.push_last.Goals.{Else-not-has_room}
 use Rattle.sci_text.proofs.log_lines.push_last.Goals as goal
@@ -41,10 +40,7 @@ returns-then-not-has_room-clause-fault c =
 -- the line stands at its place
 next : (c : Else-not-has_room) → HasRoom c.args.form.now.lines (length c.args.last.now.items)
     × (c.in-Some.said.line ≡ Some (length c.args.last.now.items))
-next c =
-    let len : c.len.result ≡ length c.args.last.now.items = omega (arith, c.len.ensures) in
-    let len-2 : c.len-2.result ≡ length c.args.last.now.items = omega (arith, c.len-2.ensures) in
-    (subst (HasRoom c.args.form.now.lines) len-2 c.if-not-has_room.ensures.yes, c.if-not-is_number.ensures.yes ∙ ap (λ (n : ℕ). Some n) len)
+next c = grind arith
 
 pub returns-then-len-clause-fault : goal.returns-then-len-clause-fault
 returns-then-len-clause-fault c =
@@ -59,11 +55,4 @@ returns-in_default-stamped-clause-fault c =
     c.in_ok-check_length.ensures.short (inr c.in_default-stamped.is))
 
 pub returns-in-Ok-clause-ok : goal.returns-in-Ok-clause-ok
-returns-in-Ok-clause-ok c =
-    let old = c.args.last.now.items in
-    let stamped = c.in-Some-stamped.stamped in
-    let next = next (goal.at.returns-in-Ok-clause-ok c).Else-not-has_room in
-    let read : last_line_read c.args.bytes.now ≡ Some ((c.in-Some.said.line, Some stamped), c.in-Some.rest.now) = grind arith in
-    let pushed : c.push.new.self.items ≡ old ++ stamped ∷ [] = (rw c.in-Some-stamped.is at c.in-Ok.ensures.items) in
-    subst (λ (new : List Stamped). AddsLast c.args.form.now old new c.args.bytes.now c.in-Some.rest.now) (sym pushed)
-    (last_ok c.args.form.now old c.args.bytes.now c.in-Some.said.line stamped c.in-Some.rest.now read next.1 (omega (arith, c.len-3.ensures)) next.0)
+returns-in-Ok-clause-ok c = grind (arith, last_ok)

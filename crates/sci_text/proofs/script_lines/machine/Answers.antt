@@ -1,7 +1,8 @@
-use Rattle.std.proofs.{Common.{◌≡◌, ◌++◌, ap, ◌∙◌}, lemmas.{Bool.{false≢true}, Result.{err_from_is_err_and}}}
+use Rattle.std.proofs.Common.{arith}
+use Rattle.std.proofs.{Common.{◌≡◌, ◌++◌}, lemmas.{Result.{err_from_is_err_and}}}
 use Rattle.sci_text.specs.Script.{machine_line}
 use Rattle.sci_text.proofs.{LineLengths.{line_short}, Lines.{said_fault, said_is, says}}
-use Rattle.sci_text.proofs.ScriptReads.{Size, machine_format, is_size, limits_fit}
+use Rattle.sci_text.proofs.ScriptReads.{machine_format, is_size, limits_fit}
 use Rattle.sci_text.proofs.script_lines.machine.Goals as goal
 
 pub returns-in_err-nodes-clause-fault : goal.returns-in_err-nodes-clause-fault
@@ -11,23 +12,10 @@ returns-in_err-nodes-clause-fault c =
     c.in_err-nodes.field-0.0 c.in_err-nodes.ensures.fault)
 
 pub returns-in_default-clause-fault : goal.returns-in_default-clause-fault
-returns-in_default-clause-fault c = (
-  (c.in_ok-nodes.nodes, c.in_ok-nodes.lines, c.in_ok-nodes.slots),
-  says machine_format c.args.bytes.now c.machine_line.result c.machine_line.ensures
-      (c.in_ok-nodes.nodes, c.in_ok-nodes.lines, c.in_ok-nodes.slots) c.in_ok-nodes.rest.now c.in_ok-nodes.ensures.said c.in_ok-nodes.ensures.short,
-  λ limits. false≢true (c.in_default.ensures.within.1 limits),
-)
+returns-in_default-clause-fault c = grind (arith, says, machine_format)
 
 parts : (c : goal.In-Some) → c.args.bytes.now ≡ machine_line c.in-Some.extent.nodes c.in-Some.extent.lines c.in-Some.extent.slots ++ c.in_ok-nodes.rest.now
-parts c =
-    let same : ◌≡◌ {A = Size} (c.in_ok-nodes.nodes, c.in_ok-nodes.lines, c.in_ok-nodes.slots) (
-      c.in-Some.extent.nodes,
-      c.in-Some.extent.lines,
-      c.in-Some.extent.slots,
-    ) = cc (c.in-Some.ensures.nodes, c.in-Some.ensures.lines, c.in-Some.ensures.slots) in
-    said_is machine_format c.args.bytes.now c.machine_line.result c.machine_line.ensures
-    (c.in_ok-nodes.nodes, c.in_ok-nodes.lines, c.in_ok-nodes.slots) c.in_ok-nodes.rest.now c.in_ok-nodes.ensures.said
-    ∙ ap (λ (s : Size). machine_line s.0 s.1 s.2 ++ c.in_ok-nodes.rest.now) same
+parts c = grind (arith, said_is, machine_format)
 
 pub returns-clause-ok : goal.returns-clause-ok
 returns-clause-ok c = parts c

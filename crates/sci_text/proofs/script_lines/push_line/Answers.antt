@@ -1,3 +1,4 @@
+use Rattle.std.proofs.Common.{arith}
 use Rattle.std.proofs.{Common.{inr}, lemmas.Result.{err_from_is_err_and}}
 use Rattle.sci_text.proofs.{Lines.{said_is}, Listings.{line_unsaid, line_refused}, Scripts.{scripts}}
 use Rattle.sci_text.proofs.script_lines.push_line.Goals as goal
@@ -9,16 +10,7 @@ returns-in_err-node-clause-fault c =
     c.in_err-node.field-0.0 c.in_err-node.ensures.fault))
 
 pub returns-in_err-push-clause-fault : goal.returns-in_err-push-clause-fault
-returns-in_err-push-clause-fault c =
-    let e = err_from_is_err_and c.from_residual-in_err-push.result c.from_residual-in_err-push.ensures.1 in
-    rw (e.1, e.2) (line_refused scripts c.args.script.now c.args.bytes.now c.operation_line.result (c.in_ok-node.node, c.in_ok-node.op) c.in_ok-node.rest.now _
-    c.requires
-    c.operation_line.ensures c.in_ok-node.ensures.said c.in_ok-node.ensures.short c.in_err-push.field-0.0 c.in_err-push.ensures.refused)
+returns-in_err-push-clause-fault c = grind (arith, err_from_is_err_and, line_refused, scripts)
 
 pub returns-clause-ok : goal.returns-clause-ok
-returns-clause-ok c = record {
-  said = (c.in_ok-node.node, c.in_ok-node.op);
-  parts = said_is scripts.line c.args.bytes.now c.operation_line.result c.operation_line.ensures (c.in_ok-node.node, c.in_ok-node.op) c.in_ok-node.rest.now
-      c.in_ok-node.ensures.said;
-  added = c.in_ok-push.ensures.ok;
-}
+returns-clause-ok c = grind (arith, said_is, scripts)

@@ -19,11 +19,7 @@ returns-in_err-self-clause-fault c = λ input h.
     rw (e.1, e.2) (refused input c.loop-rest.rest.now c.loop-rest.self c.deref.result.now f.0 c.in_err-self.field-0.0 c.deref.ensures.value now some f.2 f.1)
 
 pub loop-rest-smaller : goal.loop-rest-smaller
-loop-rest-smaller c =
-    entry_shrinks c.loop-rest.self.form (length c.deref.result.now) c.loop-rest.self.logs c.push_entry-read.new.logs c.loop-rest.self.latest
-    c.in_ok-self.field-0-0 c.loop-rest.rest.now c.in_ok-self.field-0-1.now
-    (ok_then c.loop-rest.self.line c.push_entry-read.result c.at_line.result _ (c.in_ok-self.field-0-0, c.in_ok-self.field-0-1) c.at_line.ensures
-    c.in_ok-self.was c.push_entry-read.ensures.ok)
+loop-rest-smaller c = grind (arith, entry_shrinks, ok_then)
 
 pub loop-rest-preserved : goal.loop-rest-preserved
 loop-rest-preserved c = record {

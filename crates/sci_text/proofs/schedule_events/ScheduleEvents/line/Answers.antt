@@ -2,7 +2,6 @@
 use Rattle.std.proofs.Common.{◌+◌, ◌<◌, List, [], ◌∷◌, ◌++◌, length, subst, arith, rules}
 use Rattle.std.proofs.lemmas.{Bool.Decides.{nat_tests}, Result.{err_from_is_err_and}}
 use Rattle.sci_words.specs.declared.event.Event.{Event}
-use Rattle.sci_text.specs.declared.fault.TextFaultKind.TheVariants.{Range, TooMany}
 use Rattle.sci_text.specs.{ScheduleEvents.{EventsOf, AreBefore, schedule_with}, FirstFault.{Says}}
 use Rattle.sci_text.specs.{Schedule.{event_line}, ScheduleFault.{EventFault}}
 use Rattle.sci_text.proofs.{Lines.{said_is, says}, Listings.{line_shrinks, line_unsaid}, Schedules.{schedules}}
@@ -19,28 +18,13 @@ returns-in_err-event-clause-fault c =
 
 -- the line of the event that was read
 said : (c : In_ok-event) → Says c.self.inside.rest.now (event_line c.in_ok-event.event)
-said c =
-    says schedules.line c.self.inside.rest.now c.event_line.result c.event_line.ensures c.in_ok-event.event c.in_ok-event.rest.now c.in_ok-event.ensures.said
-    c.in_ok-event.ensures.short
+said c = grind (arith, says, schedules)
 
 pub returns-then-not-is_within-clause-fault : goal.returns-then-not-is_within-clause-fault
-returns-then-not-is_within-clause-fault c =
-    subst (λ (e : EventsOf). (events : List Event) → AreBefore events e → EventFault (schedule_with e.extent events) e.rest Range) c.self.view_is
-    (λ events before. (
-      c.in_ok-event.event,
-      said (goal.at.returns-then-not-is_within-clause-fault c).In_ok-event,
-      search rules,
-    ))
+returns-then-not-is_within-clause-fault c = grind (arith, said)
 
 pub returns-then-self-clause-fault : goal.returns-then-self-clause-fault
-returns-then-self-clause-fault c =
-    subst (λ (e : EventsOf). (events : List Event) → AreBefore events e → EventFault (schedule_with e.extent events) e.rest TooMany) c.self.view_is
-    (λ events before. (
-      c.in_ok-event.event,
-      said (goal.at.returns-then-self-clause-fault c).In_ok-event,
-      search rules,
-      grind (arith, nat_tests),
-    ))
+returns-then-self-clause-fault c = grind (arith, said, nat_tests)
 
 pub invariant_of-self : goal.invariant_of-self
 invariant_of-self c =
