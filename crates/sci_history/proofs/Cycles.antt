@@ -135,12 +135,8 @@ after_by_place logs last order x y is in_x in_y line less =
 after_stands : (logs : List (List Entry)) (last : List Stamped) (order : List Entry) (reason : Reason) (x y : Step) → IsSequentialOrder logs last order
     → IsInLog logs x → IsInLog logs y → ComesAfter reason x y → stands_at order y < stands_at order x
 after_stands logs last order Logged x y is in_x in_y after = grind (arith, got, later)
-after_stands logs last order ReadsFrom x y is in_x in_y after =
-    let version = after.3 in
-    after_by_place logs last order x y is in_x in_y after.0 (rw (after.1, after.2) (omega arith))
-after_stands logs last order FromRead x y is in_x in_y after =
-    let version = after.3 in
-    after_by_place logs last order x y is in_x in_y after.0 (rw (after.1, after.2) (omega arith))
+after_stands logs last order ReadsFrom x y is in_x in_y after = grind (arith, after_by_place)
+after_stands logs last order FromRead x y is in_x in_y after = grind (arith, after_by_place)
 after_stands logs last order Coherence x y is in_x in_y after = grind (arith, after_by_place)
 
 -- ---- a chain, and a cycle

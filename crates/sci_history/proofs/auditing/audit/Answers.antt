@@ -8,9 +8,7 @@ use Rattle.sci_history.specs.declared.verdict.Verdict.TheVariants as verdicts
 use Rattle.sci_history.proofs.auditing.audit.Goals as goal
 
 entries : (c : After-get) → entries_of c.deref.result.now ≡ on_line c.loop-line.line c.args.logs.now
-entries c =
-    list_at c.in_ok-lists.lists.items c.args.logs.now c.loop-line.line _ c.index.result.now c.deref.result.now c.in_ok-lists.ensures.lines
-    c.loop-line-test.true c.index.ensures c.deref.ensures.value c.in_ok-lists.ensures.lists
+entries c = grind (arith, list_at)
 
 pub line_fault-requires : goal.line_fault-requires
 line_fault-requires c = known_on_line c.loop-line.line c.args.logs.now _ _ (entries c) c.in_ok-lists.ensures.own c.in_ok-lists.ensures.sixteen c.requires

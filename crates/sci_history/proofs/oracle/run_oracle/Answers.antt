@@ -2,7 +2,7 @@
 use Rattle.std.proofs.Common.{◌≡◌, ◌<◌, length, get_or, take, refl, ap, ◌∙◌, subst, arith}
 use Rattle.std.proofs.lemmas.List.{length-take, take_more, take_all, Elements.{recursion_from_All}}
 use Rattle.sci_words.specs.declared.{operation.Act.TheVariants.{Load}, limits.TheConstants.{MAX_OPERATIONS}}
-use Rattle.std.specs.Prelude.{List, Err}
+use Rattle.std.specs.Prelude.{List}
 use Rattle.sci_history.specs.{declared.entry.Entry.{Entry}, Placed.{log_of}, Oracle.{Issue, IsInRange}}
 use Rattle.sci_history.proofs.OracleSteps.{Ran, ran_none, ran_long, ran_version, ran_step, range-take, fewer_logged}
 use Rattle.sci_history.proofs.{Oracles.{oracle-lawful}, oracle.run_oracle.Goals.{After-of}}
@@ -41,9 +41,7 @@ pub overflow_cast-serial : goal.overflow_cast-serial
 overflow_cast-serial c = let is = ap length c.of.ensures.log in omega (arith, fewer (goal.at.overflow_cast-serial c).After-of)
 
 pub unreachable-requires : goal.unreachable-requires
-unreachable-requires c =
-    let full = c.in-Err-Full.ensures.full.0 (ap Err c.in-Err-Full.field-0-is) in
-    absurd (omega (arith, fewer (goal.at.unreachable-requires c).After-of))
+unreachable-requires c = grind (arith, fewer)
 
 pub loop-node-preserved : goal.loop-node-preserved
 loop-node-preserved c =

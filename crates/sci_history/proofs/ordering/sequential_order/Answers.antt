@@ -5,11 +5,7 @@ use Rattle.sci_history.proofs.{Cycles.{no_order_with_cycle}, FoundOrders.{all_do
 use Rattle.sci_history.proofs.ordering.sequential_order.Goals as goal
 
 pub place_all-requires-clause-few : goal.place_all-requires-clause-few
-place_all-requires-clause-few c =
-    let judged = subst (IsJudged c.args.logs.now c.args.last.now) c.in-Loads.is c.in_ok-line.ensures.judged in
-    let long : length c.deref.result.now ≡ length c.args.last.now = ap (λ (ls : List (Vec ℕ)). length ls) c.deref.ensures.value ∙ judged.2 in
-    let few = c.in_ok-line.ensures.few in
-    omega arith
+place_all-requires-clause-few c = grind arith
 
 pub cycle-requires-clause-blocked : goal.cycle-requires-clause-blocked
 cycle-requires-clause-blocked c =

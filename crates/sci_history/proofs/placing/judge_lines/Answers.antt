@@ -12,16 +12,12 @@ use Rattle.sci_history.proofs.placing.judge_lines.Goals as goal
 -- the entries of the line, each time that its list is read
 entries : (c : After-index-entries) (refs : List (Bor Entry)) → refs ≡ c.index-entries.result.now.items
     → entries_of refs ≡ on_line c.loop-line.line c.args.logs.now
-entries c refs is =
-    list_at c.in_ok-lists.lists.items c.args.logs.now c.loop-line.line _ c.index-entries.result.now refs c.in_ok-lists.ensures.lines c.loop-line-test.true
-    c.index-entries.ensures is c.in_ok-lists.ensures.lists
+entries c refs is = grind (arith, list_at)
 
 -- the line that was found to have no fault
 lawful : (c : After-deref-in-loop-line) → entries_of c.deref.result.now ≡ on_line c.loop-line.line c.args.logs.now
     → IsLawfulLine c.args.logs.now c.loop-line.line (stamped_at c.args.last.now c.loop-line.line)
-lawful c is =
-    lawful_from_found c.args.logs.now c.args.last.now c.loop-line.line _ _ _ c.in_ok-lists.ensures.own c.in_ok-lists.ensures.sixteen is c.get.ensures
-    c.in_default.is c.in_ok-fault.ensures
+lawful c is = grind (arith, lawful_from_found)
 
 pub line_fault-requires : goal.line_fault-requires
 line_fault-requires c =

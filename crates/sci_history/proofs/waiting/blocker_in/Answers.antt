@@ -9,6 +9,4 @@ loop-place-preserved c = record {
 }
 
 pub returns-clause-none : goal.returns-clause-none
-returns-clause-none c e place other le at =
-    let inside = (got c.args.log.now place other at).0 in
-    c.loop-place.invariant.none place other le (omega arith) at
+returns-clause-none c e place other le at = grind (arith, got)

@@ -1,9 +1,6 @@
-use Rattle.std.specs.Global.{Vec}
-use Rattle.std.proofs.Common.{◌-◌, ◌*◌, take, drop, ◌≡◌, ◌+◌, ◌≤◌, ℕ, Some, length, set, ap, sym, subst, ◌∙◌, arith}
-use Rattle.std.proofs.lemmas.{List.{length-set}, Result.{IfOk-weaker}}
-use Rattle.sci_words.specs.declared.limits.TheConstants.{MAX_NODES}
-use Rattle.sci_history.specs.{Cycle.{HasNoShortcut, IsCycle}, Shortcuts.{IsBareRoundOf}}
-use Rattle.sci_history.specs.declared.order_verdict.Step.{Step}
+use Rattle.std.proofs.Common.{◌-◌, take, drop, ◌≡◌, ◌+◌, ℕ, Some, length, set, sym, subst, ◌∙◌, arith}
+use Rattle.std.proofs.lemmas.{List.{length-set}}
+use Rattle.sci_history.specs.{Cycle.{IsCycle}}
 use Rattle.sci_history.proofs.Shortening.{cycle_kept}
 use Rattle.sci_history.proofs.Walks.{IsWalking, sliced, walk_closes, walk_ends, walk_more, walk_short}
 use Rattle.sci_history.proofs.waiting.cycle.Goals.{After-deref}
@@ -20,22 +17,13 @@ pub without_shortcuts-requires : goal.without_shortcuts-requires
 without_shortcuts-requires c = (closing (goal.at.without_shortcuts-requires c).After-deref).round
 
 pub returns-in-Some-clause-cycle : goal.returns-in-Some-clause-cycle
-returns-in-Some-clause-cycle c =
-    IfOk-weaker c.without_shortcuts.result (λ (v : Vec Step). IsBareRoundOf _ v.items) (λ v. IsCycle c.args.logs.now v.items)
-    (λ v is. cycle_kept c.args.logs.now _ v.items (closing (goal.at.returns-in-Some-clause-cycle c).After-deref) is.own is.round) c.without_shortcuts.ensures
+returns-in-Some-clause-cycle c = grind (arith, cycle_kept, closing)
 
 pub returns-in-Some-clause-bare : goal.returns-in-Some-clause-bare
-returns-in-Some-clause-bare c =
-    IfOk-weaker c.without_shortcuts.result (λ (v : Vec Step). IsBareRoundOf _ v.items) (λ v. HasNoShortcut v.items) (λ v is. is.bare)
-    c.without_shortcuts.ensures
+returns-in-Some-clause-bare c = grind arith
 
 pub returns-in-Some-clause-few : goal.returns-in-Some-clause-few
-returns-in-Some-clause-few c =
-    let short = walk_short c.args.logs.now c.args.next.now c.loop.starts c.loop.steps.items c.loop.node c.loop.counter c.in-Some.start c.loop.invariant.long
-    c.loop.invariant.walking in
-    let long = ap length (sliced c.loop.steps.items c.deref.result.now c.in-Some.start c.deref.ensures.value) in
-    IfOk-weaker c.without_shortcuts.result (λ (v : Vec Step). IsBareRoundOf _ v.items) (λ v. length v.items ≤ 2 * MAX_NODES)
-    (λ v is. let few = is.few in omega arith) c.without_shortcuts.ensures
+returns-in-Some-clause-few c = grind (arith, walk_short, sliced)
 
 pub loop-preserved : goal.loop-preserved
 loop-preserved c =

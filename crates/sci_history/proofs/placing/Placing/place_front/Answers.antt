@@ -8,12 +8,7 @@ use Rattle.sci_history.proofs.{Rests.{none_at}, placing.Placing.place_front.Goal
 use Rattle.sci_history.proofs.placing.Placing.place_front.Goals as goal
 
 pub returns-then-place-log-clause-stuck : goal.returns-then-place-log-clause-stuck
-returns-then-place-log-clause-stuck c e = (
-  refl,
-  λ entry rest front can.
-      let none = none_at c.args.logs.now c.args.self.now.next c.args.node c.of-log.result.now c.requires.node c.of-log.ensures.log c.if-place-log.true in
-      cc,
-)
+returns-then-place-log-clause-stuck c e = grind (arith, none_at)
 
 -- the entry that is left first, where there is one
 at_front : (c : Else-place-log) → IsFrontRead c.args.logs.now c.args.loads.now c.args.self.now.next c.args.node c.of-log.result.now
