@@ -110,9 +110,6 @@ module _ (n line : ℕ) where
     low : its_worth new ≤ its_worth old
     falls : rank_at new.core n line ≢ rank_at old.core n line → its_worth new < its_worth old
 
-  abbrev worth_as : PolicyOf → Option Bool → CacheState → ℕ
-  worth_as p work state = level (has p.used line) work state + reserve (can_perform work state)
-
   same_worth : (w v : Working) → w.policies n ≡ v.policies n → IsLeft v.core w.core → its_worth w ≡ its_worth v
   same_worth w v policies left = grind arith
 

@@ -106,7 +106,8 @@ no_fault_at (None ∷ faults) clean zero = refl
 no_fault_at (None ∷ faults) clean (suc line) = no_fault_at faults clean line
 no_fault_at (Some fault ∷ faults) clean line = absurd cc
 
-no_fault_if : (faults : List (Option LineFault)) → ((line : ℕ) → line < length faults → slice_index_or faults line None ≡ None) → list_any is_some faults ≡ false
+no_fault_if : (faults : List (Option LineFault)) → ((line : ℕ) → line < length faults → slice_index_or faults line None ≡ None)
+    → list_any is_some faults ≡ false
 no_fault_if [] none = refl
 no_fault_if (None ∷ faults) none = no_fault_if faults (λ line lt. none (suc line) (omega arith))
 no_fault_if (Some fault ∷ faults) none = let some : Some fault ≡ None = none 0 (omega arith) in absurd cc

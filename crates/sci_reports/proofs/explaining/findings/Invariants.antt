@@ -7,5 +7,6 @@ abbrev pub invariant-loop-line : goal.invariant-loop-line
 invariant-loop-line l = record {
   found : AreFindings l.log.before l.log.logs l.log.last.value 0 (take l.line l.faults) l.findings.items;
   lines : length l.lists.items ≡ length l.log.last.value;
-  left : (other : ℕ) → l.line ≤ other → other < length l.log.last.value → get_or (numbered_lists l.lists.items) other [] ≡ numbered_on other l.log.before l.log.logs;
+  left : (other : ℕ) → l.line ≤ other → other < length l.log.last.value
+      → get_or (numbered_lists l.lists.items) other [] ≡ numbered_on other l.log.before l.log.logs;
 }

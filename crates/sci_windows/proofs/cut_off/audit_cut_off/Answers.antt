@@ -25,7 +25,7 @@ verdict c =
       within = c.requires.within;
       lines = c.in_ok-contents.ensures.first;
       early = c.requires.early;
-    }) c.in_ok-relative.ensures.logs long c.in_ok-faults.ensures
+    }) c.in_ok-relative.ensures.logs long c.in_ok-faults.ensures.found
     (subst (λ (xs : List (Option LineFault)). IsBeforeLast xs c.before_last.result) c.deref-2.ensures.value c.before_last.ensures)
 
 pub returns-clause-verdict : goal.returns-clause-verdict
