@@ -1,7 +1,7 @@
 -- What the private readers of logs' lines answer: what is read, and the bytes after it; and what comes of a line that
 -- was read. No public contract rests on these words; laws in proofs/ join them to the texts.
-use Rattle.std.specs.Prelude.{◌≡◌, ℕ, zero, suc, ◌+◌, ◌<◌, ◌≤◌, ◌^◌, List, [], ◌∷◌, ◌++◌, length, codes, Option, Some, None, option_map, replicate, slice_set, nat_lt}
-use Rattle.std.specs.Prelude.{if◌then◌else◌}
+use Rattle.std.specs.Prelude.{◌≡◌, ℕ, zero, suc, ◌+◌, ◌<◌, ◌≤◌, ◌^◌, List, [], ◌∷◌, ◌++◌, length, codes, Option, Some, None, option_map, replicate, slice_set}
+use Rattle.std.specs.Prelude.{nat_lt, if◌then◌else◌}
 use Rattle.sci_words.specs.declared.operation.{Op.{Op}, Reply.{Reply, TheVariants.{Stored, Got}}}
 use Rattle.sci_words.specs.declared.stamped.Stamped.{Stamped}
 use Rattle.sci_words.specs.declared.limits.TheConstants.{MAX_NODES, MAX_LINES, WORDS_PER_LINE}
