@@ -18,9 +18,7 @@ after_both nodes (suc second) first (suc all) order is = ap (next_order nodes) (
 
 pub turns_both : (nodes second first all : ℕ) (order : Order) → all ≡ second + first
     → turns_in nodes all order ≡ turns_in nodes first order ++ turns_in nodes second (order_after nodes first order)
-turns_both nodes zero first all order is =
-    let same : all ≡ first = omega (arith, is) in
-    ap (λ (k : ℕ). turns_in nodes k order) same ∙ sym (append-nil (turns_in nodes first order))
+turns_both nodes zero first all order is = grind (arith, append-nil)
 turns_both nodes (suc second) first zero order is = absurd (omega (arith, is))
 turns_both nodes (suc second) first (suc all) order is =
     let less : all ≡ second + first = omega (arith, is) in
@@ -60,10 +58,7 @@ abbrev place_after : ℕ → ℕ → ℕ → ℕ
 place_after nodes from k = if nat_lt (from + k) nodes then from + k else (from + k) - nodes
 
 wrapped_below : (nodes next : ℕ) → 0 < nodes → next_node nodes (Circle next) < nodes
-wrapped_below nodes next some = elim (cases_lt next nodes) [
-  | inl lt ↦ subst (λ (b : Bool). (if b then next else 0) < nodes) (sym (lt-ltb next nodes lt)) lt
-  | inr le ↦ subst (λ (b : Bool). (if b then next else 0) < nodes) (sym (le-ltb next nodes le)) some
-]
+wrapped_below nodes next some = grind (arith, cases_lt, lt-ltb, le-ltb)
 
 place_first : (nodes from : ℕ) → from < nodes → from ≡ place_after nodes from 0
 place_first nodes from lt = grind (arith, cases_lt)

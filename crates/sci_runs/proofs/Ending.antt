@@ -62,12 +62,7 @@ deed_on : (n : ℕ) (deed : Deed) (x y : Standing) → n < x.course.core.size.no
     → HasGone x.course.core y.course.core
 deed_on n (Issues op) x y some reached opened did = works_on (event.Issue n op) x y tt reached opened did
 deed_on n (Performs line entry) x y some reached opened did = works_on (event.Perform n line) x y tt reached opened did
-deed_on n (Turns progress) x y some reached opened did =
-    let moved = did.so_far.turn.moved in
-    let own = did.so_far.own in
-    let same : moved.more ≡ own.0 = append_cancel_left x.course.events moved.more own.0 (sym moved.further ∙ own.1) in
-    leads_on n moved.more _ _ x.course.core y.course.core some reached opened
-    (subst (AllByRecursion (λ e. node_of e ≡ n)) (sym same) own.2) moved.leads
+deed_on n (Turns progress) x y some reached opened did = grind (arith, append_cancel_left, leads_on)
 
 deeds_on : (n : ℕ) (deeds : List Deed) (x y : Standing) → n < x.course.core.size.nodes → IsReached x.course.core → AreOpen x.course.core
     → DoesBy (IsDeed n) deeds x y → HasGone x.course.core y.course.core
@@ -154,11 +149,7 @@ played_order nodes (suc rounds) order later old new played =
 split : (nodes second first all : ℕ) (order later : Order) (old new : Moment) → all ≡ second + first → Played nodes all order old later new
     → (mid : Moment) × Played nodes first order old (order_after nodes first order) mid
     × Played nodes second (order_after nodes first order) mid later new
-split nodes zero first all order later old new sum played =
-    let same : all ≡ first = omega (arith, sum) in
-    let here = subst (λ (k : ℕ). Played nodes k order old later new) same played in
-    let is = played_order nodes first order later old new here in
-    (new, subst (λ (o : Order). Played nodes first order old o new) is here, (sym is, refl))
+split nodes zero first all order later old new sum played = grind (arith, played_order)
 split nodes (suc second) first zero order later old new sum played = absurd (omega (arith, sum))
 split nodes (suc second) first (suc all) order later old new sum played =
     let parts = split nodes second first all order played.1 old played.0 (omega (arith, sum)) played.2 in
@@ -281,21 +272,14 @@ turns_long nodes (suc rounds) order =
     omega (arith, more, rest)
 
 some_window : (nodes window : ℕ) (order : Order) → 0 < nodes → GivesTurns nodes window order → 0 < window
-some_window nodes window order some gives =
-    let enough : 64 ≤ count_by (λ m. m == 0) (turns_in nodes window order) = gives 0 0 some in
-    let few = count_by-le-length (λ (m : ℕ). m == 0) (turns_in nodes window order) in
-    let long = turns_long nodes window order in
-    omega (arith, enough, few, long)
+some_window nodes window order some gives = grind (arith, count_by-le-length, turns_long)
 
 one_stretch : (window rounds events : ℕ) → rounds < window → rounds < window * (events + 1)
 one_stretch window rounds events lt = let more = le-mul_of_pos_right {m = events + 1} window (omega arith) in omega (arith, lt, more)
 
 -- one more than some
 one_more : (window rounds before after : ℕ) → rounds < window * (before + 1) → before < after → window + rounds < window * (after + 1)
-one_more window rounds before after lt more =
-    let stretch = mul-suc window (before + 1) in
-    let within = mul-le-mul_left {m = suc (before + 1)} {n = after + 1} window (omega (arith, more)) in
-    omega (arith, lt, stretch, within)
+one_more window rounds before after lt more = grind (arith, mul-suc, mul-le-mul_left)
 
 module _ (script : ScriptValue) (good : IsScript script) (limit : ℕ)
     (room : (node : ℕ) → node < script.nodes → length (operations_of node script.operations) ≤ limit)
@@ -318,9 +302,7 @@ module _ (script : ScriptValue) (good : IsScript script) (limit : ℕ)
 
   ends_by : (fuel rounds : ℕ) (later : Order) (last : Moment) → rounds ≤ fuel → Played script.nodes rounds order first later last → AwaitsEntries last
       → rounds < window * (length last.events + 1)
-  ends_by zero rounds later last le played awaits =
-      let some = some_window script.nodes window order good.size.has_node gives in
-      one_stretch window rounds (length last.events) (omega (arith, le, some))
+  ends_by zero rounds later last le played awaits = grind (arith, some_window, one_stretch)
   ends_by (suc fuel) rounds later last le played awaits = elim (cases_lt rounds window) [
     | inl lt ↦ one_stretch window rounds (length last.events) lt
     | inr long ↦

@@ -10,7 +10,7 @@ use Rattle.std.specs.{Prelude.{IsSome, count_by, get_or, slice_index_or}, List.{
 use Rattle.sci_history.specs.{declared.entry.Entry.{Entry}, Seen.{IsAmong}}
 use Rattle.sci_words.specs.declared.{event.Event.{Event}, operation.Op.{Op}}
 use Rattle.sci_text.specs.{Script.{IsScript, ScriptValue, operations_of}}
-use Rattle.sci_core.specs.{Core.{Core, lane_at, node_at, node_of, stepping}, Node.{NodeOf, lines_of, node_performing, pending_on, performing_pending}}
+use Rattle.sci_core.specs.{Core.{Core, node_at, node_of, stepping}, Node.{NodeOf, lines_of, node_performing, pending_on, performing_pending}}
 use Rattle.sci_core.specs.{declared.{pending.Pending.{Pending}, submit.SubmitFault.{SubmitFault}}, Obstacles.{submit_fault}, Reached.{IsReached}, Size.{Size}}
 use Rattle.sci_core.proofs.WellFormed.WellFormedSteps.{reached_well, size_either}
 use Rattle.sci_policy.specs.{Deeds.{Deed, DoesBy, Issues, Performs, Turns}, Policy.{PolicyOf, opening_policy}}
@@ -21,7 +21,7 @@ use Rattle.sci_fair.specs.{Steady.{AreTurns, HasWindows, IsTurnAlone, Working, W
 use Rattle.sci_fair.proofs.{Sums.{sum_least, sum_less, sum_to}, Stretches.{Advances, Changes, Tries, has_still}, Works.{turn_works, work_good}}
 use Rattle.sci_fair.proofs.{Descents.{turns_join}, Standstill.{steady_none}, SteadyTurns.{turned_alone}, Suits.{cannot_by}}
 use Rattle.sci_drive.specs.{Calls.{Call, IsOpen, reports}, Driving.{DriverOf, IsAnswered, IsDriven}, ScriptLogs.{size_for}}
-use Rattle.sci_drive.specs.Rounds.{AllSubmitted, ArePerformed, IsHeldBack, LineIsTaken, NoRoom, NoneNow, NotAllowed, OneMore, Refused, Submits, performed}
+use Rattle.sci_drive.specs.Rounds.{AllSubmitted, IsHeldBack, LineIsTaken, NoRoom, NoneNow, NotAllowed, OneMore, Refused, Submits, performed}
 use Rattle.sci_runs.specs.{declared.order.Order.{Order}, Deeds.{IsDeed, IsTurnDone, Standing, post_on, standing}}
 use Rattle.sci_runs.specs.Played.{AwaitsEntries, IsRound, Moment, Played, course_at, driver_at, policy_at}
 use Rattle.sci_runs.specs.Turns.{next_node, order_after, turns_in}
@@ -40,10 +40,7 @@ its_own : (n : ℕ) (p : PolicyOf) (others : ℕ → PolicyOf) → policies_but 
 its_own n p others = ap (λ (b : Bool). if b then p else others n) (eq-eqb n n refl)
 
 short_after : (old new : Core) → AreShort old → KeepsRoom old new → AreShort new
-short_after old new short room place = elim (cases_lt 4 (length (lane_at new place))) [
-  | inr le ↦ le
-  | inl many ↦ (let few = short place in let less = room place many in omega (arith, few, less))
-]
+short_after old new short room place = grind (arith, cases_lt)
 
 whole_alone : (n : ℕ) (before after : PolicyOf) (x y : Standing) (progress : _) → (did : IsTurnDone n before x.course after y.course progress)
     → IsWholeTurn before (post_at n x.course.core) after (post_at n y.course.core) progress
@@ -158,9 +155,7 @@ module _ (n : ℕ) (old new : Moment) (round : IsRound n old new) (d : DriverOf)
       subst (λ (s : Standing). IsTurnDone n (policy_at old n) (course_at old) s.policy s.course round.round.progress) did.2 did.1
 
   trying_node : IsTrying → (round.goes d).node ≡ node_at old.core n
-  trying_node is =
-      let goes = round.goes d in
-      sym (subst (λ (entries : List Entry). ArePerformed goes.worked.node entries goes.node) is.no_entry goes.worked.performs) ∙ is.node_is
+  trying_node is = grind (arith, round)
 
   trying_cannot : IsTrying → IsReached old.core → CannotPerform (node_at old.core n)
   trying_cannot is reached =
@@ -344,10 +339,7 @@ module _ (script : ScriptValue) (good : IsScript script) (limit : ℕ)
   ]) some less
 
   left_least : (n : ℕ) (a b : Moment) → IsRound n a b → own_todo b n ≤ own_todo a n → left b ≤ left a
-  left_least n a b round least = sum_least (own_todo b) (own_todo a) script.nodes (λ m _. elim (cases_eq m n) [
-    | inl same ↦ subst (λ (k : ℕ). own_todo b k ≤ own_todo a k) (sym same) least
-    | inr apart ↦ (let is = others_todo n m a b round apart in omega (arith, is))
-  ])
+  left_least n a b round least = grind (arith, sum_least, cases_eq, others_todo)
 
   some_node : (n : ℕ) (a b : Moment) → Goes_on n a b → n < script.nodes
   some_node n a b go = (let some = go.round.some in let same = nodes_are a go.stands in omega (arith, some, same))

@@ -33,10 +33,7 @@ works_more e x y works = ap length works.more ∙ length_push x.course.events e
 deed_grows : (n : ℕ) (deed : Deed) (x y : Standing) → IsDeed n deed x y → length x.course.events ≤ length y.course.events
 deed_grows n (Issues op) x y did = let more = works_more (event.Issue n op) x y did in omega (arith, more)
 deed_grows n (Performs line entry) x y did = let more = works_more (event.Perform n line) x y did in omega (arith, more)
-deed_grows n (Turns progress) x y did =
-    let own = did.so_far.own in
-    let more : length y.course.events ≡ length x.course.events + length own.0 = ap length own.1 ∙ length-append x.course.events own.0 in
-    omega (arith, more)
+deed_grows n (Turns progress) x y did = grind (arith, length-append)
 
 pub deeds_grow : (n : ℕ) (deeds : List Deed) (x y : Standing) → DoesBy (IsDeed n) deeds x y → length x.course.events ≤ length y.course.events
 deeds_grow n [] x y did = let same : length x.course.events ≡ length y.course.events = ap (λ (s : Standing). length s.course.events) did in omega (arith, same)
@@ -151,13 +148,7 @@ performed_long x (entry ∷ entries) y are =
     omega (arith, more, rest)
 
 pub tried_none : (line : ℕ) (x y : NodeOf) → x ≡ y → IsTried line x y → node_performing y line ≡ None
-tried_none line x y same tried =
-    let first = performed_long x tried.earlier tried.node tried.first in
-    let later = performed_long tried.node tried.later y tried.rest in
-    let long : length x.log ≡ length y.log = ap (λ (node : NodeOf). length node.log) same in
-    let none : tried.later ≡ [] = nil_from_length tried.later (omega (arith, first, later, long)) in
-    let here : tried.node ≡ y = subst (λ (es : List Entry). ArePerformed tried.node es y) none tried.rest in
-    subst (λ (node : NodeOf). node_performing node line ≡ None) here tried.cannot
+tried_none line x y same tried = grind (arith, performed_long, nil_from_length)
 
 performs_none : (driver : DriverOf) (node : NodeOf) (line : ℕ) (o : Option Pending) → IsDriven driver node → pending_on node line ≡ o
     → ((l : ℕ) → Contains driver.pending l → node_performing node l ≡ None) → node_performing node line ≡ None
@@ -202,12 +193,7 @@ module _ (n : ℕ) (old new : Moment) (round : IsRound n old new) (few : length 
   turning = Turns round.round.progress ∷ []
 
   all_deeds : DoesBy (IsDeed n) ((round.goes d).worked.first ++ (map performed (round.goes d).worked.entries ++ turning)) before after
-  all_deeds =
-      let goes = round.goes d in
-      let worked = goes.worked in
-      subst (λ (deeds : List Deed). DoesBy (IsDeed n) deeds before after)
-      (goes.deeds_are ∙ (ap (λ (works : List Deed). works ++ turning) worked.deeds_are ∙ append_assoc worked.first (map performed worked.entries) turning))
-      round.does
+  all_deeds = grind (arith, append_assoc)
 
   held : IsHeld (driver_at old n d) (round.goes d).worked.driver (node_at old.core n) (round.goes d).worked.node (round.goes d).worked.asked
       (round.goes d).worked.first
@@ -223,10 +209,7 @@ module _ (n : ℕ) (old new : Moment) (round : IsRound n old new) (few : length 
       (subst (λ (deeds : List Deed). DoesBy (IsDeed n) (deeds ++ (map performed worked.entries ++ turning)) before after) held.none all_deeds) few
 
   turned_alone : DoesBy (IsDeed n) turning before after
-  turned_alone =
-      let worked = (round.goes d).worked in
-      subst (λ (entries : List Entry). DoesBy (IsDeed n) (map performed entries ++ turning) before after) no_entry
-      (subst (λ (deeds : List Deed). DoesBy (IsDeed n) (deeds ++ (map performed worked.entries ++ turning)) before after) held.none all_deeds)
+  turned_alone = grind (arith, no_entry, held, all_deeds)
 
   turn : IsTurnDone n (policy_at old n) (course_at old) (policy_at new n) (course_at new) round.round.progress
   turn =
@@ -242,18 +225,13 @@ module _ (n : ℕ) (old new : Moment) (round : IsRound n old new) (few : length 
 
   -- what comes before the turn leaves the node as it was
   worked_none : (round.goes d).worked.node ≡ (round.goes d).node
-  worked_none =
-      let goes = round.goes d in
-      subst (λ (entries : List Entry). ArePerformed goes.worked.node entries goes.node) no_entry goes.worked.performs
+  worked_none = grind (arith, no_entry)
 
   node_stays : (round.goes d).node ≡ node_at new.core n
   node_stays = sym worked_none ∙ (held.node_is ∙ ap (λ (c : Core). node_at c n) (sym core_stays))
 
   cannot : (line : ℕ) → node_performing (node_at new.core n) line ≡ None
-  cannot line =
-      let goes = round.goes d in
-      performs_none (driver_at new n d) (node_at new.core n) line (pending_on (node_at new.core n) line) (round.driven d) refl (λ l known.
-      subst (λ (node : NodeOf). node_performing node l ≡ None) node_stays (tried_none l goes.worked.node goes.node worked_none (goes.worked.tried l known)))
+  cannot line = grind (arith, performs_none, node_stays, tried_none, worked_none)
 
   pub is_vain : n < old.core.size.nodes → IsInVain old.core n (policy_at old) (policy_at new)
   is_vain some = record {
@@ -335,10 +313,7 @@ no_fault : (node : NodeOf) (op : Op) → IsOnNode node op → pending_on node op
 no_fault node op on none room = grind (arith, on.0, on.1, none, room)
 
 no_line : (lines : List ℕ) (line : ℕ) → lines ≡ [] → Contains lines line → ⊥
-no_line lines line none has =
-    let at = subst (λ (ls : List ℕ). Contains ls line) none has in
-    let lt : at.0 < 0 = at.1 in
-    omega (arith, lt)
+no_line lines line none has = grind arith
 
 op_at : (script : List Op) (k : ℕ) (op : Op) (node : NodeOf) → All (IsOnNode node) script → slice_get script k ≡ Some op → IsOnNode node op
 op_at script k op node all is = grind (arith, slice_get_cases)

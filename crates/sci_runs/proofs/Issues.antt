@@ -123,9 +123,7 @@ issue_there m n op other = ap (λ (b : Bool). if b then Some op else None) (ne_e
 
 same_on : (core new : Core) (e : Event) (n : ℕ) (events : List Event) → SameWork (node_at core n) (node_at new n) → issued_at n e ≡ None
     → HasIssued (issues_at n events) (node_at core n) → HasIssued (issues_at n (events ++ e ∷ [])) (node_at new n)
-same_on core new e n events same none has =
-    subst (λ (ops : List Op). HasIssued ops (node_at new n)) (sym (none_more n events e none))
-    (issued_same (issues_at n events) (node_at core n) (node_at new n) same has)
+same_on core new e n events same none has = grind (arith, none_more, issued_same)
 
 stays_on : (core new : Core) (e : Event) (n : ℕ) (events : List Event) → stepping core e ≡ Some new → node_of e ≢ n → issued_at n e ≡ None
     → HasIssued (issues_at n events) (node_at core n) → HasIssued (issues_at n (events ++ e ∷ [])) (node_at new n)

@@ -2,7 +2,7 @@
 use Rattle.std.proofs.Common.{◌≡◌, ℕ, zero, suc, ◌%◌, ◌<◌, ◌≤◌, nat_lt, Bool, true, false, if◌then◌else◌, List, [], ◌∷◌, ◌++◌, length, map, Option, Some}
 use Rattle.std.proofs.{Common.{None, refl, arith, sym, ap, subst, ◌∙◌}, lemmas.Bool.{ltb-true, lt-ltb}}
 use Rattle.std.proofs.lemmas.List.{get_or-map, map-set}
-use Rattle.std.specs.Prelude.{Result, Ok, Err, is_none, is_some, ◌&&◌, option_map, option_to_list, slice_index_or, unwrap_or}
+use Rattle.std.specs.Prelude.{Result, Ok, Err, is_some, ◌&&◌, option_map, option_to_list, slice_index_or, unwrap_or}
 use Rattle.std.specs.{List.{filter, flat_map, range_with_len}, Option.{option_or}}
 use Rattle.sci_words.specs.declared.{limits.TheConstants.{MAX_NODES}, event.Event.{Event}, operation.Op.{Op}}
 use Rattle.sci_words.specs.{declared.operation.Reply.{Reply}, Stamped.{zero_stamped}}
@@ -15,9 +15,9 @@ use Rattle.sci_cache.specs.Cache.{CacheOf, Letter, cache_accepting, cache_asking
 use Rattle.sci_core.specs.declared.lane.LaneKind.{LaneKind, TheVariants.{Answers, Requests}}
 use Rattle.sci_core.specs.declared.pending.Pending.{Pending}
 use Rattle.sci_core.specs.Core.{Core, changes, lane_of, lane_place, node_at, node_of, performs, sends, side, step_by, stepping, taken_as, taken_from}
-use Rattle.sci_core.specs.Core.{with_lane, opening, with_node, with_sent}
-use Rattle.sci_core.specs.Node.{NodeOf, accepted_by, answered_by, asked_by, home_of, is_in_range, is_setback, lines_of, no_node, node_accepting}
-use Rattle.sci_core.specs.Node.{node_asking, node_issued, node_issuing, node_performing, node_refusing, node_replying, node_serving, pending_on}
+use Rattle.sci_core.specs.Core.{opening, with_node}
+use Rattle.sci_core.specs.Node.{NodeOf, accepted_by, answered_by, asked_by, home_of, is_setback, lines_of, no_node, node_accepting}
+use Rattle.sci_core.specs.Node.{node_asking, node_issuing, node_performing, node_refusing, node_replying, node_serving, pending_on}
 use Rattle.sci_core.specs.Node.{performed_by, opening_node, performing_pending, replied_by, served_at_home, served_in_cache, serving_at_home}
 use Rattle.sci_core.specs.{Node.{serving_in_cache, with_answer}, Outcome.{logs_of}}
 use Rattle.sci_core.specs.Sharing.{answer_in, first_authority, home_at, is_about, last_at, last_of, packets_of, settled_at, all_settled, under_way}
@@ -63,9 +63,7 @@ issued_by false c d e x y m more is = cc
 
 issue_raised : (m : ℕ) (node next : NodeOf) (op : Op) → node.limit ≤ m → node_issuing node op ≡ Some next
     → node_issuing (raised_node m node) op ≡ Some (raised_node m next)
-issue_raised m node next op le is =
-    issued_by (is_in_range node op) (is_none (pending_on node op.line)) (nat_lt node.issued node.limit) (nat_lt node.issued m) (node_issued node op) next m
-    (λ below. let lt = ltb-true node.issued node.limit below in lt-ltb node.issued m (omega (arith, lt, le))) is
+issue_raised m node next op le is = grind (arith, issued_by, ltb-true, lt-ltb)
 
 performed : (m : ℕ) (node : NodeOf) (line : ℕ) (pending : Pending) (o : Option (CacheOf × Reply × ℕ))
     → performed_by (raised_node m node) line pending o ≡ option_map (λ done. (raised_node m done.0, done.1)) (performed_by node line pending o)
@@ -130,23 +128,17 @@ module _ (m : ℕ) (core new : Core) (n : ℕ) where
   performs_raised : (o p : Option (NodeOf × Entry)) → p ≡ option_map (λ done. (raised_node m done.0, done.1)) o → step_by core n (performs o) ≡ Some new
       → step_by (raised m core) n (performs p) ≡ Some (raised m new)
   performs_raised None p same is = cc
-  performs_raised (Some done) p same is =
-      ap (λ (o : Option (NodeOf × Entry)). step_by (raised m core) n (performs o)) same
-      ∙ (ap Some (placed m core n done.0) ∙ ap (option_map (raised m)) is)
+  performs_raised (Some done) p same is = grind (arith, placed)
 
   sends_raised : (kind : LaneKind) (o p : Option (NodeOf × Letter)) → p ≡ option_map (λ sent. (raised_node m sent.0, sent.1)) o
       → step_by core n (sends kind o) ≡ Some new → step_by (raised m core) n (sends kind p) ≡ Some (raised m new)
   sends_raised kind None p same is = cc
-  sends_raised kind (Some sent) p same is =
-      ap (λ (o : Option (NodeOf × Letter)). step_by (raised m core) n (sends kind o)) same
-      ∙ (ap (λ (c : Core). Some (with_sent c kind n sent.1)) (placed m core n sent.0) ∙ ap (option_map (raised m)) is)
+  sends_raised kind (Some sent) p same is = grind (arith, placed)
 
   taken_raised : (place : ℕ) (rest : List Letter) (o p : Option NodeOf) → p ≡ option_map (raised_node m) o → taken_as core n place rest o ≡ Some new
       → taken_as (raised m core) n place rest p ≡ Some (raised m new)
   taken_raised place rest None p same is = cc
-  taken_raised place rest (Some next) p same is =
-      ap (taken_as (raised m core) n place rest) same
-      ∙ (ap (λ (c : Core). Some (with_lane c place rest)) (placed m core n next) ∙ ap (option_map (raised m)) is)
+  taken_raised place rest (Some next) p same is = grind (arith, placed)
 
   front_raised : (place : ℕ) (taking more : Letter → Option NodeOf) (lane : List Letter)
       → ((letter : Letter) → more letter ≡ option_map (raised_node m) (taking letter)) → taken_from core n place taking lane ≡ Some new

@@ -1,5 +1,5 @@
 -- What an Issue and a Perform of a node do to a reached state.
-use Rattle.std.proofs.Common.{◌≡◌, ℕ, ◌<◌, Option, Some, None, sym, ap, ◌∙◌}
+use Rattle.std.proofs.Common.{◌≡◌, ℕ, ◌<◌, Option, Some, None, sym, ap, ◌∙◌, arith}
 use Rattle.std.specs.Prelude.{option_map}
 use Rattle.sci_words.specs.declared.{event.Event.TheVariants.{Issue, Perform}, operation.Op.{Op}}
 use Rattle.sci_history.specs.declared.entry.Entry.{Entry}
@@ -18,9 +18,7 @@ node_fits core n reached some = ((reached_well core reached).each_part n some).f
 issued_by : (core new : Core) (n : ℕ) (o : Option NodeOf) → IsReached core → n < core.size.nodes → option_map (with_node core n) o ≡ Some new
     → o ≡ Some (node_at new n)
 issued_by core new n None reached some e = cc
-issued_by core new n (Some next) reached some e =
-    let same : with_node core n next ≡ new = cc in
-    ap Some (sym (own_node core n next reached some) ∙ ap (λ (c : Core). node_at c n) same)
+issued_by core new n (Some next) reached some e = grind (arith, own_node)
 
 pub issue_makes : (core new : Core) (n : ℕ) (op : Op) → IsReached core → n < core.size.nodes → stepping core (Issue n op) ≡ Some new
     → IsIssued (node_at core n) (node_at new n) op

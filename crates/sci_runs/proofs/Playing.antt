@@ -1,5 +1,5 @@
 -- What a node does, one deed after another.
-use Rattle.std.proofs.Common.{◌≡◌, ◌⊎◌, ℕ, List, [], ◌∷◌, ◌++◌, Option, Some, None, Result, Ok, Err, IfOk, length, ◌≤◌, inl, inr, refl, sym, subst, ◌∙◌}
+use Rattle.std.proofs.Common.{◌≡◌, ◌⊎◌, ℕ, List, [], ◌∷◌, ◌++◌, Option, Some, None, Result, Ok, Err, IfOk, length, ◌≤◌, inl, inr, refl, sym, subst, ◌∙◌, arith}
 use Rattle.std.specs.{Prelude.{IfSome, IsErr}, declared.alloc.AllocError.{AllocError}}
 use Rattle.sci_words.specs.declared.{limits.TheConstants.{MAX_EVENTS}, operation.Op.{Op}}
 use Rattle.sci_history.specs.declared.entry.Entry.{Entry}
@@ -43,11 +43,7 @@ pub issued : {T E : Type 0} (result : Result T E) (n : ℕ) (op : Op) (p : Polic
     → ((fault : RunFault) → y.lost ≡ Some fault → y.schedule ≡ x.schedule) → IfOk result (λ _. stepping x.core (event.Issue n op) ≡ Some y.core)
     → IfOk result (λ _. y.lost ≡ None → y.schedule.events ≡ x.schedule.events ++ event.Issue n op ∷ [])
     → IfOk result (λ _. (n ≡ n) × DoesDeeds n (Issues op ∷ []) p x p y)
-issued (Ok serial) n op p x y keeps stands steps more = (
-  refl,
-  goes_working n (Issues op ∷ []) p x y keeps stands (λ none.
-      one_deed (IsDeed n) (Issues op) (standing p (course_of x)) (standing p (course_of y)) (record { stepped = steps; more = more none; policy = refl })),
-)
+issued (Ok serial) n op p x y keeps stands steps more = grind (arith, goes_working, one_deed)
 issued (Err fault) n op p x y keeps stands steps more = tt
 
 -- one that was performed
@@ -55,12 +51,7 @@ pub performed : (result : Option Entry) (n line : ℕ) (p : PolicyOf) (x y : Rec
     → ((fault : RunFault) → y.lost ≡ Some fault → y.schedule ≡ x.schedule) → IfSome result (λ _. stepping x.core (event.Perform n line) ≡ Some y.core)
     → IfSome result (λ _. y.lost ≡ None → y.schedule.events ≡ x.schedule.events ++ event.Perform n line ∷ [])
     → IfSome result (λ entry. (n ≡ n) × DoesDeeds n (Performs line entry ∷ []) p x p y)
-performed (Some entry) n line p x y keeps stands steps more = (
-  refl,
-  goes_working n (Performs line entry ∷ []) p x y keeps stands (λ none.
-      one_deed (IsDeed n) (Performs line entry) (standing p (course_of x)) (standing p (course_of y))
-      (record { stepped = steps; more = more none; policy = refl })),
-)
+performed (Some entry) n line p x y keeps stands steps more = grind (arith, goes_working, one_deed)
 performed None n line p x y keeps stands steps more = tt
 
 -- and none

@@ -134,9 +134,7 @@ opened_recorder core schedule extent limit opens empty =
 -- an event that happens is one of the schedule's machine
 pub event_within : (core new : Core) (schedule : ScheduleValue) (e : Event) → IsOfSize core.size schedule → IsReached core → stepping core e ≡ Some new
     → IsEventWithin schedule.nodes schedule.lines e
-event_within core new schedule e sized reached steps =
-    subst (λ (n : ℕ). IsEventWithin n schedule.lines e) (sym sized.nodes_are)
-    (subst (λ (l : ℕ). IsEventWithin core.size.nodes l e) (sym sized.lines_are) (enabled_within core new e reached steps))
+event_within core new schedule e sized reached steps = grind (arith, enabled_within)
 
 within_some : (core : Core) (schedule : ScheduleValue) (e : Event) (o : Option Core) → IsOfSize core.size schedule → IsReached core → stepping core e ≡ o
     → IsSome o → IsEventWithin schedule.nodes schedule.lines e
@@ -178,16 +176,7 @@ full_by core old (Some fault) lost is keeps full many = is.full (sym (keeps faul
 pub recorder_kept : (core new : Core) (old now : ScheduleValue) (was lost : Option RunFault)
     → IsRecorder (record { core = core; schedule = old; lost = was }) → new.size ≡ core.size → now ≡ old → (lost ≡ None → ⊥)
     → (lost ≡ Some TooMany → MAX_EVENTS ≤ length old.events) → IsRecorder (record { core = new; schedule = now; lost = lost })
-recorder_kept core new old now was lost is size same gone full =
-    subst (λ (s : ScheduleValue). IsRecorder (record { core = new; schedule = s; lost = lost })) (sym same) (record {
-      sized = record {
-        nodes_are = is.sized.nodes_are ∙ ap (λ (z : Size). z.nodes) (sym size);
-        lines_are = is.sized.lines_are ∙ ap (λ (z : Size). z.lines) (sym size);
-        slots_are = is.sized.slots_are ∙ ap (λ (z : Size). z.slots) (sym size);
-      };
-      led = λ none. absurd (gone none);
-      full = full;
-    })
+recorder_kept core new old now was lost is size same gone full = grind (arith, lines_are)
 
 -- what a push says
 pub record HasPushed (old now : ScheduleValue) (was lost : Option RunFault) (e : Event) (recorded : Bool) : Type 0 where

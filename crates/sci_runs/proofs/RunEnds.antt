@@ -16,7 +16,7 @@ use Rattle.sci_text.specs.Script.{operations_of}
 use Rattle.sci_drive.specs.ScriptLogs.{size_for}
 use Rattle.sci_core.proofs.History.InTurn.{in_order}
 use Rattle.sci_runs.specs.Players.{AreAtWork, IsAtWork, TableOf}
-use Rattle.sci_runs.specs.Recorded.{HasIssued, HasLed, IsKnown, IsOfSize, issues_at, raised, with_limit}
+use Rattle.sci_runs.specs.Recorded.{HasIssued, HasLed, IsKnown, IsOfSize, issues_at, raised}
 use Rattle.sci_runs.specs.Runs.{IsRunOf, last_behind, logs_behind}
 use Rattle.sci_runs.proofs.Limits.{last_raised, logs_raised}
 
@@ -120,10 +120,7 @@ run_of view table schedule is work led reached good sized =
 -- the state behind the schedule is the machine's
 pub led_to : (view table : TableOf) (schedule : ScheduleValue) (machine : Core) → view ≡ table → AreAtWork view → HasLed schedule.events view.recorder.core
     → machine ≡ view.recorder.core → run (size_for table.script) schedule.events ≡ raised MAX_OPERATIONS machine
-led_to view table schedule machine is work led same =
-    subst (λ (t : TableOf). run (size_for t.script) schedule.events ≡ raised MAX_OPERATIONS machine) is
-    (subst (λ (z : Size). run z schedule.events ≡ raised MAX_OPERATIONS machine) work.sized
-    (subst (λ (core : Core). run (with_limit MAX_OPERATIONS view.recorder.core.size) schedule.events ≡ raised MAX_OPERATIONS core) (sym same) led.leads))
+led_to view table schedule machine is work led same = grind arith
 
 -- so are the logs and the last contents behind it
 pub ends_of : (script : ScriptValue) (schedule : ScheduleValue) (machine : Core) → run (size_for script) schedule.events ≡ raised MAX_OPERATIONS machine

@@ -1,5 +1,5 @@
 -- A turn that adds events of its node alone is one of a node that has the machine for itself: what is known of the schedule is forgotten.
-use Rattle.std.proofs.Common.{◌≡◌, ◌⊎◌, ℕ, zero, suc, List, [], ◌∷◌, ◌++◌, Option, Some, None, refl, sym, ap, subst, ◌∙◌, inl, inr}
+use Rattle.std.proofs.Common.{◌≡◌, ◌⊎◌, ℕ, zero, suc, List, [], ◌∷◌, ◌++◌, Option, Some, None, refl, sym, ap, subst, ◌∙◌, inl, inr, arith}
 use Rattle.std.proofs.lemmas.List.{append-nil, append_assoc}
 use Rattle.std.specs.{Prelude.{IfSome}, List.{AllByRecursion}}
 use Rattle.sci_words.specs.declared.event.{Event.{Event}}
@@ -112,9 +112,7 @@ strip_makes n e xs a b me knows makes =
     })
 
 strip_none : (n : ℕ) → Strips n MakesNone
-strip_none n xs a b me knows none =
-    so_then n xs b.post (IsStill (bare a.post) (bare b.post)) (MakesNone (bare_at a) (bare_at b)) (strip_still n xs a.post b.post me knows none.still)
-    (λ still. record { still = still; policy = none.policy; report = none.report })
+strip_none n xs a b me knows none = grind (arith, so_then, strip_still)
 
 strip_replies : (n : ℕ) → Strips n Replies
 strip_replies n xs a b me knows (inl makes) =
@@ -124,14 +122,10 @@ strip_replies n xs a b me knows (inr none) =
     so_then n xs b.post (MakesNone (bare_at a) (bare_at b)) (Replies (bare_at a) (bare_at b)) (strip_none n xs a b me knows none.0) (λ so. inr (so, none.1))
 
 strip_answers : (n from : ℕ) → Strips n (FindsNoAnswer from)
-strip_answers n from xs a b me knows none =
-    so_then n xs b.post (MakesNone (bare_at a) (bare_at b)) (FindsNoAnswer from (bare_at a) (bare_at b)) (strip_none n xs a b me knows none.0)
-    (λ so. (so, none.1))
+strip_answers n from xs a b me knows none = grind (arith, so_then, strip_none)
 
 strip_requests : (n from : ℕ) → Strips n (FindsNoRequest from)
-strip_requests n from xs a b me knows none =
-    so_then n xs b.post (MakesNone (bare_at a) (bare_at b)) (FindsNoRequest from (bare_at a) (bare_at b)) (strip_none n xs a b me knows none.0)
-    (λ so. (so, none.1))
+strip_requests n from xs a b me knows none = grind (arith, so_then, strip_none)
 
 strip_takes : (n from : ℕ) → Strips n (Takes from)
 strip_takes n from xs a b me knows takes =
@@ -157,9 +151,7 @@ ends_bare post (Some (Perform line)) ends = tt
 ends_bare post (Some (Ask line kind)) ends = ends
 
 strip_no_more : (n : ℕ) → Strips n AsksNoMore
-strip_no_more n xs a b me knows ends =
-    so_then n xs b.post (IsStill (bare a.post) (bare b.post)) (AsksNoMore (bare_at a) (bare_at b)) (strip_still n xs a.post b.post me knows ends.still)
-    (λ still. record { still = still; policy = ends.policy; report = ends.report; wants = ends_bare b.post _ ends.wants })
+strip_no_more n xs a b me knows ends = grind (arith, so_then, strip_still, ends_bare)
 
 -- ---- steps one after another
 

@@ -148,10 +148,7 @@ module _ {A : Type 0} (f : A → DriverOf) (g : A → PolicyOf) (script : Script
   some_node is lt = subst (λ (t : TableOf). n < t.script.nodes) (sym is) lt
 
   stands : AreAtWork view → n < script.nodes → k ≡ n → player ≡ slice_index_or players k player → (d : DriverOf) → slice_index_or (map f players) n d ≡ f player
-  stands work some same value d =
-      let many = work.many in
-      let long = length-map players f in
-      get_or-map f players n player d (omega (arith, some, many, long)) ∙ ap f (sym (value ∙ ap (λ (i : ℕ). slice_index_or players i player) same))
+  stands work some same value d = grind (arith, length-map, get_or-map)
 
   pub player_at : view ≡ table → AreAtWork view → n < table.script.nodes → k ≡ n → player ≡ slice_index_or players k player
       → IsAtWork script issuing n (f player) (node_at recorder.core n)

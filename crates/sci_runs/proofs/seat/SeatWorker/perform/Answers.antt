@@ -1,4 +1,4 @@
-use Rattle.std.proofs.Common.{refl}
+use Rattle.std.proofs.Common.{refl, arith}
 use Rattle.sci_runs.proofs.Playing.{idles, performed}
 use Rattle.sci_runs.proofs.seat.SeatWorker.perform.Goals as goal
 
@@ -9,9 +9,7 @@ returns-clause-does c =
     performed c.perform.result seat.node c.args.line seat.policy.now seat.recorder.now c.perform.new.self told.keeps told.stands told.event told.recorded
 
 pub returns-clause-idle : goal.returns-clause-idle
-returns-clause-idle c = λ none.
-    let seat = c.args.self.now in
-    idles seat.node seat.policy.now seat.recorder.now c.perform.new.self (c.perform.ensures.same none)
+returns-clause-idle c = grind (arith, idles)
 
 pub returns-clause-stays : goal.returns-clause-stays
 returns-clause-stays c = (refl, refl, refl, c.perform.ensures.spares)

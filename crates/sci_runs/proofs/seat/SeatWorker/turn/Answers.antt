@@ -1,4 +1,4 @@
-use Rattle.std.proofs.Common.{◌≡◌, [], ◌∷◌, refl}
+use Rattle.std.proofs.Common.{◌≡◌, [], ◌∷◌, refl, arith}
 use Rattle.sci_policy.specs.Deeds.{Turns}
 use Rattle.sci_turn.proofs.Moments.{if_ok_map}
 use Rattle.sci_runs.specs.{Deeds.{IsTurnDone}, Goings.{DoesDeeds}, Recorded.{course_of}}
@@ -17,9 +17,7 @@ returns-clause-does c =
     (λ progress whole. (refl, turns seat.node seat.policy.now policy old new progress told.keeps whole)) told.done
 
 pub returns-clause-stopped : goal.returns-clause-stopped
-returns-clause-stopped c = λ err.
-    let told = c.turn_on.ensures in
-    (refl, record { keeps = told.keeps; lost = told.lost err; turn = told.part err })
+returns-clause-stopped c = grind arith
 
 pub returns-clause-stays : goal.returns-clause-stays
 returns-clause-stays c = (refl, refl, refl, c.turn_on.ensures.spares)

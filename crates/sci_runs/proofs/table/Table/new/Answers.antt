@@ -1,4 +1,4 @@
-use Rattle.sci_runs.specs.declared.player.Player.{Player}
+use Rattle.std.proofs.Common.{arith}
 use Rattle.sci_runs.proofs.WorkingNodes.{all_opened, begins}
 use Rattle.sci_runs.proofs.table.Table.new.Goals as goal
 
@@ -10,10 +10,4 @@ invariant_of-result c =
     c.in_ok-players.ensures.drivers
 
 pub returns-clause-begins : goal.returns-clause-begins
-returns-clause-begins c =
-    begins (λ (player : Player). player.driver) (λ (player : Player). player.policy) c.args.script.now c.args.issuing c.in_ok-recorder.recorder.core
-    c.in_ok-recorder.recorder.schedule.events c.extent.result c.most_operations.result c.args.operations.now c.in_ok-players.players.items
-    c.in_ok-recorder.ensures.empty c.in_ok-recorder.ensures.opening
-    c.extent.ensures.nodes c.extent.ensures.lines c.extent.ensures.slots c.requires.nodes c.requires.each
-    c.most_operations.ensures.some c.most_operations.ensures.few c.most_operations.ensures.all
-    c.in_ok-players.ensures.drivers c.in_ok-players.ensures.policies
+returns-clause-begins c = grind (arith, begins)

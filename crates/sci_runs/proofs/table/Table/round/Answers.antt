@@ -1,4 +1,4 @@
-use Rattle.std.proofs.Common.{◌≡◌, None, rules, subst, sym}
+use Rattle.std.proofs.Common.{◌≡◌, None, rules, subst, sym, arith}
 use Rattle.sci_runs.specs.{declared.player.Player.{Player}, Goings.{place}, Players.{TableOf}}
 use Rattle.sci_runs.proofs.{Playing.{fills_round}, WorkingNodes.{player_at, round_fills, round_is, round_on}}
 use Rattle.sci_runs.proofs.table.Table.round.Goals as goal
@@ -29,13 +29,7 @@ invariant_of-self-2 c =
     c.round-round.ensures.driven c.round-round.ensures.order
 
 pub invariant_of-self-in_err-_round : goal.invariant_of-self-in_err-_round
-invariant_of-self-in_err-_round c =
-    round_on (λ (player : Player). player.driver) (λ (player : Player). player.policy) c.self.inside.script.now c.self.inside.issuing
-    c.self.inside.recorder c.self.inside.players.items
-    c.args.self.now c.args.node c.from.result c.index_mut.result.now
-    c.self.view_is c.self.invariant c.requires c.from.ensures c.index_mut.ensures.value
-    c.round-round.new.self c.round-round.new.recorder c.round-round.ensures.spares c.round-round.ensures.script
-    c.round-round.ensures.driven c.round-round.ensures.order
+invariant_of-self-in_err-_round c = grind (arith, round_on)
 
 pub returns-clause-round : goal.returns-clause-round
 returns-clause-round c =
