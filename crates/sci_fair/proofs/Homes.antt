@@ -216,8 +216,12 @@ served_word : (h n : ℕ) (p : PolicyOf) (x : Core) (e : Event) (q : PolicyOf) (
     → letter.line < x.size.lines → is_request letter.body ≡ true → is_about n letter.line letter ≡ true → changes_list letter.body ≡ true
     → awaits_home s ≡ true → IsSentIn (letter.line % x.size.nodes) s letter → state_on (node_at x n) letter.line ≡ s → NobodyJoins letter.line x
     → answer_to x n letter.line ≡ None → h ≡ letter.line % x.size.nodes → Replying h n (answering letter Wbok) y
-served_word h n p x e q y letter rest s st f lane (inr refuse) inside asks about changes awaits sent state nobody none home = grind (arith, plain_cread,
-    refuses_cread, refuses_it)
+served_word h n p x e q y letter rest s st f lane (inr refuse) inside asks about changes awaits sent state nobody none home = grind (
+  arith,
+  plain_cread,
+  refuses_cread,
+  refuses_it,
+)
 served_word h n p x e q y letter rest s st f lane (inl serve) inside asks about changes awaits sent state nobody none home =
     let own = subst (λ (o : Event). IsSteady h p x o q y) serve st in
     let node = node_at x h in

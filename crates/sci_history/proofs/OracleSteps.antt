@@ -31,8 +31,20 @@ length-done_after lines done (issue ∷ script) = grind (arith, length-append, l
 
 logs_of-push : (done : List Entry) (entry : Entry) → entry.node < MAX_NODES
     → set (logs_by_node done) entry.node (log_of (logs_by_node done) entry.node ++ entry ∷ []) ≡ logs_by_node (done ++ entry ∷ [])
-logs_of-push done entry lt = grind (arith, length-map-range_with_len, fill_by_all, length-set, cases_eq, get_or-set_same, log_of-logs_of, filter_push_yes,
-    eq-eqb, get_or-set_other, filter_push_no, ne_eqb)
+logs_of-push done entry lt = grind (
+  arith,
+  length-map-range_with_len,
+  fill_by_all,
+  length-set,
+  cases_eq,
+  get_or-set_same,
+  log_of-logs_of,
+  filter_push_yes,
+  eq-eqb,
+  get_or-set_other,
+  filter_push_no,
+  ne_eqb,
+)
 
 stamped_at-below : (lines : ℕ) (done : List Entry) (line : ℕ) → line < lines → stamped_at (contents_left lines done) line ≡ stamped_of lines done line
 stamped_at-below lines done line lt = get_or-map-range_with_len (λ l. stamped_of lines done l) 0 lines line line zero_stamped lt (omega arith)

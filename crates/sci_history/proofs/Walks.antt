@@ -65,8 +65,18 @@ pub walk_more : (logs : List (List Entry)) (next : List ℕ) (starts : List (Opt
     → length starts ≡ MAX_NODES → get_or starts node None ≡ None → new ≡ steps ++ added → LeadsTo logs next added node to → to < MAX_NODES
     → get_or next to 0 < length (log_of logs to) → IsWalking logs next starts steps node met
     → IsWalking logs next (set starts node (Some (length steps))) new to (met + 1)
-walk_more logs next starts steps added new node to met long unmet is leads lt left walking = grind (arith, all-append, chain_joined, cases_eq, get_or-set_same,
-    at_end, get_or-set_other, still_all, marked_more, length-append)
+walk_more logs next starts steps added new node to met long unmet is leads lt left walking = grind (
+  arith,
+  all-append,
+  chain_joined,
+  cases_eq,
+  get_or-set_same,
+  at_end,
+  get_or-set_other,
+  still_all,
+  marked_more,
+  length-append,
+)
 
 -- ---- the end
 
