@@ -1,5 +1,5 @@
 -- What stands in front of a condition, and the condition, are the text that was read.
-use Rattle.std.proofs.Common.{◌≡◌, ℕ, List, ◌++◌, Option, take, drop, sym, ap, subst, ◌∙◌, inl}
+use Rattle.std.proofs.Common.{◌≡◌, ℕ, List, Option, take, drop, sym, subst, inl, arith}
 use Rattle.std.proofs.lemmas.List.{take-append-drop}
 use Rattle.sci_text.specs.declared.fault.{TextFault.{TextFault}, TextFaultKind.{TextFaultKind, TheVariants.{Syntax, Range, TooMany, Read, Write, Memory}}}
 use Rattle.sci_text.specs.{FirstFault.{IsRefusal, IsRefusalOf}, Script.{IsScript, ScriptValue, script_text}, ScriptFault.{IsScriptFault}}
@@ -21,11 +21,4 @@ module _ (bytes : List ℕ) (n : ℕ) (front : IsFrontLength bytes n) where
 -- the parts of a text are a script and the line of its condition
 pub conditioned_is : (bytes : List ℕ) (n : ℕ) (front line : List ℕ) (script same : ScriptValue) (last : Option FinalCondition) → front ≡ take n bytes
     → line ≡ drop n bytes → front ≡ script_text script → IsScript script → same ≡ script → IsSaidAs same last line → IsConditioned same last bytes
-conditioned_is bytes n front line script same last front_is line_is read good is said = record {
-  good = subst IsScript (sym is) good;
-  line = line;
-  parts = sym (take-append-drop n bytes)
-      ∙ (ap (λ (xs : List ℕ). xs ++ drop n bytes) (sym front_is ∙ read)
-      ∙ (ap (λ (xs : List ℕ). script_text script ++ xs) (sym line_is) ∙ ap (λ (s : ScriptValue). script_text s ++ line) (sym is)));
-  said = said;
-}
+conditioned_is bytes n front line script same last front_is line_is read good is said = grind (arith, take-append-drop)

@@ -1,5 +1,5 @@
 -- The operations of a script that is looked at are its machine's, and where their orders end is where its runs end.
-use Rattle.std.proofs.Common.{◌≡◌, ℕ, ◌+◌, ◌*◌, ◌<◌, ◌≤◌, List, [], ◌∷◌, ◌++◌, length, map, take, get_or, Result, Ok, Err, sym, ap, subst, ◌∙◌, arith}
+use Rattle.std.proofs.Common.{◌≡◌, ℕ, ◌+◌, ◌*◌, ◌<◌, List, [], ◌∷◌, ◌++◌, length, map, take, get_or, Result, Ok, Err, sym, ap, subst, ◌∙◌, arith}
 use Rattle.std.proofs.lemmas.List.{get_or_default, length-map, map-append, take_more, FromFn.{length-map-range_with_len}}
 use Rattle.std.specs.{List.{All}, Prelude.{IfOk, Vec}, declared.alloc.Global.{Global}}
 use Rattle.sci_words.specs.declared.{event.Event.{Event}, extent.Extent.{Extent}, limits.TheConstants.{MAX_OPERATIONS}, operation.Op.{Op}}
@@ -8,7 +8,7 @@ use Rattle.sci_core.specs.Size.{IsMachineSize, Size, size_of}
 use Rattle.sci_drive.specs.ScriptLogs.{size_for}
 use Rattle.sci_orders.proofs.{Reaching.{all_fit}, Stands.{within}, Ways.{holds_at}}
 use Rattle.sci_orders.specs.Orders.{HasRun, IsAmong, IsOrderOf, IsScriptOf}
-use Rattle.sci_orders.specs.{Eager.{AreTooMany}, Positions.{AreReachedIn, Fits, Operations, lists_of, operation_count, own_of, position_of}}
+use Rattle.sci_orders.specs.{Eager.{AreTooMany}, Positions.{AreReachedIn, Fits, Operations, lists_of, operation_count, position_of}}
 use Rattle.sci_orders.specs.{Witness.{seen}, declared.{fault.OrdersFault.{OrdersFault}, standing.{Answer.{Answer}, Standing.{Standing}}}}
 use Rattle.sci_allowed.proofs.Shares.{few_own, is_script, machine_size, size_is}
 use Rattle.sci_allowed.specs.Allowed.{AreSeenAt, HaveRuns, IsLitmus, seen_at, shares_of}
@@ -25,9 +25,7 @@ node_count litmus good =
     omega arith
 
 pub shares_good : (litmus : Litmus) → IsLitmus litmus → IsScriptOf (size_for litmus.script) (shares_of litmus.script)
-shares_good litmus good =
-    is_script litmus.script good.good (λ n.
-    subst (λ (ops : Operations). length (own_of ops n) ≤ MAX_OPERATIONS) good.shares (few_own litmus.operations.items good.few n))
+shares_good litmus good = grind (arith, is_script, few_own)
 
 module _ (litmus : Litmus) (extent : Extent) (operations : List (Vec Op Global)) (good : IsLitmus litmus) (nodes : extent.nodes ≡ litmus.script.nodes)
     (lines : extent.lines ≡ litmus.script.lines) (slots : extent.slots ≡ litmus.script.slots) (same : operations ≡ litmus.operations.items) where
@@ -41,9 +39,7 @@ module _ (litmus : Litmus) (extent : Extent) (operations : List (Vec Op Global))
   lists_same = ap (λ (ops : List (Vec Op Global)). lists_of ops) same ∙ good.shares
 
   pub script_good : IsScriptOf (size_of extent MAX_OPERATIONS) (lists_of operations)
-  script_good =
-      subst (λ (size : Size). IsScriptOf size (lists_of operations)) (sym size_same)
-      (subst (IsScriptOf (size_for litmus.script)) (sym lists_same) (shares_good litmus good))
+  script_good = grind (arith, size_same, lists_same, shares_good)
 
   -- what holds of the machine and the operations that are asked about holds of the script's
   module _ (P : Size → Operations → ℕ → Type 0) (waiting window : ℕ) (is : waiting ≡ window) where

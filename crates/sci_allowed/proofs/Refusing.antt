@@ -1,5 +1,5 @@
 -- Why nothing is shown of the script is why the command is refused, and what is shown is its answer.
-use Rattle.std.proofs.Common.{◌≡◌, ℕ, Bool, true, false, List, Option, None, Some, refl, sym, subst, inl, inr}
+use Rattle.std.proofs.Common.{◌≡◌, ℕ, Bool, true, false, List, Option, None, Some, refl, sym, subst, inl, inr, arith}
 use Rattle.std.specs.Prelude.{IsSome}
 use Rattle.sci_text.specs.{FirstFault.{AreRead, IsTold}, Script.{ScriptValue}, declared.fault.TextFaultKind.{TextFaultKind}}
 use Rattle.sci_drive.specs.Rounds.{most_pending}
@@ -62,6 +62,4 @@ module _ (request : AllowedRequest) (script : ScriptValue) (last : Option FinalC
 
   pub answered_for : (out : List ℕ) (ends : ending.Outcome) → IsTextOf script (most_pending request.issuing) request.show last out ends
       → (ends ≡ Refused → ⊥) × IsAllowedAnswer request known failed out ends
-  answered_for out ends is =
-      let how = shown_ends request.show out ends is in
-      answered out ends how.0 how.1 (unfailed, (text.0, text.1, record { script = script; last = last; read = text.2; written = is }))
+  answered_for out ends is = grind (arith, shown_ends, answered)

@@ -28,31 +28,20 @@ module _ {X : Type 0} (E : X → X → Bool) (same : (a b : X) → E a b ≡ tru
 -- ---- three numbers
 
 numbers_same : (a b c x y z : ℕ) → (nat_eq a x && (nat_eq b y && nat_eq c z)) ≡ true → (a ≡ x) × ((b ≡ y) × (c ≡ z))
-numbers_same a b c x y z is =
-    let first = and_parts (nat_eq a x) (nat_eq b y && nat_eq c z) is in
-    let second = and_parts (nat_eq b y) (nat_eq c z) first.1 in
-    (eqb-true a x first.0, (eqb-true b y second.0, eqb-true c z second.1))
+numbers_same a b c x y z is = grind (arith, and_parts, nat_eq, eqb-true)
 
 numbers_equal : (a b c : ℕ) → (nat_eq a a && (nat_eq b b && nat_eq c c)) ≡ true
 numbers_equal a b c =
     and_from (nat_eq a a) (nat_eq b b && nat_eq c c) (eq-eqb a a refl) (and_from (nat_eq b b) (nat_eq c c) (eq-eqb b b refl) (eq-eqb c c refl))
 
 same_replied : (a b : Replied) → (replies.ghosts).eq a b ≡ true → a ≡ b
-same_replied a b is =
-    let all = numbers_same a.node a.serial a.word b.node b.serial b.word is in
-    ap (λ (n : ℕ). let r : Replied = record { node = n; serial = a.serial; word = a.word } in r) all.0
-    ∙ (ap (λ (n : ℕ). let r : Replied = record { node = b.node; serial = n; word = a.word } in r) all.1.0
-    ∙ ap (λ (n : ℕ). let r : Replied = record { node = b.node; serial = b.serial; word = n } in r) all.1.1)
+same_replied a b is = grind (arith, numbers_same)
 
 equal_replied : (a : Replied) → (replies.ghosts).eq a a ≡ true
 equal_replied a = numbers_equal a.node a.serial a.word
 
 same_held : (a b : FinalWord) → (held.ghosts).eq a b ≡ true → a ≡ b
-same_held a b is =
-    let all = numbers_same a.line a.word a.value b.line b.word b.value is in
-    ap (λ (n : ℕ). let h : FinalWord = record { line = n; word = a.word; value = a.value } in h) all.0
-    ∙ (ap (λ (n : ℕ). let h : FinalWord = record { line = b.line; word = n; value = a.value } in h) all.1.0
-    ∙ ap (λ (n : ℕ). let h : FinalWord = record { line = b.line; word = b.word; value = n } in h) all.1.1)
+same_held a b is = grind (arith, numbers_same)
 
 equal_held : (a : FinalWord) → (held.ghosts).eq a a ≡ true
 equal_held a = numbers_equal a.line a.word a.value
@@ -63,13 +52,7 @@ pub same_shown : (a b : Shown) → a.replies ≡ b.replies → a.last ≡ b.last
 same_shown a b replies last = grind arith
 
 pub same_outcome : (a b : Outcome) → (outcomes.ghosts).eq a b ≡ true → shown_of a ≡ shown_of b
-same_outcome a b is =
-    let both = and_parts (pointwise (replies.ghosts).eq a.replies.items b.replies.items) (pointwise (held.ghosts).eq a.last.items b.last.items) is in
-    same_shown (shown_of a) (shown_of b) (same_each (replies.ghosts).eq same_replied equal_replied a.replies.items b.replies.items both.0)
-    (same_each (held.ghosts).eq same_held equal_held a.last.items b.last.items both.1)
+same_outcome a b is = grind (arith, and_parts, same_shown, same_each, same_replied, equal_replied, same_held, equal_held)
 
 pub equal_outcome : (a b : Outcome) → shown_of a ≡ shown_of b → (outcomes.ghosts).eq a b ≡ true
-equal_outcome a b same =
-    and_from (pointwise (replies.ghosts).eq a.replies.items b.replies.items) (pointwise (held.ghosts).eq a.last.items b.last.items)
-    (equal_each (replies.ghosts).eq same_replied equal_replied a.replies.items b.replies.items (ap (λ (s : Shown). s.replies) same))
-    (equal_each (held.ghosts).eq same_held equal_held a.last.items b.last.items (ap (λ (s : Shown). s.last) same))
+equal_outcome a b same = grind (arith, and_from, equal_each, same_replied, equal_replied, same_held, equal_held)

@@ -64,11 +64,5 @@ schedule_value extent events = record { nodes = extent.nodes; lines = extent.lin
 pub schedule_is : (script : ScriptValue) (window : ℕ) (outcome : Outcome) (extent : Extent) (events : List Event) (made : Result ScheduleValue AllowedFault)
     → extent.nodes ≡ script.nodes → extent.lines ≡ script.lines → extent.slots ≡ script.slots → IfOk made (λ schedule. schedule ≡ schedule_value extent events)
     → IfOk made IsSchedule → IsRunTo script window (shown_of outcome) events → IfOk made (IsScheduleTo script window outcome)
-schedule_is script window outcome extent events (Ok schedule) nodes lines slots is good run = record {
-  good = good;
-  nodes = ap (λ (s : ScheduleValue). s.nodes) is ∙ nodes;
-  lines = ap (λ (s : ScheduleValue). s.lines) is ∙ lines;
-  slots = ap (λ (s : ScheduleValue). s.slots) is ∙ slots;
-  run = subst (IsRunTo script window (shown_of outcome)) (sym (ap (λ (s : ScheduleValue). s.events) is)) run;
-}
+schedule_is script window outcome extent events (Ok schedule) nodes lines slots is good run = grind arith
 schedule_is script window outcome extent events (Err fault) nodes lines slots is good run = tt

@@ -6,8 +6,8 @@ use Rattle.sci_words.specs.declared.{stamped.Stamped.{Stamped}}
 use Rattle.sci_history.specs.declared.entry.Entry.{Entry}
 use Rattle.sci_core.specs.Size.{Size}
 use Rattle.sci_orders.specs.{Orders.{IsOutcomeOf}, Positions.{Operations, Position, answer_at, own_of}}
-use Rattle.sci_allowed.{proofs.Sameness.{same_shown}, specs.Outcome.{IsPlaceWithin, held_in, replied_at, replies_at, replies_on, shown_at}}
-use Rattle.sci_allowed.specs.declared.{outcome.{FinalWord.{FinalWord}, Replied.{Replied}}, place.Place.{Place}}
+use Rattle.sci_allowed.{proofs.Sameness.{same_shown}, specs.Outcome.{IsPlaceWithin, held_in, replies_at, replies_on, shown_at}}
+use Rattle.sci_allowed.specs.declared.{outcome.{Replied.{Replied}}, place.Place.{Place}}
 
 -- what two functions give of the numbers from one on is the same, if they give the same of each
 pub gives_same : {Y : Type 0} (f g : ℕ → Option Y) (a n : ℕ) → ((i : ℕ) → i < a + n → f i ≡ g i)
@@ -34,18 +34,14 @@ module _ (size : Size) (operations : Operations) (entries : List Entry) (content
       sym (at p) ∙ ((one.each e has.1).reply ∙ (sym ((other.each e has.1).reply) ∙ at q))
 
   same_replies_on : (n : ℕ) → replies_on operations p n ≡ replies_on operations q n
-  same_replies_on n =
-      gives_same (λ i. replied_at n i (answer_at p n i)) (λ i. replied_at n i (answer_at q n i)) 0 (length (own_of operations n))
-      (λ i low. ap (replied_at n i) (same_answer n i (omega arith)))
+  same_replies_on n = grind (arith, gives_same, same_answer)
 
   same_replies : replies_at operations p ≡ replies_at operations q
   same_replies =
       ap (λ (f : ℕ → List Replied). flat_map f (range_with_len 0 (length operations))) (fun_ext (λ (n : ℕ). same_replies_on n))
 
   same_word : (place : Place) → IsPlaceWithin size.lines place → held_in p place ≡ held_in q place
-  same_word place within =
-      ap (λ (word : ℕ). let h : FinalWord = record { line = place.line; word = place.word; value = word } in h)
-      (one.words place.line place.word within.0 within.1 ∙ sym (other.words place.line place.word within.0 within.1))
+  same_word place within = grind arith
 
   pub shown_same : (places : List Place) → All (IsPlaceWithin size.lines) places → shown_at operations places p ≡ shown_at operations places q
   shown_same places within =

@@ -12,7 +12,7 @@ use Rattle.sci_words.specs.declared.operation.{Act.{Act}, LockOp.{LockOp}, Op.{O
 use Rattle.sci_words.specs.declared.operation.LockOp.TheVariants.{MaskSwap, CompareSwap, FetchAdd, BoundedAdd, WrapAdd}
 use Rattle.sci_words.specs.declared.{limits.TheConstants.{MAX_OPERATIONS}, operation.Act.TheVariants.{Load, Store, Lock}}
 use Rattle.sci_text.specs.{Operation.{ActFits, LockFits}, Script.{IsScript, IsWithin, ScriptValue, operations_of}}
-use Rattle.sci_core.specs.Size.{IsMachineSize, Size, size_of}
+use Rattle.sci_core.specs.Size.{IsMachineSize, size_of}
 use Rattle.sci_drive.specs.ScriptLogs.{size_for}
 use Rattle.sci_orders.specs.{Orders.{IsScriptOf}, Positions.{lists_of, no_operation, operation_at, own_of}, Witness.{IsOperation}}
 use Rattle.sci_allowed.specs.Allowed.{shares_of}
@@ -25,9 +25,7 @@ own_is_share script n below =
 
 -- a node that isn't the machine's has none
 pub no_share : (script : ScriptValue) (n : ℕ) → script.nodes ≤ n → own_of (shares_of script) n ≡ []
-no_share script n past =
-    let long = length-map-range_with_len (λ (node : ℕ). operations_of node script.operations) 0 script.nodes in
-    get_or_past (shares_of script) n [] (omega arith)
+no_share script n past = grind (arith, length-map-range_with_len, get_or_past)
 
 share_at : {Z : Type 0} (script : ScriptValue) (vecs : List (Vec Op Z)) (k : ℕ) (d : List Op) → length vecs ≡ script.nodes
     → ((node : ℕ) (e : Vec Op Z) → node < script.nodes → (slice_index_or vecs node e).items ≡ operations_of node script.operations)
@@ -40,11 +38,7 @@ share_at {Z = Z} script (vec ∷ vecs) k d nodes each below =
 pub shares_are : {Z : Type 0} (script : ScriptValue) (vecs : List (Vec Op Z)) → length vecs ≡ script.nodes
     → ((node : ℕ) (d : Vec Op Z) → node < script.nodes → (slice_index_or vecs node d).items ≡ operations_of node script.operations)
     → lists_of vecs ≡ shares_of script
-shares_are {Z = Z} script vecs nodes each =
-    let items = λ (vec : Vec Op Z). vec.items in
-    let long = length-map vecs items in
-    let longs = length-map-range_with_len (λ (node : ℕ). operations_of node script.operations) 0 script.nodes in
-    same_lists (lists_of vecs) (shares_of script) (omega arith) (λ k d below. share_at script vecs k d nodes each (omega arith))
+shares_are {Z = Z} script vecs nodes each = grind (arith, length-map, length-map-range_with_len, same_lists, share_at)
 
 -- ---- they are the machine's
 
@@ -110,10 +104,7 @@ machine_size script good = record { extent = good.size; some_operation = (omega 
 
 pub size_is : (script : ScriptValue) (extent : Extent) → extent.nodes ≡ script.nodes → extent.lines ≡ script.lines → extent.slots ≡ script.slots
     → size_of extent MAX_OPERATIONS ≡ size_for script
-size_is script extent nodes lines slots =
-    ap (λ (n : ℕ). let s : Size = record { nodes = n; lines = extent.lines; slots = extent.slots; limit = MAX_OPERATIONS } in s) nodes
-    ∙ (ap (λ (n : ℕ). let s : Size = record { nodes = script.nodes; lines = n; slots = extent.slots; limit = MAX_OPERATIONS } in s) lines
-    ∙ ap (λ (n : ℕ). let s : Size = record { nodes = script.nodes; lines = script.lines; slots = n; limit = MAX_OPERATIONS } in s) slots)
+size_is script extent nodes lines slots = grind arith
 
 few_below : {Z : Type 0} (vecs : List (Vec Op Z)) → All (λ own. length own.items ≤ MAX_OPERATIONS) vecs → (n : ℕ) → n < length vecs
     → length (own_of (lists_of vecs) n) ≤ MAX_OPERATIONS
@@ -125,10 +116,4 @@ few_below {Z = Z} (vec ∷ vecs) all n lt =
 -- no node of a script has more operations than a node may issue
 pub few_own : {Z : Type 0} (vecs : List (Vec Op Z)) → All (λ own. length own.items ≤ MAX_OPERATIONS) vecs → (n : ℕ)
     → length (own_of (lists_of vecs) n) ≤ MAX_OPERATIONS
-few_own vecs all n = elim (cases_lt n (length vecs)) [
-  | inl lt ↦ few_below vecs all n lt
-  | inr past ↦ (
-      let long = length-map vecs (λ (v : _). v.items) in
-      let none : length (own_of (lists_of vecs) n) ≡ 0 = ap (λ (own : List Op). length own) (get_or_past (lists_of vecs) n [] (omega arith)) in
-      omega arith)
-]
+few_own vecs all n = grind (arith, cases_lt, few_below, length-map, get_or_past)

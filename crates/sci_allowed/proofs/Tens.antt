@@ -115,11 +115,7 @@ enough_issues operations order issued =
 
 pub ten_each : (size : Size) (operations : Operations) (window : ℕ) (order : List Event) → IsOrderOf operations window order
     → length (schedule_of size order) ≤ operation_count operations * 10
-ten_each size operations window order is =
-    let long = schedule_long size order in
-    let enough = enough_issues operations order (λ n below. is.issued n) in
-    let whole = is.whole in
-    omega arith
+ten_each size operations window order is = grind (arith, schedule_long, enough_issues)
 
 -- ---- and the shares of a script are its operations
 

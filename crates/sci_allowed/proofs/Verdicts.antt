@@ -1,11 +1,11 @@
 -- What is true of all outcomes of a script is true of its runs.
-use Rattle.std.proofs.Common.{◌≡◌, ◌↔◌, ℕ, Bool, true, false, List, [], ◌∷◌, ◌++◌, map, Option, None, Some, refl, sym, ap, subst, ◌∙◌}
+use Rattle.std.proofs.Common.{◌≡◌, ◌↔◌, ℕ, Bool, true, false, List, [], ◌∷◌, ◌++◌, map, Option, None, Some, refl, sym, ap, ◌∙◌, arith}
 use Rattle.std.proofs.lemmas.List.{append-nil, Elements.{All-contains}, Folds.{Any-from_list_any, list_any-from_Any}}
 use Rattle.std.specs.{List.{list_all, list_any}, Prelude.{not, ◌&&◌, ◌||◌}}
 use Rattle.sci_text.specs.Script.{ScriptValue}
 use Rattle.sci_allowed.specs.Allowed.{AreRows, IsAllowed}
 use Rattle.sci_allowed.specs.{Condition.{satisfies}, Outcome.{Shown, shown_of}}
-use Rattle.sci_allowed.specs.Verdict.{AddsVerdict, IsTrueOf, IsVerdict, is_true_of, verdict_text}
+use Rattle.sci_allowed.specs.Verdict.{AddsVerdict, IsTrueOf, IsVerdict, is_true_of}
 use Rattle.sci_allowed.specs.declared.condition.{Condition.{Condition}, FinalCondition.{FinalCondition}}
 use Rattle.sci_allowed.specs.declared.condition.Quantifier.{Quantifier, TheVariants.{Exists, Forall, Never}}
 use Rattle.sci_allowed.specs.declared.{outcome.Outcome.{Outcome}, rows.AllowedRow.{AllowedRow}}
@@ -81,6 +81,4 @@ pub verdict_is : (script : ScriptValue) (window : ℕ) (rows : List AllowedRow) 
     (old new : List ℕ) (ends : ending.Outcome) → AddsVerdict last rows old new ends
     → (text : List ℕ) × (new ≡ old ++ text) × IsVerdict script window last text ends
 verdict_is script window rows all None old new ends (same, is) = ([], same ∙ sym (append-nil old), (refl, is))
-verdict_is script window rows all (Some said) old new ends (added, is) =
-    let is_true = is_true_of said.quantifier said.condition rows in
-    (verdict_text is_true, added, (is_true, refl, is, true_of script window rows all said.quantifier said.condition))
+verdict_is script window rows all (Some said) old new ends (added, is) = grind (arith, true_of)

@@ -1,5 +1,5 @@
 -- The events of the schedule of a way are the machine's.
-use Rattle.std.proofs.Common.{◌==◌, ◌%◌, ℕ, ◌<◌, ◌≤◌, Bool, true, false, if◌then◌else◌, List, [], ◌∷◌, length, sym, subst, arith}
+use Rattle.std.proofs.Common.{◌==◌, ℕ, ◌<◌, ◌≤◌, Bool, true, false, if◌then◌else◌, List, [], ◌∷◌, length, sym, subst, arith}
 use Rattle.std.proofs.lemmas.List.Elements.{All-append, All-cons, All-from_recursion, All-head, All-tail}
 use Rattle.sci_words.specs.declared.{event.Event.{Event}}
 use Rattle.sci_text.specs.{Schedule.{AreEventsWithin, IsEventWithin}, Script.{IsWithin}}
@@ -9,10 +9,7 @@ use Rattle.sci_words.specs.declared.event.Event.TheVariants as event
 
 module _ (size : Size) (some : 1 ≤ size.nodes) where
   turn_within : (e : Event) → IsEventWithin size.nodes size.lines e → AreEventsWithin size.nodes size.lines (turn_of size e)
-  turn_within (event.Perform n line) (node, low) =
-      let home : line % size.nodes < size.nodes = omega arith in
-      All-from_recursion (IsEventWithin size.nodes size.lines) (turn_of size (event.Perform n line))
-      ((node, low), ((node, home), (home, ((home, node), ((node, low), ((node, low), ((node, home), (home, ((home, node), tt)))))))))
+  turn_within (event.Perform n line) (node, low) = grind arith
   turn_within e within = All-from_recursion (IsEventWithin size.nodes size.lines) (e ∷ []) (within, tt)
 
   pub schedule_within : (order : List Event) → AreEventsWithin size.nodes size.lines order → AreEventsWithin size.nodes size.lines (schedule_of size order)

@@ -4,9 +4,8 @@ use Rattle.std.proofs.{Common.{append_assoc, add-one}, lemmas.List.{append-nil, 
 use Rattle.std.proofs.lemmas.List.FromFn.{filter_of_map_range_with_len_more, get_or-map-range_with_len, length-map-range_with_len, map-range_with_len_more}
 use Rattle.std.proofs.lemmas.List.Elements.{All-append, All-filter}
 use Rattle.std.proofs.{Math.Bool.{or-false}, lemmas.List.Folds.{list_any_more}}
-use Rattle.std.specs.Cmp.{unsigned_tied}
 use Rattle.std.specs.{Prelude.{filter, length, take, get_or, ◌==◌, ◌&&◌, ◌||◌, Bool}, List.{flat_map, range_with_len}, BTreeSet.{BTreeSet, contains}}
-use Rattle.std.specs.Ordering.{is_eq, nat_cmp, ordering_then}
+use Rattle.std.specs.Ordering.{is_eq, ordering_then}
 use Rattle.std.specs.declared.cmp.Ordering.{Ordering, TheVariants.{Less, Equal, Greater}}
 use Rattle.sci_words.specs.{Operation.{is_maker}, declared.{limits.TheConstants.{WORDS_PER_LINE}, operation.Op.{Op}}}
 use Rattle.sci_allowed.specs.declared.place.Place.{Place}
@@ -59,10 +58,7 @@ places_more operations line old new before added =
 -- the words of a line are within it
 word_within : (line lines words : ℕ) → line < lines → words ≤ WORDS_PER_LINE
     → All (IsPlaceWithin lines) (map (λ word. record { line = line; word = word }) (range_with_len 0 words))
-word_within line lines words below few = λ k d lt.
-    let place = λ (w : ℕ). let p : Place = record { line = line; word = w } in p in
-    let short : k < words = subst (λ (n : ℕ). k < n) (length-map-range_with_len place 0 words) lt in
-    subst (IsPlaceWithin lines) (sym (get_or-map-range_with_len place 0 words k k d short (omega arith))) (below, omega arith)
+word_within line lines words below few = grind (arith, length-map-range_with_len, get_or-map-range_with_len)
 
 line_within : (operations : List (ℕ × Op)) (line lines : ℕ) → line < lines → All (IsPlaceWithin lines) (written_on operations line)
 line_within operations line lines below =
@@ -86,9 +82,7 @@ eq_then Equal b = refl
 eq_then Greater b = refl
 
 same_place : (a b : Place) → is_eq (place_cmp a b) ≡ ((a.line == b.line) && (a.word == b.word))
-same_place a b =
-    eq_then (nat_cmp a.line b.line) (nat_cmp a.word b.word)
-    ∙ (ap (λ p. p && is_eq (nat_cmp a.word b.word)) (unsigned_tied a.line b.line) ∙ ap (λ p. (a.line == b.line) && p) (unsigned_tied a.word b.word))
+same_place a b = grind (arith, eq_then)
 
 or_from : (same there : Bool) → cond same true there ≡ (there || same)
 or_from true true = refl

@@ -1,5 +1,5 @@
 -- Conditions on the outcomes of a script: their text, and which outcomes satisfy them.
-use Rattle.std.specs.Prelude.{◌≡◌, ◌≤◌, ℕ, ◌==◌, ◌&&◌, ◌||◌, not, Bool, true, false, List, [], ◌∷◌, ◌++◌, codes, Option, Some, None, slice_get}
+use Rattle.std.specs.Prelude.{◌≡◌, ◌≤◌, ℕ, ◌==◌, ◌&&◌, ◌||◌, not, Bool, true, false, List, ◌++◌, codes, Option, Some, None, slice_get}
 use Rattle.std.specs.List.{list_any}
 use Rattle.sci_words.specs.declared.operation.{Act.{Act, TheVariants.{Load, Store, Lock}}, Op.{Op}}
 use Rattle.sci_text.specs.{Number.{number}, Script.{ScriptValue}}

@@ -1,6 +1,6 @@
 -- The text of a script that may end in a condition, and its faults.
 use Rattle.std.specs.Prelude.{◌≡◌, ◌≢◌, ◌⊎◌, ℕ, ◌<◌, ◌≤◌, ◌+◌, ◌-◌, List, [], ◌∷◌, ◌++◌, codes, drop, length, Option, None, Some, slice_index, take}
-use Rattle.sci_text.specs.{declared.fault.{TextFault.{TextFault}, TextFaultKind.{TextFaultKind, TheVariants.{Memory, Range, Syntax}}}, FirstFault.{IsRefusal}}
+use Rattle.sci_text.specs.{declared.fault.{TextFault.{TextFault}, TextFaultKind.{TextFaultKind, TheVariants.{Memory, Range, Syntax}}}}
 use Rattle.sci_text.specs.{Script.{IsScript, ScriptValue, script_text}, ScriptFault.{IsScriptFault}}
 use Rattle.sci_allowed.specs.Condition.{AreTermsOf, IsGrouped, condition_text, quantifier_word}
 use Rattle.sci_allowed.specs.declared.condition.{FinalCondition.{FinalCondition}, Quantifier.{Quantifier}}

@@ -1,3 +1,4 @@
+use Rattle.std.proofs.Common.{arith}
 -- What is shown of the script is the answer, and why nothing is shown is why it is refused.
 use Rattle.sci_text.specs.Tap.{has_failed, tapped}
 use Rattle.sci_allowed.proofs.Refusing.{answered_for, refused_for}
@@ -15,10 +16,4 @@ returns g c =
     )
 
 pub returns-in-Ok : goal.returns-in-Ok
-returns-in-Ok g c =
-    let read = c.in_ok-litmus.ensures in
-    let answer = c.in-Ok.answer in (
-      answered_for c.args.request _ _ (g.R.Read.remaining (tapped c.args.reader.now)) (has_failed c.read_conditioned.new.reader) read.unfailed
-          read.text answer.text.items answer.outcome c.in-Ok.ensures.text,
-      c.read_conditioned.ensures.again,
-    )
+returns-in-Ok g c = grind (arith, answered_for)

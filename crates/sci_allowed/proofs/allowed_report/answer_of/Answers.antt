@@ -1,4 +1,4 @@
-use Rattle.std.proofs.Common.{◌≡◌, ℕ, List, Option, None, sym, subst}
+use Rattle.std.proofs.Common.{ℕ, Option, sym, subst}
 use Rattle.sci_drive.specs.Rounds.{most_pending}
 use Rattle.sci_allowed.specs.{Allowed.{AreRows}, AllowedAnswer.{IsTextOf, rows_text}}
 use Rattle.sci_allowed.proofs.Verdicts.{verdict_is}

@@ -1,4 +1,4 @@
-use Rattle.std.proofs.Common.{◌≡◌, ℕ, List, length, sym, subst, ◌∙◌}
+use Rattle.std.proofs.Common.{ℕ, List, subst, arith}
 use Rattle.std.proofs.lemmas.{Bool.{eqb-true}, List.{nil_from_length}}
 use Rattle.sci_text.specs.{FirstFault.{IsRefusal}, ScriptFault.{IsScriptFault}}
 use Rattle.sci_allowed.proofs.LineFaults.{conditioned_is, front_refusal}
@@ -10,9 +10,4 @@ returns-in-Err-clause-fault c =
     (subst (λ (bytes : List ℕ). IsRefusal IsScriptFault bytes c.in-Err.fault) c.split_at.ensures.front c.in-Err.ensures.fault)
 
 pub returns-then-is_empty-clause-ok : goal.returns-then-is_empty-clause-ok
-returns-then-is_empty-clause-ok c =
-    let empty : length c.split_at.result.1.now ≡ 0 =
-    eqb-true (length c.split_at.result.1.now) 0 (sym c.is_empty.ensures ∙ c.if-is_empty.true) in
-    conditioned_is c.args.input.now c.front_length.result c.split_at.result.0.now c.split_at.result.1.now c.in-Ok.script c.in_ok-litmus.litmus.script _
-    c.split_at.ensures.front c.split_at.ensures.back c.in-Ok.ensures.ok c.in-Ok.ensures.good c.in_ok-litmus.ensures.script
-    (nil_from_length c.split_at.result.1.now empty)
+returns-then-is_empty-clause-ok c = grind (arith, eqb-true, conditioned_is, nil_from_length)

@@ -1,14 +1,12 @@
 -- Some standing has the outcome.
-use Rattle.std.proofs.Common.{◌≡◌, true, false, length, refl, sym, ap, subst, ◌∙◌, arith, inl, inr}
+use Rattle.std.proofs.Common.{◌≡◌, true, false, refl, sym, ap, ◌∙◌, arith, inl, inr}
 use Rattle.std.proofs.lemmas.Bool.{cases_lt}
 use Rattle.sci_orders.{proofs.Ways.{item_at}, specs.{Positions.{position_of}, declared.standing.Standing.{Standing}}}
 use Rattle.sci_allowed.{proofs.Sameness.{equal_outcome, same_outcome}, specs.{Allowed.{seen_at}}}
 use Rattle.sci_allowed.proofs.showing.place_of.Goals as goal
 
 pub outcome_of-requires-clause-nodes : goal.outcome_of-requires-clause-nodes
-outcome_of-requires-clause-nodes c =
-    subst (λ (s : Standing). length s.answers.items ≡ c.args.litmus.now.script.nodes) (sym c.index-standings-place.is)
-    (c.requires.nodes c.loop-place.place c.index-standings-place.result c.loop-place-test.true)
+outcome_of-requires-clause-nodes c = grind arith
 
 pub returns-then-eq : goal.returns-then-eq
 returns-then-eq c =

@@ -1,8 +1,7 @@
-use Rattle.std.proofs.{Common.{◌≤◌, List, length, sym, ap, subst, ◌∙◌, arith}, lemmas.Result.{IfOk-weaker}}
+use Rattle.std.proofs.{Common.{◌≤◌, List, length, sym, ap, subst, ◌∙◌, arith}}
 use Rattle.std.specs.{List.{All}, Prelude.{Vec}, declared.alloc.Global.{Global}}
 use Rattle.sci_words.specs.declared.{limits.TheConstants.{MAX_OPERATIONS}, operation.Op.{Op}}
-use Rattle.sci_orders.specs.Positions.{Operations, lists_of, position_of}
-use Rattle.sci_allowed.{proofs.Litmuses.{node_count}, specs.{Allowed.{shares_of}, Outcome.{shown_at}, declared.place.Place.{Place}}}
+use Rattle.sci_allowed.{proofs.Litmuses.{node_count}}
 use Rattle.sci_allowed.proofs.litmus.Litmus.outcome_of.Goals as goal
 
 pub outcome_of-requires-clause-nodes : goal.outcome_of-requires-clause-nodes
@@ -23,10 +22,4 @@ outcome_of-requires-clause-answers c =
     c.requires.nodes ∙ (sym count ∙ sym same)
 
 pub returns : goal.returns
-returns c =
-    let p = position_of c.args.standing.now in
-    IfOk-weaker c.outcome_of.result _ _ (λ outcome so.
-    so ∙ (ap (λ (ops : Operations). shown_at ops c.deref-2.result.now p)
-    (ap (λ (ops : List (Vec Op Global)). lists_of ops) c.deref.ensures.value ∙ c.requires.litmus.shares)
-    ∙ ap (λ (places : List Place). shown_at (shares_of c.args.self.now.script) places p) (c.deref-2.ensures.value ∙ c.requires.litmus.places)))
-    c.outcome_of.ensures
+returns c = grind arith

@@ -4,9 +4,7 @@ use Rattle.sci_allowed.{proofs.Litmuses.{seen_more}, specs.{Allowed.{AreSeenAt}}
 use Rattle.sci_allowed.proofs.litmus.Litmus.outcomes_of.Goals as goal
 
 pub outcome_of-requires-clause-nodes : goal.outcome_of-requires-clause-nodes
-outcome_of-requires-clause-nodes c =
-    subst (λ (s : Standing). length s.answers.items ≡ c.args.self.now.script.nodes) (sym c.standing-item.is)
-    (c.requires.nodes c.loop-standing.standing-index c.standing-item.result c.loop-standing-test.true)
+outcome_of-requires-clause-nodes c = grind arith
 
 pub loop-standing-preserved : goal.loop-standing-preserved
 loop-standing-preserved c =
