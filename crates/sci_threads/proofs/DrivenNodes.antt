@@ -1,20 +1,20 @@
 -- What the shares of a run have done, at the nodes of the machine.
-use Rattle.std.proofs.Common.{◌≡◌, ◌<◌, ℕ, List, [], ◌∷◌, All, length, map, refl, sym, ap, subst, ◌∙◌, inl, inr, arith}
+use Rattle.std.proofs.Common.{◌≡◌, ◌<◌, ℕ, List, [], ◌∷◌, All, length, map, refl, sym, ap, subst, ◌∙◌, arith}
 use Rattle.std.proofs.Common.{Bool, true, false, Some, Result, Ok, Err, Vec}
-use Rattle.std.proofs.lemmas.{List.{get_or-map, length-map}, Option.{slice_get-get_or, slice_get-map}, Result.{IfOk-at_ok}}
-use Rattle.std.specs.{Prelude.{◌⊎◌, ◌↔◌, IsOk, option_map, slice_get, slice_index_or}}
+use Rattle.std.proofs.lemmas.{List.{get_or-map, length-map}, Option.{slice_get-get_or, slice_get-map}}
+use Rattle.std.specs.{Prelude.{◌↔◌, IsOk, option_map, slice_get, slice_index_or}}
 use Rattle.atomic_table.specs.Seated.{TableId}
 use Rattle.sci_words.specs.declared.{event.Event.{Event}, operation.Op.{Op}, stamped.Stamped.{Stamped}}
 use Rattle.sci_history.specs.declared.entry.Entry.{Entry}
 use Rattle.sci_text.specs.Script.{ScriptValue}
 use Rattle.sci_core.specs.{Core.{Core, node_at}, Outcome.{logs_of}, Sharing.{last_of}, Size.{Size}}
 use Rattle.sci_lanes.specs.{Ends.{EndOf}, Gathering.{IsLedTo, IsStateOf}, Shown.{me_of, opening_part}}
-use Rattle.sci_drive.specs.{declared.driver.Issuing.{Issuing}, Calls.{AreCalls, Call}, Driving.{DriverOf, opening_driver}}
+use Rattle.sci_drive.specs.{declared.driver.Issuing.{Issuing}, Calls.{Call}, Driving.{opening_driver}}
 use Rattle.sci_drive.proofs.GateCalls.{calls_of, told_once}
 use Rattle.sci_station.specs.Station.{StationOf, end_in, opening_station}
-use Rattle.sci_threads.specs.{declared.share.Share.{Share}, Slices.{AreDrivenThrough, AreDrivenSlices, IsDrivenThrough, IsStationOf}}
+use Rattle.sci_threads.specs.{declared.share.Share.{Share}, Slices.{AreDrivenThrough, IsDrivenThrough, IsStationOf}}
 use Rattle.sci_text.specs.Script.{operations_of}
-use Rattle.sci_threads.specs.Shares.{AllGoOn, AreLedTo, AreWell, IsLaterShare, HasEnded, IsOpened, IsWell, TakesTurns, own_of}
+use Rattle.sci_threads.specs.Shares.{AllGoOn, AreLedTo, AreWell, IsLaterShare, HasEnded, IsOpened, IsWell, own_of}
 use Rattle.sci_threads.proofs.RunStations.{led_by, opened, opened_at, opened_long, own_is}
 
 same_ok : {E : Type 0} (r : Result Bool E) (x y : Bool) → r ≡ Ok x → r ≡ Ok y → x ≡ y
@@ -45,40 +45,7 @@ module _ {G : Type 0} (hears : G → List Call → G → Type 0) (issuing : Issu
   driven_by : (old new : Share G) (finished : Bool) → IsOpened issuing operations turns old → old.station.end.part.node.log ≡ [] → IsLaterShare hears old new
       → IsWell new.driver new.station.end new.finished → HasEnded new → new.finished ≡ Ok finished
       → IsDrivenThrough hears turns issuing (operations (me_of old.station.end.part)) old.gate old.station new.station finished
-  driven_by old new finished opened empty gone well ended is =
-      let script = operations (me_of old.station.end.part) in
-      let x = old.station.end.part.node in
-      let y = new.station.end.part.node in
-      let calls = gone.heard.calls in
-      let rounds = IfOk-at_ok _ is gone.rounds in
-      let unfinished : rounds.0 ≡ false = same_ok old.finished rounds.0 false rounds.1 opened.unfinished in
-      let took : TakesTurns hears old new false finished = subst (λ (had : Bool). TakesTurns hears old new had finished) unfinished rounds.2 in
-      let are : AreCalls (opening_driver script issuing) new.driver x y calls =
-      subst (λ (d : DriverOf). AreCalls d new.driver x y calls) opened.driver gone.heard.are in
-      let over : (finished ≡ true) ⊎ (new.left ≡ 0) = IfOk-at_ok (λ (all : Bool). (all ≡ true) ⊎ (new.left ≡ 0)) is ended in
-      let all = opened.left in
-      let fewer = took.fewer in record {
-        later = new.gate;
-        driver = new.driver;
-        slices = took.slices;
-        deeds = took.deeds;
-        gone = subst (λ (d : DriverOf). AreDrivenSlices hears took.slices false finished took.deeds old.gate new.gate d new.driver x y) opened.driver took.gone;
-        does = took.does;
-        few = omega arith;
-        calls = calls;
-        heard = gone.heard.heard;
-        are = calls_of script issuing new.driver x y calls empty well.driven are;
-        ended = λ done.
-            let at = IfOk-at_ok _ is well.answered done in record {
-              answered = (at.0, at.1);
-              once = told_once script issuing new.driver x y calls at.2 are;
-              all_done = elim (gone.all_done (is ∙ ap Ok done)) [
-                | inl before ↦ absurd (let first = before.0 in let unfinished = opened.unfinished in cc)
-                | inr ends ↦ ends
-              ];
-            };
-        used_up = λ no. elim over [ inl done ↦ absurd cc | inr none ↦ omega arith ];
-      }
+  driven_by old new finished opened empty gone well ended is = grind (arith, same_ok, calls_of, told_once)
 
   module _ (table : TableId) (size : Size) (gates : List G) (old new : List (Share G)) (core : Core) (all : Bool) (long : length new ≡ length old)
       (made : map (λ share. share.station) old ≡ opened table size size.nodes) (with_gates : map (λ share. share.gate) old ≡ gates)
@@ -187,17 +154,7 @@ module _ {G : Type 0} (hears : G → List Call → G → Type 0) (turns : ℕ) (
   -- so they were by lists that are the same for each node
   pub by_same_lists : (operations others : ℕ → List Op) → ((node : ℕ) → node < core.size.nodes → operations node ≡ others node)
       → AreDrivenThrough hears turns issuing operations gates core schedule all → AreDrivenThrough hears turns issuing others gates core schedule all
-  by_same_lists operations others same driven = record {
-    table = driven.table;
-    station = driven.station;
-    finished = driven.finished;
-    are_of = driven.are_of;
-    each = λ node d lt.
-        subst (λ (ops : List Op). IsDrivenThrough hears turns issuing ops (slice_index_or gates node d)
-        (opening_station (record { table = driven.table; part = opening_part core.size node })) (driven.station node) (driven.finished node)) (same node lt)
-        (driven.each node d lt);
-    all_are = driven.all_are;
-  }
+  by_same_lists operations others same driven = grind arith
 
   -- what a script's lists were made of
   pub by_script : {Z : Type 0} (s : ScriptValue) (lists : List (Vec Op Z)) → length lists ≡ s.nodes

@@ -255,9 +255,7 @@ module _ {G : Type 0} (hears : G → List Call → G → Type 0) where
 
   pub all_fewer : (most less : ℕ) (old new : List (Share G)) → most ≤ less + 1 → length new ≡ length old → AllGoOn hears old new
       → HaveFewer old new → All (HasAtMost most) old → All (HasAtMost less) new
-  all_fewer most less old new more long gone fewer few k d lt =
-      let within : k < length old = omega (arith, long) in
-      now_fewer most less (slice_index_or old k d) (slice_index_or new k d) more (gone k d within) (fewer k d within) (few k d within)
+  all_fewer most less old new more long gone fewer few k d lt = grind (arith, now_fewer)
 
   -- one of the shares takes a turn, and has ended or has fewer turns left than at first
   pub one_fewer : (old now new : Share G) → IsLaterShare hears old now → HasEnded new ⊎ (new.left + 1 ≤ now.left) → HasEnded new ⊎ (new.left < old.left)

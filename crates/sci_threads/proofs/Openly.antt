@@ -28,20 +28,7 @@ module _ {G : Type 0} (hears : G → List Call → G → Type 0) (allows : (g h 
 
   driven_openly : {turns : ℕ} {issuing : Issuing} {operations : List Op} {gate : G} {old new : StationOf} {finished : Bool}
       → IsDrivenThrough hears turns issuing operations gate old new finished → IsDrivenThrough hears_openly turns issuing operations tt old new finished
-  driven_openly {gate = gate} {finished} is = record {
-    later = tt;
-    driver = is.driver;
-    slices = is.slices;
-    deeds = is.deeds;
-    gone = slices_openly is.slices false finished is.deeds gate is.later _ is.driver _ _ is.gone;
-    does = is.does;
-    few = is.few;
-    calls = is.calls;
-    heard = allows gate is.later is.calls is.heard;
-    are = is.are;
-    ended = is.ended;
-    used_up = is.used_up;
-  }
+  driven_openly {gate = gate} {finished} is = grind (arith, slices_openly)
 
   -- the gate at a node's place
   at_place : {turns : ℕ} {issuing : Issuing} {operations : List Op} (gates : List G) (node : ℕ) {old new : StationOf} {finished : Bool} → node < length gates

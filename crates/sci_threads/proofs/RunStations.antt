@@ -6,21 +6,20 @@ use Rattle.std.proofs.lemmas.List.{FromFn.{get_or-map-range_with_len, length-map
 use Rattle.std.proofs.lemmas.Option.{get_or_from_slice_get, slice_get-get_or, slice_get-map, slice_get_within}
 use Rattle.std.specs.Prelude.{slice_get, slice_index_or, option_map}
 use Rattle.atomic_table.specs.Seated.{TableId}
-use Rattle.sci_words.specs.declared.{extent.Extent.{Extent}, limits.TheConstants.{MAX_OPERATIONS}}
 use Rattle.sci_words.specs.declared.{operation.Op.{Op}, stamped.Stamped.{Stamped}}
 use Rattle.sci_history.specs.{declared.entry.Entry.{Entry}, Placed.{log_of}}
 use Rattle.sci_text.specs.Script.{ScriptValue}
-use Rattle.sci_core.specs.{Size.{Size, size_of}, Core.{Core}, Outcome.{logs_of}}
+use Rattle.sci_core.specs.{Size.{Size}, Core.{Core}, Outcome.{logs_of}}
 use Rattle.sci_core.specs.{Sharing.{last_of}}
 use Rattle.sci_lanes.specs.{Shown.{me_of, opening_part}, Ends.{EndOf, LanesOf, opening_ends}}
 use Rattle.sci_lanes.specs.Gathering.{AreAll, AreOf, HaveLogs, IsLedTo, IsOf}
 use Rattle.sci_lanes.proofs.{Gathered.{logs_made}}
 use Rattle.sci_drive.specs.{Driving.{HasSubmittedNothing}, Script.{IsWholeLogOf}}
-use Rattle.sci_drive.proofs.Fresh.{opened_fresh, sized_for}
+use Rattle.sci_drive.proofs.Fresh.{opened_fresh}
 use Rattle.sci_station.specs.{Ends.{IsSameEnd}, Station.{StationOf, end_in, node_in, opening_station}}
 use Rattle.sci_station.proofs.Belonging.{opened_of, same_of}
 use Rattle.sci_text.specs.Script.{operations_of}
-use Rattle.sci_drive.specs.ScriptLogs.{IsOfEachLog, IsOfEachLogOf, size_for}
+use Rattle.sci_drive.specs.ScriptLogs.{IsOfEachLog, IsOfEachLogOf}
 use Rattle.sci_threads.specs.Shares.{AreLedTo, own_of}
 
 -- ---- sizes
@@ -81,9 +80,7 @@ module _ (table : TableId) (size : Size) (count : ℕ) (new : List StationOf) (s
   new_long = same.long ∙ opened_long table size count
 
   same_at : (k : ℕ) (d : StationOf) → k < count → IsSameEnd (record { table = table; part = opening_part size k }) (slice_index_or new k d).end
-  same_at k d lt =
-      let long = opened_long table size count in
-      subst (λ (s : StationOf). IsSameEnd s.end (slice_index_or new k d).end) (opened_at table size count k d lt) (same.each k d (omega arith))
+  same_at k d lt = grind (arith, opened_long, opened_at)
 
   pub still_all : AreAll count (map end_in new)
   still_all = record {

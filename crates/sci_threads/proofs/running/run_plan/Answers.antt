@@ -4,8 +4,8 @@ use Rattle.sci_words.specs.declared.{operation.Op.{Op}, limits.TheConstants.{MAX
 use Rattle.sci_history.specs.{declared.entry.Entry.{Entry}, Sequential.{IsInProgramOrder}}
 use Rattle.sci_core.specs.{Outcome.{logs_of}, Size.{Size, size_of}}
 use Rattle.sci_lanes.specs.{Ends.{EndOf}, Shown.{me_of}, Gathering.{AreAll, AreOf, IsStateOf}}
-use Rattle.sci_drive.specs.{Driving.{HasSubmittedNothing}, Script.{IsFrontOf, IsLogOf, IsWholeLogOf}}
-use Rattle.sci_station.specs.{Ends.{IsSameEnd}, Station.{StationOf, end_in, node_in}}
+use Rattle.sci_drive.specs.{Script.{IsFrontOf, IsLogOf, IsWholeLogOf}}
+use Rattle.sci_station.specs.{Ends.{IsSameEnd}, Station.{StationOf, end_in}}
 use Rattle.sci_lanes.proofs.Gathered.{node_log}
 use Rattle.sci_core.proofs.History.InTurn.{in_order}
 use Rattle.sci_threads.proofs.RunStations.{came_back, each_end, logs_have, opened_long, opened_known, opened_all_fresh, whole_if}
@@ -16,20 +16,7 @@ use Rattle.sci_threads.specs.{declared.share.Share.{Share}, Shares.{AllGoOn, Has
 use Rattle.sci_threads.proofs.running.run_plan.Goals as goal
 
 pub shares-requires : goal.shares-requires
-shares-requires g c =
-    let f = c.in_ok-fabric.fabric in
-    let size = size_of c.args.extent MAX_OPERATIONS in
-    let count = c.args.extent.nodes in
-    let is = c.in_ok-fabric.ensures.stations in
-    let long = ap length is ∙ opened_long f.table size count in
-    let Fresh : StationOf → Type 0 = λ s. HasSubmittedNothing (node_in s) in
-    let known : All (λ (s : StationOf). me_of s.end.part < count) c.in_ok-fabric.stations.items =
-    subst (All (λ (s : StationOf). me_of s.end.part < count)) (sym is) (opened_known f.table size count) in record {
-      gates = c.requires.gates ∙ sym long;
-      known = subst (λ (n : ℕ). All (λ (s : StationOf). me_of s.end.part < n) c.in_ok-fabric.stations.items) (sym c.requires.lists) known;
-      few = c.requires.few;
-      fresh = subst (All Fresh) (sym is) (opened_all_fresh f.table size count);
-    }
+shares-requires g c = grind (arith, opened_long, opened_known, opened_all_fresh)
 
 pub run_all-requires-clause-well : goal.run_all-requires-clause-well
 run_all-requires-clause-well g c =
@@ -81,9 +68,7 @@ has_run g c =
 -- the shares are all those that were made
 all_back : (g : _) (c : In-Ok g)
     → take c.in_ok-shares.shares.len (c.run_all.new.shares ++ drop (length c.run_all.new.shares) c.in_ok-shares.shares.items) ≡ c.run_all.new.shares
-all_back g c =
-    let before = c.in_ok-shares.shares in
-    written_back before.len c.run_all.new.shares before.items before.ok.0 (as_many g c)
+all_back g c = grind (arith, written_back, as_many)
 
 stations_are : (g : _) (c : In-Ok g) → c.in_ok-stations.stations.items ≡ map (λ share. share.station) c.run_all.new.shares
 stations_are g c = c.in_ok-stations.ensures.stations ∙ ap (map (λ share. share.station)) (all_back g c)

@@ -1,4 +1,4 @@
-use Rattle.std.proofs.Common.{◌≡◌, ◌<◌, ◌≤◌, ℕ, List, All, Vec, length, sym, ap, subst, ◌∙◌}
+use Rattle.std.proofs.Common.{◌≡◌, ◌<◌, ◌≤◌, ℕ, List, All, Vec, length, sym, ap, subst, ◌∙◌, arith}
 use Rattle.std.proofs.lemmas.Result.{IfOk-weaker}
 use Rattle.std.specs.Prelude.{slice_index_or}
 use Rattle.sci_words.specs.declared.{operation.Op.{Op}, limits.TheConstants.{MAX_OPERATIONS}}
@@ -30,9 +30,7 @@ many g c = ap length c.deref.ensures.value ∙ c.in_ok-operations.ensures.nodes
 
 own : (g : _) (c : After-run_plan g) (n : ℕ) (d : Vec Op _) → n < c.args.script.now.nodes
     → (slice_index_or c.deref.result.now n d).items ≡ operations_of n c.args.script.now.operations
-own g c =
-    subst (λ (all : List (Vec Op _)). (n : ℕ) (d : Vec Op _) → n < c.args.script.now.nodes
-    → (slice_index_or all n d).items ≡ operations_of n c.args.script.now.operations) (sym c.deref.ensures.value) c.in_ok-operations.ensures.each
+own g c = grind arith
 
 -- what is so of the lists of operations, is so of the script
 by_lists : (g : _) (c : After-run_plan g) (Good : List Op → List Entry → Type 0) (logs : List (List Entry))

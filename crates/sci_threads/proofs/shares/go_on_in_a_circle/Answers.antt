@@ -1,14 +1,9 @@
-use Rattle.std.proofs.Common.{◌+◌, ◌-◌, ℕ, All, subst, arith}
-use Rattle.sci_threads.specs.{Shares.{HasAtMost}}
+use Rattle.std.proofs.Common.{◌+◌, ◌-◌, arith}
 use Rattle.sci_threads.proofs.Going.{all_ended, all_fewer, all_on, all_stay}
 use Rattle.sci_threads.proofs.shares.go_on_in_a_circle.Goals as goal
 
 pub loop-round-init : goal.loop-round-init
-loop-round-init g c = (
-  c.requires.well,
-  all_stay g.G.Gate.hears g.met.G.Gate.hears_nothing g.met.G.Gate.hears_on c.args.shares.now,
-  subst (λ (n : ℕ). All (HasAtMost n) c.args.shares.now) (omega arith) c.requires.few,
-)
+loop-round-init g c = grind (arith, all_stay)
 
 pub go_round-requires : goal.go_round-requires
 go_round-requires g c = record { well = c.loop-round.invariant.0 }
@@ -35,6 +30,4 @@ pub returns-clause-gone : goal.returns-clause-gone
 returns-clause-gone g c = c.loop-round.invariant.1
 
 pub returns-clause-ended : goal.returns-clause-ended
-returns-clause-ended g c =
-    let past = c.loop-round-test.false in
-    all_ended (c.args.turns - c.loop-round._round) c.loop-round.shares (omega (arith, past)) c.loop-round.invariant.2
+returns-clause-ended g c = grind (arith, all_ended)

@@ -7,18 +7,10 @@ use Rattle.sci_threads.proofs.shares.go_round.Goals.{then-not-has_ended, else-no
 use Rattle.sci_threads.proofs.shares.go_round.Goals as goal
 
 pub loop-n-init : goal.loop-n-init
-loop-n-init g c = (
-  c.requires.well,
-  all_stay g.G.Gate.hears g.met.G.Gate.hears_nothing g.met.G.Gate.hears_on c.args.shares.now,
-  λ k d lt. absurd (omega arith),
-  λ is k d lt. absurd (omega arith),
-)
+loop-n-init g c = grind (arith, all_stay)
 
 pub go_on-requires : goal.go_on-requires
-go_on-requires g c = record {
-  well =
-      c.loop-n.invariant.0 c.loop-n.n c.index-shares-n.result (let long = c.loop-n.auto.shares in let test = c.loop-n-test.true in omega arith);
-}
+go_on-requires g c = grind arith
 
 pub loop-n-preserved : goal.loop-n-preserved
 loop-n-preserved g c =

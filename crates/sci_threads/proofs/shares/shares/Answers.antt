@@ -1,4 +1,4 @@
-use Rattle.std.proofs.Common.{◌≡◌, ◌<◌, ◌≤◌, ◌++◌, ◌∷◌, [], List, All, Ok, inl, inr, false, length, map, refl, sym, ap, subst, ◌∙◌, append_assoc, arith}
+use Rattle.std.proofs.Common.{◌≡◌, ◌<◌, ◌≤◌, ◌++◌, ◌∷◌, [], List, All, Ok, false, length, map, refl, sym, ap, subst, ◌∙◌, append_assoc, arith}
 use Rattle.std.proofs.lemmas.List.{get_or-map, map-append, Elements.{All-head, All-push, All-tail}}
 use Rattle.sci_words.specs.declared.{limits.TheConstants.{MAX_OPERATIONS}, operation.Op.{Op}}
 use Rattle.sci_drive.specs.Driving.{DriverOf, HasSubmittedNothing, IsDriven, IsInOrder, opening_driver}
@@ -80,13 +80,7 @@ loop-station-preserved g c =
 
 -- no station is left
 none_left : (g : _) (c : goal.After-drop-station-iterator-3 g) → length c.loop-station.station-iterator.a.rest.items ≡ 0
-none_left g c =
-    let both = c.loop-station.invariant.1 in
-    let a = c.loop-station.station-iterator.a.rest.ok.0 in
-    let b = c.loop-station.station-iterator.b.rest.ok.0 in (elim c.in-None.ensures.steps [
-      | inl ended ↦ let at = ended.1.0 in omega (arith, a, at)
-      | inr ended ↦ let at = ended.1.0 in omega (arith, b, at, both)
-    ])
+none_left g c = grind arith
 
 pub returns-clause-stations : goal.returns-clause-stations
 returns-clause-stations g c =

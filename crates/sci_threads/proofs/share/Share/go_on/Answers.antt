@@ -16,7 +16,4 @@ returns-in-Ok-clause-gone g c =
     (λ ended. let is = c.if-has_ended.ensures.1 ended in absurd cc)
 
 pub returns-in-Err-clause-gone : goal.returns-in-Err-clause-gone
-returns-in-Err-clause-gone g c =
-    let went = c.in-Err.ensures in
-    was_refused g.G.Gate.hears c.args.self.now c.go_on.new.worker c.go_on.new.self c.go_on.new.gate
-    c.in-Err.refused went.stays went.script went.order (record { calls = went.calls.0; heard = went.calls.1; are = went.calls.2 })
+returns-in-Err-clause-gone g c = grind (arith, was_refused)
