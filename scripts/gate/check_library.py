@@ -153,7 +153,9 @@ def check_names(tally):
         tally.count(f"numbers of {what}", enum(f"sci_{what}") != of_crate and f"{of_crate} in the crate")
         wanted = [names[it] for it in sorted(of_crate, key=of_crate.get)]
         tally.count(f"names of {what}", table(f"sci_{what}_name") != wanted and f"{wanted} in the crate")
-    tally.count("kinds of requests", enum("sci_ask_kind") != numbers("sci_c_values", "AskKind") and "others in the crate")
+    kinds = re.search(r"ALL: \[AskKind; \d+\] = \[(.*?)\];", rattle("sci_words"), re.DOTALL)[1]
+    kinds = {name.upper(): place for place, name in enumerate(re.findall(r"AskKind::(\w+)", kinds))}
+    tally.count("kinds of requests", enum("sci_ask_kind") != kinds and f"{kinds} in the crate")
     asks = int(re.search(r"const ASKS: usize = (\d+);", rattle("sci_c"))[1])
     tally.count("room of a turn", enum("sci_limit")["TURN_ROOM"] != 1 + asks and f"{1 + asks} in the crate")
     statuses = sorted(enum("sci_status_number").items(), key=lambda it: it[1])
