@@ -35,7 +35,8 @@ pub fn audit(alloc: Global, logs: &Logs, last: &Last) -> Result<Verdict, AllocEr
 }
 
 /// The fault of each line, or None where a line has none: on each line the first kind that fails. The logs are lawful exactly
-/// if no line has one. Refused only if a growth was. It takes the time of an audit. Requires that each entry's line is one of `last`, and its word below 8.
+/// if no line has one. Refused only if a growth was. It takes the time of an audit. Requires that each entry's line is one of
+/// `last`, and its word below 8.
 pub fn line_faults(
     alloc: Global,
     logs: &Logs,
