@@ -24,17 +24,17 @@ run:
 	@cd crates/scimem && rt run -- $$(cat args) < stdin 2> ../../out/check/run.log || { cat ../../out/check/run.log >&2; exit 1; }
 	@install -D crates/scimem/out/scimem out/bin/scimem
 
-# The gate: every proof from nothing, the edits that must fail, and the tests; then the programs that it built, on the
+# The gate: every proof from nothing, the tests, and wrong bodies that must be refused; then the programs that it built, on the
 # stored cases, the examples and charts; then programs and tests with memory, reads and writes refused. The last line is
 # 'N passed, M failed'.
 test:
 	@$(NEED_RT)
 	@scripts/gate/test.py
 
-# Tries the wrong bodies that the gate leaves out, over what earlier checks kept; with CRATE=NAME those of that crate alone.
+# Tries all wrong bodies, over the libraries that make test or make run has built; with CRATE=NAME those of that crate alone.
 plants:
 	@$(NEED_RT)
-	@scripts/gate/try_plants.sh $(CRATE)
+	@scripts/gate/try_plants.py $(or $(CRATE),--all)
 
 # Builds both programs, unless make test or an earlier make build has built them of the same sources.
 build: crates/scimem/out/scimem crates/sciview/out/sciview

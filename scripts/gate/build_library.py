@@ -5,36 +5,22 @@ import os
 import subprocess
 import sys
 
-from crates import TOP, libraries, with_all_below
+from crates import TOP, kit_folder, words_for
 
 CRATE = "sci_c"
 
 
-def kit_folder():
-    return os.path.dirname(subprocess.run(["rt", "doc"], stdout=subprocess.PIPE, text=True, check=True).stdout.strip())
-
-
-def build(crate, root, flags, made):
-    """Proves and compiles a crate with this root file over the libraries in crates/*/out/rlib, into this file."""
-    kit, uses = kit_folder(), libraries()
-    built = {it: f"{TOP}/crates/{it}/out/rlib/{it}.rlib" for it in with_all_below(uses[crate], uses)}
-    of_kit = ["std", *(it for it in uses[crate] if it not in uses)]
-    words = ["--crate-name", crate, *flags, root, "-L", f"dependency={kit}/rlibs"]
-    for name in of_kit:
-        words += ["--extern", f"{name}={kit}/rlibs/{name}.rlib"]
-    for name in (it for it in uses[crate] if it in uses):
-        words += ["--extern", f"{name}={built[name]}"]
-    for path in sorted(built.values()):
-        words += ["-L", f"dependency={os.path.dirname(path)}"]
-    words += ["--antt-project", f"{kit}/rattle/logic/antt-project.json", "--logic-built", f"{kit}/logic_built"]
-    words += ["--toolchain", f"{kit}/toolchain", "--backend", "llvm", "--jobs", "2"]
+def build(crate, flags, made):
+    """Proves and compiles a crate over the libraries in crates/*/out/rlib, into this file."""
+    kit = kit_folder()
+    words = [*words_for(crate, kit), *flags, "--toolchain", f"{kit}/toolchain", "--backend", "llvm", "--jobs", "2", "-o", made]
     os.makedirs(os.path.dirname(made), exist_ok=True)
-    return subprocess.run([f"{kit}/bin/rattle", "build", *words, "-o", made], cwd=f"{TOP}/crates/{crate}").returncode
+    return subprocess.run([f"{kit}/bin/rattle", "build", *words], cwd=f"{TOP}/crates/{crate}").returncode
 
 
 def build_program(name, made, *flags):
     """Builds a program, as rt does."""
-    refused = build(name, "src/main.rt", flags, f"{made}.o")
+    refused = build(name, flags, f"{made}.o")
     if refused:
         return refused
     kit = kit_folder()
@@ -44,7 +30,7 @@ def build_program(name, made, *flags):
 
 def build_library(made, *flags):
     """Builds the C library's proved part."""
-    return build(CRATE, "src/lib.rt", ["--crate-type", "staticlib", "--links", f"{CRATE}=", *flags], made)
+    return build(CRATE, ["--crate-type", "staticlib", *flags], made)
 
 
 if __name__ == "__main__":

@@ -29,7 +29,7 @@ def digest_of(name, below):
     """A digest of what a proof of the crate reads: its files, and the digests of what is below it."""
     digest = hashlib.sha256(" ".join(below).encode())
     for folder, folders, files in os.walk(f"{TOP}/crates/{name}"):
-        folders[:] = sorted(set(folders) - {"out", "must-fail"})
+        folders[:] = sorted(set(folders) - {"out"})
         for file in sorted(set(files) - {"README.md"}):
             path = os.path.join(folder, file)
             with open(path, "rb") as read:

@@ -22,6 +22,7 @@ import sys
 from fnmatch import fnmatch
 
 from crates import TOP, libraries, with_all_below
+from plants import plants_of, plants_of_gate, texts_with
 from protocol_pairs import wrong_pairs
 from reachable_pairs import wrong_reasons
 from version import wrong_versions
@@ -140,20 +141,16 @@ def wide_lines(path):
             yield f"line {number} has {len(line)} columns"
 
 
-def wrong_edit(path):
-    """Why an edit of crates/NAME/must-fail or of plants/NAME can't be applied."""
-    crate, text, old = path.split("/")[1], "", None
-    for line in read(path).splitlines():
-        word, _, rest = line.partition(": ")
-        if word == "file":
-            name = f"crates/{crate}/{rest.strip()}"
-            text = read(name) if os.path.exists(f"{TOP}/{name}") else ""
-        elif word == "old":
-            old = rest
-        elif word == "new":
-            if text.count(old) != 1:
-                yield f"stands {text.count(old)} times: {old.strip()}"
-            text = text.replace(old, rest)
+def wrong_plants():
+    """Why plants can't be put in, and names in plants/GATE that no plant has."""
+    known = plants_of([])
+    for crate, names in known.items():
+        for name in names:
+            try:
+                texts_with(crate, [name])
+            except (OSError, ValueError) as error:
+                yield f"{crate}/{name}: {error}"
+    yield from (f"GATE names no plant: {crate}/{it}" for crate, names in plants_of_gate().items() for it in names if it not in known[crate])
 
 
 def main():
@@ -161,7 +158,7 @@ def main():
     code, crates = dict(code_of(files)), Sources(files)
     wrong = {"version": list(wrong_versions()), "pairs": [*wrong_pairs(), *wrong_reasons()]}
     wrong["width"] = [f"{path}: {it}" for path in files if path.endswith(".antt") for it in wide_lines(path)]
-    wrong["edits"] = [f"{path}: {it}" for path in files if path.endswith(".edit") for it in wrong_edit(path)]
+    wrong["plants"] = list(wrong_plants())
     for path in (it for it in files if it.endswith(".md")):
         wrong[path] = [*wrong_links(path), *wrong_code(path, code)]
         if path.startswith("crates/") or path in ABOUT_CODE:

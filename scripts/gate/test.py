@@ -1,6 +1,6 @@
 #!/usr/bin/env python3
-"""The gate. First the pages are checked, and their table of definitions. Then rt ci proves every crate and its tests, tries
-the must-fail edits, and runs the tests. The programs that it built run on the stored cases, on the examples, for charts, and
+"""The gate. First the pages are checked, and their table of definitions. Then rt ci proves every crate and its tests, and runs
+the tests, and wrong bodies are tried. The programs that it built run on the stored cases, on the examples, for charts, and
 for pages in a browser. The C library is built over the libraries that it built, and tried, and so is what stands on it: Python, Rust,
 and simulators if there are any. Then programs and tests run with memory, reads and writes refused. At the end stands how long each
 stage took; the last line is 'N passed, M failed', of all stages."""
@@ -19,7 +19,8 @@ STAGES = {
     "pages": ["scripts/gate/check_pages.py"],
     "signatures": ["scripts/gate/check_signatures.py"],
     "statements": ["scripts/gate/statement.py", "--check"],
-    "proofs, edits and tests": ["rt", "ci"],
+    "proofs and tests": ["rt", "ci"],
+    "wrong bodies": ["scripts/gate/try_plants.py"],
     "stored cases": ["scripts/gate/run_cases.py"],
     "examples": ["scripts/gate/run_examples.py"],
     "charts": ["scripts/gate/check_charts.py"],
