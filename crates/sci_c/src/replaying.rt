@@ -1,8 +1,7 @@
 //! Machines that schedules lead to.
 
-ghost use Rattle.std.specs.Prelude.{◌≡◌, ◌≢◌, ◌≤◌, ◌<◌, ◌⊎◌, ◌↔◌, ◌∷◌, [], None, IfOk, IsSome, OnOk, length};
-ghost use Rattle.sci_words.specs.declared.limits.TheConstants.{MAX_EVENTS, MAX_OPERATIONS};
-ghost use Rattle.sci_core.specs.{Core.{run_from}, Coherent.{IsCoherent}, Dead.{dead_events, summary}};
+ghost use Rattle.std.specs.Prelude.{◌≡◌, ◌≢◌, ◌≤◌, ◌<◌, ◌⊎◌, ◌↔◌, ◌∷◌, [], None, IfOk, IsSome};
+ghost use Rattle.sci_words.specs.declared.limits.TheConstants.{MAX_OPERATIONS};
 ghost use Rattle.sci_text.specs.ScheduleFault.{IsScheduleFault};
 ghost use Rattle.sci_c_values.specs.declared.status.TheConstants.{SCI_MISUSE, SCI_NO_MEMORY, SCI_OK, SCI_RANGE, SCI_TEXT};
 ghost use Rattle.sci_c.specs.{Calls.{IsOneOf}, Replaying.{IsKeptLed, IsLed, IsReplayed}, Texts.{IsTextFault}};
@@ -14,26 +13,8 @@ use crate::thing::Thing;
 use sci_c_values::{SCI_MISUSE, SCI_NO_MEMORY, SCI_OK, SCI_RANGE, SciDead, SciTextFault, dead_out};
 use sci_core::{DeadEvents, Machine};
 use sci_text::{Schedule, schedule_of};
-use sci_words::{Event, MAX_OPERATIONS};
+use sci_words::MAX_OPERATIONS;
 use std::alloc::{AllocError, Global};
-
-/// Applies events one after another, and gives those that weren't enabled. Requires that they are at most 500,000, and that
-/// the machine is coherent, as each is.
-fn applied(machine: &mut Machine, events: &[Event]) -> Result<Option<DeadEvents>, AllocError>
-    requires few { length events.now ≤ MAX_EVENTS }
-    requires coherent { IsCoherent machine.old }
-    ensures led { OnOk result (machine.new ≡ run_from machine.old events.now) }
-    ensures dead { IfOk result (λ dead. dead ≡ summary (dead_events machine.old 0 events.now)) }
-    ensures coherent { IsCoherent machine.new }
-{
-    let mut dead = None;
-    let mut place = 0;
-    for event in events {
-        dead = DeadEvents::with(dead, place, machine.step(event)?);
-        place += 1;
-    }
-    Ok(dead)
-}
 
 /// The machine where a schedule leads, whose nodes may each issue `limit` operations, and the events that weren't enabled.
 /// Requires that the limit is 1 to 65,536.
@@ -47,7 +28,7 @@ fn led(
     ensures { IfOk result (λ led. IsLed schedule.now limit led.0 led.1) }
 {
     let mut machine = Machine::new(alloc, schedule.extent(), limit)?;
-    let dead = applied(&mut machine, schedule.events())?;
+    let dead = DeadEvents::among(&mut machine, schedule.events())?;
     Ok((machine, dead))
 }
 

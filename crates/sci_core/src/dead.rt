@@ -1,8 +1,8 @@
 //! The events of a schedule that aren't enabled when they come.
 
-ghost use Rattle.std.specs.Prelude.{◌≡◌, ◌<◌, ◌≤◌, ◌++◌, ℕ, ◌+◌, List, IfOk, IfSome, length};
+ghost use Rattle.std.specs.Prelude.{◌≡◌, ◌<◌, ◌≤◌, ◌++◌, ℕ, ◌+◌, List, IfOk, IfSome, OnOk, length};
 ghost use Rattle.sci_words.specs.declared.limits.TheConstants.{MAX_EVENTS, MAX_OPERATIONS};
-ghost use Rattle.sci_core.specs.{Core.{opening}, Dead.{dead_at, dead_events, summary}, Size.{size_of}};
+ghost use Rattle.sci_core.specs.{Coherent.{IsCoherent}, Core.{opening, run_from}, Dead.{dead_at, dead_events, summary}, Size.{size_of}};
 ghost use Rattle.sci_core.specs.declared.obstacle.Obstacle.{Obstacle};
 
 use crate::machine::Machine;
@@ -49,6 +49,25 @@ impl DeadEvents {
         }
     }
 
+    /// Applies events one after another, and gives those that weren't enabled; None if each was. Requires that they are at most
+    /// 500,000, and that the machine is coherent, as each is. Refused if memory is: the machine is then where the events before
+    /// led.
+    pub fn among(machine: &mut Machine, events: &[Event]) -> Result<Option<DeadEvents>, AllocError>
+        requires few { length events.now ≤ MAX_EVENTS }
+        requires coherent { IsCoherent machine.old }
+        ensures led { OnOk result (machine.new ≡ run_from machine.old events.now) }
+        ensures dead { IfOk result (λ dead. dead ≡ summary (dead_events machine.old 0 events.now)) }
+        ensures coherent { IsCoherent machine.new }
+    {
+        let mut dead = None;
+        let mut place = 0;
+        for event in events {
+            dead = DeadEvents::with(dead, place, machine.step(event)?);
+            place += 1;
+        }
+        Ok(dead)
+    }
+
     /// The dead events of a schedule of a machine of this size, whose nodes may each issue 65,536 operations; None if each
     /// event is enabled. Requires that they are at most 500,000. Refused if memory is.
     pub fn of(
@@ -61,12 +80,6 @@ impl DeadEvents {
             ≡ summary (dead_events (opening (size_of extent MAX_OPERATIONS)) 0 events.now)) }
     {
         let mut machine = Machine::new(alloc, extent, MAX_OPERATIONS)?;
-        let mut dead = None;
-        let mut place = 0;
-        for event in events {
-            dead = DeadEvents::with(dead, place, machine.step(event)?);
-            place += 1;
-        }
-        Ok(dead)
+        DeadEvents::among(&mut machine, events)
     }
 }

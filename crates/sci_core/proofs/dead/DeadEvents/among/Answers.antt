@@ -1,9 +1,9 @@
 -- One event more.
 use Rattle.std.proofs.Common.{◌≡◌, ◌<◌, ◌+◌, ◌++◌, length, take, get_or, ap, sym, ◌∙◌, arith}
-use Rattle.sci_words.specs.declared.{event.Event.{Event, TheVariants.{Issue}}, operation.Act.TheVariants.{Load}, limits.TheConstants.{MAX_OPERATIONS}}
-use Rattle.sci_core.specs.{Core.{Core, opening, run_from}, Dead.{dead_at, dead_events, obstacle_if_dead, summary}, Size.{size_of}}
+use Rattle.sci_words.specs.declared.{event.Event.{Event, TheVariants.{Issue}}, operation.Act.TheVariants.{Load}}
+use Rattle.sci_core.specs.{Core.{Core, run_from}, Dead.{dead_at, dead_events, obstacle_if_dead, summary}}
 use Rattle.sci_core.proofs.Summaries.{dead_events_of_more, ran_on}
-use Rattle.sci_core.proofs.dead.DeadEvents.of.Goals as goal
+use Rattle.sci_core.proofs.dead.DeadEvents.among.Goals as goal
 
 pub loop-event-preserved : goal.loop-event-preserved
 loop-event-preserved c =
@@ -11,7 +11,7 @@ loop-event-preserved c =
     let events = c.args.events.now in
     let i = c.loop-event.event-index in
     let first : Event = Issue 0 (record { line = 0; word = 0; act = Load }) in
-    let begun = opening (size_of c.args.extent MAX_OPERATIONS) in
+    let begun = c.args.machine.now in
     let below : i < length events = omega (arith, c.loop-event-test.true) in
     let counted : c.loop-event.place + 1 ≡ i + 1 = omega arith in
     let obstacle : c.in_ok-step.field-0 ≡ obstacle_if_dead c.loop-event.machine (get_or events i first) = c.in_ok-step.ensures.obstacle in
@@ -23,4 +23,5 @@ loop-event-preserved c =
           ∙ ap summary (sym (dead_events_of_more begun events i first below));
       counted = counted;
       few = c.with-dead.ensures.few;
+      coherent = c.step.ensures.coherent;
     }

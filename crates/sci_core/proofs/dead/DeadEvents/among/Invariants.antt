@@ -2,7 +2,7 @@
 use Rattle.std.proofs.Common.{◌≡◌, ◌≤◌, take}
 use Rattle.std.specs.Prelude.{IfSome}
 use Rattle.sci_core.specs.{Coherent.{IsCoherent}, Core.{run_from}, Dead.{dead_events, summary}}
-use Rattle.sci_c.proofs.replaying.applied.Given as goal
+use Rattle.sci_core.proofs.dead.DeadEvents.among.Given as goal
 
 abbrev pub invariant-loop-event : goal.invariant-loop-event
 invariant-loop-event l = record {
