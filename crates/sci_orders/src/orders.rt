@@ -1,11 +1,11 @@
 //! All standings to which a number of steps leads.
 
-ghost use Rattle.std.specs.Prelude.{◌≡◌, ◌<◌, ◌*◌, ◌++◌, ◌∷◌, [], ℕ, List, None, length, map, option_map, IfErr, IfOk, IfSome, OnOk};
+ghost use Rattle.std.specs.Prelude.{◌≡◌, ◌<◌, ◌*◌, ◌+◌, ◌++◌, ◌∷◌, [], ℕ, List, None, length, map, option_map, IfErr, IfOk, IfSome, OnOk};
 ghost use Rattle.std.specs.List.{All};
 ghost use Rattle.sci_words.specs.declared.event.Event.{Event};
 ghost use Rattle.sci_core.specs.Size.{IsMachineSize, size_of};
 ghost use Rattle.sci_orders.specs.declared.fault.OrdersFault.TheVariants.{TooMany};
-ghost use Rattle.sci_orders.specs.Eager.{AddsSteps, AreStepsFrom, AreTooMany, AreTooManyFrom, IsFirstIssue, MayIssue};
+ghost use Rattle.sci_orders.specs.Eager.{AddsSteps, AreFoundIn, AreStepsFrom, AreTooMany, AreTooManyFrom, IsFirstIssue, MayIssue};
 ghost use Rattle.sci_orders.specs.Positions.{AreOnce, AreReachedIn, AreWithin, Fits, lists_of, opening_position, operation_count, own_of, position_of};
 ghost use Rattle.sci_orders.specs.Positions.{is_on, step_on, steps_on};
 ghost use Rattle.sci_orders.specs.Orders.{HasRun, IsAmong, IsOrderOf, IsScriptOf};
@@ -142,11 +142,7 @@ impl<'a> Orders<'a> {
 
     /// The standings to which one step leads from these, each once. Refused if memory is, or if there are more than
     /// 100,000.
-    pub(crate) fn next_level(
-        &self,
-        alloc: Global,
-        level: &[Standing],
-    ) -> Result<Vec<Standing>, OrdersFault>
+    fn next_level(&self, alloc: Global, level: &[Standing]) -> Result<Vec<Standing>, OrdersFault>
         requires { All (Fits (lists_of self.now.operations.now)) (map position_of level.now) }
         ensures steps { IfOk result (λ next. AreStepsFrom (lists_of self.now.operations.now)
             self.now.window (map position_of level.now) (map position_of next.items)) }
@@ -164,6 +160,30 @@ impl<'a> Orders<'a> {
             return Err(OrdersFault::TooMany);
         }
         Ok(next)
+    }
+
+    /// The standings to which one step leads from these, and those to which two lead, each once. Requires that each operation is on
+    /// one of this number of lines, and that the standings are those after some number of steps. Refused if memory is, or if there
+    /// are more than 100,000.
+    pub(crate) fn next_two(
+        &self,
+        alloc: Global,
+        lines: u8,
+        level: &[Standing],
+    ) -> Result<(Vec<Standing>, Vec<Standing>), OrdersFault>
+        requires within { AreWithin lines (lists_of self.now.operations.now) }
+        requires found { (count : ℕ) × AreFoundIn lines (lists_of self.now.operations.now) self.now.window count (map position_of level.now) }
+        ensures found { IfOk result (λ two. (count : ℕ) →
+            AreFoundIn lines (lists_of self.now.operations.now) self.now.window count (map position_of level.now) →
+            AreFoundIn lines (lists_of self.now.operations.now) self.now.window (count + 1) (map position_of two.0.items)
+            × AreFoundIn lines (lists_of self.now.operations.now) self.now.window (count + 2) (map position_of two.1.items)) }
+        ensures once { IfOk result (λ two. AreOnce (map position_of two.1.items)) }
+        ensures many { IfErr result (λ fault. fault ≡ TooMany →
+            AreTooMany lines (lists_of self.now.operations.now) self.now.window) }
+    {
+        let half = self.next_level(alloc, level)?;
+        let next = self.next_level(alloc, &half)?;
+        Ok((half, next))
     }
 
     /// The standing from which the steps go. Refused if memory is.
@@ -190,8 +210,7 @@ impl<'a> Orders<'a> {
         let mut level = self.first_level(alloc, lines)?;
         for own in self.operations {
             for _operation in own {
-                let half = self.next_level(alloc, &level)?;
-                level = self.next_level(alloc, &half)?;
+                level = self.next_two(alloc, lines, &level)?.1;
             }
         }
         Ok(level)

@@ -177,8 +177,7 @@ impl<'a> Orders<'a> {
         let mut level = self.first_level(alloc, lines)?;
         for own in self.operations {
             for _operation in own {
-                let half = self.next_level(alloc, &level)?;
-                let next = self.next_level(alloc, &half)?;
+                let (half, next) = self.next_two(alloc, lines, &level)?;
                 push_both(&mut levels, level, half)?;
                 level = next;
             }

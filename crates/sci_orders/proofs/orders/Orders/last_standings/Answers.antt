@@ -1,54 +1,24 @@
--- One level more, twice.
-use Rattle.std.proofs.Common.{◌≡◌, ◌+◌, ◌*◌, ◌<◌, ℕ, List, [], length, map, take, get_or, refl, sym, ap, subst, ◌∙◌, arith}
+-- Two levels more for each operation.
+use Rattle.std.proofs.Common.{◌≡◌, ◌+◌, ◌*◌, ℕ, List, length, map, take, sym, ap, subst, ◌∙◌, arith}
 use Rattle.std.proofs.Math.Seq.{take-length}
-use Rattle.std.proofs.lemmas.List.{length-map, Sums.{sum_by_more}}
-use Rattle.std.specs.List.{All}
+use Rattle.std.proofs.lemmas.List.{length-map}
 use Rattle.sci_words.specs.declared.operation.Op.{Op}
-use Rattle.sci_orders.proofs.{Copies.{own_is}, Finding.{ends_found}, LevelSteps.{found_fit, found_more}, Refusing.{raised, too_many}}
-use Rattle.sci_orders.proofs.orders.Orders.last_standings.Goals.{After-deref-in-loop-operation}
-use Rattle.sci_orders.specs.{Eager.{AreFoundIn, AreTooMany}, Positions.{Fits, lists_of, operation_count, position_of}}
 use Rattle.sci_orders.specs.declared.standing.Standing.{Standing}
+use Rattle.sci_orders.proofs.{Copies.{one_node_more}, Finding.{ends_found}}
+use Rattle.sci_orders.specs.{Eager.{AreFoundIn}, Positions.{lists_of, operation_count, position_of}}
 use Rattle.sci_orders.proofs.orders.Orders.last_standings.Goals as goal
-
-pub next_level-requires : goal.next_level-requires
-next_level-requires c =
-    let operations = lists_of c.args.self.now.operations.now in
-    let count = (operation_count (take c.loop-own.own-index operations) + c.loop-operation._operation-index) * 2 in
-    let all = found_fit c.args.lines operations c.args.self.now.window count (map position_of c.loop-operation.level.items) c.requires
-    c.loop-operation.invariant.reached in
-    subst (λ (ss : List Standing). All (Fits operations) (map position_of ss)) (sym c.deref.ensures.value) all
-
-half : (c : After-deref-in-loop-operation)
-    → AreFoundIn c.args.lines (lists_of c.args.self.now.operations.now) c.args.self.now.window
-    ((operation_count (take c.loop-own.own-index (lists_of c.args.self.now.operations.now)) + c.loop-operation._operation-index) * 2 + 1)
-    (map position_of c.in_ok-half.half.items)
-half c =
-    let operations = lists_of c.args.self.now.operations.now in
-    let count = (operation_count (take c.loop-own.own-index operations) + c.loop-operation._operation-index) * 2 in
-    found_more c.args.lines operations c.args.self.now.window count (count + 1) (map position_of c.deref.result.now)
-    (map position_of c.in_ok-half.half.items) refl
-    (subst (λ (ss : List Standing). AreFoundIn c.args.lines operations c.args.self.now.window count (map position_of ss)) (sym c.deref.ensures.value)
-    c.loop-operation.invariant.reached) c.in_ok-half.ensures.steps
-
-pub next_level-requires-in-loop-operation : goal.next_level-requires-in-loop-operation
-next_level-requires-in-loop-operation c =
-    let operations = lists_of c.args.self.now.operations.now in
-    let count = (operation_count (take c.loop-own.own-index operations) + c.loop-operation._operation-index) * 2 in
-    let all = found_fit c.args.lines operations c.args.self.now.window (count + 1) (map position_of c.in_ok-half.half.items)
-    c.requires (half (goal.at.next_level-requires-in-loop-operation c).After-deref-in-loop-operation) in
-    subst (λ (ss : List Standing). All (Fits operations) (map position_of ss)) (sym c.deref-in-loop-operation.ensures.value) all
 
 pub loop-operation-preserved : goal.loop-operation-preserved
 loop-operation-preserved c =
     let operations = lists_of c.args.self.now.operations.now in
     let before = operation_count (take c.loop-own.own-index operations) in
     let index = c.loop-operation._operation-index in
-    let so = half (goal.at.loop-operation-preserved c).After-deref-in-loop-operation in
+    let so = c.in_ok-level-2.ensures.found ((before + index) * 2)
+    (subst (λ (ss : List Standing). AreFoundIn c.args.lines operations c.args.self.now.window ((before + index) * 2) (map position_of ss))
+    (sym c.deref.ensures.value) c.loop-operation.invariant.reached) in
+    let further : (before + index) * 2 + 2 ≡ (before + (index + 1)) * 2 = omega arith in
     record {
-      reached = found_more c.args.lines operations c.args.self.now.window ((before + index) * 2 + 1) ((before + (index + 1)) * 2)
-          (map position_of c.deref-in-loop-operation.result.now) (map position_of c.in_ok-level-2.level.items) (omega arith)
-          (subst (λ (ss : List Standing). AreFoundIn c.args.lines operations c.args.self.now.window ((before + index) * 2 + 1) (map position_of ss))
-          (sym c.deref-in-loop-operation.ensures.value) so) c.in_ok-level-2.ensures.steps;
+      reached = subst (λ (n : ℕ). AreFoundIn c.args.lines operations c.args.self.now.window n (map position_of c.in_ok-level-2.field-0.1.items)) further so.1;
       once = c.in_ok-level-2.ensures.once;
     }
 
@@ -57,10 +27,7 @@ loop-own-preserved c =
     let operations = lists_of c.args.self.now.operations.now in
     let k = c.loop-own.own-index in
     let index = c.loop-operation._operation-index in
-    let below : k < length operations = (let long = length-map c.args.self.now.operations.now (λ (v : _). v.items) in omega arith) in
-    let more = sum_by_more (λ (own : List Op). length own) operations k [] below in
-    let own : length (get_or operations k []) ≡ length c.own-item.result.items =
-    ap (λ (ops : List Op). length ops) (own_is c.args.self.now.operations.now k c.own-item.result c.loop-own-test.true c.own-item.is) in
+    let more = one_node_more c.args.self.now.operations.now k c.own-item.result c.loop-own-test.true c.own-item.is in
     let same : length c.deref-operation-items.result.now ≡ length c.own-item.result.items =
     ap (λ (ops : List Op). length ops) c.deref-operation-items.ensures.value in
     let whole : (operation_count (take k operations) + index) * 2 ≡ operation_count (take (k + 1) operations) * 2 = omega arith in
@@ -69,25 +36,6 @@ loop-own-preserved c =
           c.loop-operation.invariant.reached;
       once = c.loop-operation.invariant.once;
     }
-
-pub returns-in_err-half-clause-many : goal.returns-in_err-half-clause-many
-returns-in_err-half-clause-many c =
-    let operations = lists_of c.args.self.now.operations.now in
-    let count = (operation_count (take c.loop-own.own-index operations) + c.loop-operation._operation-index) * 2 in
-    raised (AreTooMany c.args.lines operations c.args.self.now.window) _ c.in_err-half.field-0.0 c.from_residual-in_err-half.ensures.1
-    (λ is. too_many c.args.lines operations c.args.self.now.window count (map position_of c.deref.result.now)
-    (subst (λ (ss : List Standing). AreFoundIn c.args.lines operations c.args.self.now.window count (map position_of ss)) (sym c.deref.ensures.value)
-    c.loop-operation.invariant.reached) (c.in_err-half.ensures.many is))
-
-pub returns-in_err-level-2-clause-many : goal.returns-in_err-level-2-clause-many
-returns-in_err-level-2-clause-many c =
-    let operations = lists_of c.args.self.now.operations.now in
-    let count = (operation_count (take c.loop-own.own-index operations) + c.loop-operation._operation-index) * 2 + 1 in
-    let so = half (goal.at.returns-in_err-level-2-clause-many c).After-deref-in-loop-operation in
-    raised (AreTooMany c.args.lines operations c.args.self.now.window) _ c.in_err-level-2.field-0.0 c.from_residual-in_err-level-2.ensures.1
-    (λ is. too_many c.args.lines operations c.args.self.now.window count (map position_of c.deref-in-loop-operation.result.now)
-    (subst (λ (ss : List Standing). AreFoundIn c.args.lines operations c.args.self.now.window count (map position_of ss))
-    (sym c.deref-in-loop-operation.ensures.value) so) (c.in_err-level-2.ensures.many is))
 
 pub returns-clause-reached : goal.returns-clause-reached
 returns-clause-reached c =
