@@ -4,12 +4,10 @@ use Rattle.std.specs.{Prelude.{IfOk, IfErr}, Io.KnownBytes.{Appends}}
 use Rattle.sci_text.specs.declared.{fault.TextFaultKind.{TextFaultKind}, tap.Tap.{Tap}}
 use Rattle.sci_text.specs.Tap.{has_failed, is_called_again, tapped}
 use Rattle.sci_command.specs.declared.{answer.Answer.{Answer}, outcome.Outcome.{Outcome, TheVariants.{Refused}}, refusal.Refusal.{Refusal}}
-use Rattle.sci_words.specs.declared.{event.Event.{Event}, extent.Extent.{Extent}, limits.TheConstants.{MAX_OPERATIONS}}
-use Rattle.sci_core.specs.{declared.dead.DeadEvents.{DeadEvents}, Core.{opening}, Dead.{dead_events, summary}, Size.{size_of}}
-use Rattle.sci_text.specs.Schedule.{ScheduleValue, IsSchedule, schedule_text}
+use Rattle.sci_core.specs.{declared.dead.DeadEvents.{DeadEvents}}
 use Rattle.sci_command.specs.Answer.{HasAnswered, IsAnswerAlone, IsAnswerBeside, IsAnswered, IsRefusedFor, IsShownOf, IsWrittenOf}
 use Rattle.sci_command.specs.Answer.{answer_in, dead_in, refusal_of}
-use Rattle.sci_command.specs.{Beginning.{AreDeadBeside, AreDeadIn, dead_of}, Input.{IsReadAs}}
+use Rattle.sci_command.specs.{Beginning.{AreDeadBeside, AreDeadIn}, Input.{IsReadAs}}
 use Rattle.sci_command.specs.{Refusal.{IsRefusalBy, line_refusal}, Writing.{HasCarriedOut, HasWritten, WritesFront}}
 
 -- a text that was written, or a front of it, is an answer if the text is

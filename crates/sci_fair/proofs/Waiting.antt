@@ -10,9 +10,9 @@ use Rattle.sci_core.specs.declared.pending.Pending.{Pending}
 use Rattle.sci_core.specs.{Core.{Core, node_at, side, stepping}, Node.{IsPendingOn, NodeOf, node_performing, pending_on}}
 use Rattle.sci_core.proofs.{Basics.Options.{of_some}, Settling.Drains.{some_node}, Step.NodeSides.{PerformedAs, perform_as}}
 use Rattle.sci_core.proofs.WellFormed.WellFormedSteps.{reached_well}
-use Rattle.sci_policy.specs.{Lines.{state_on}, Policy.{PolicyOf, has}}
+use Rattle.sci_policy.specs.{Lines.{state_on}}
 use Rattle.sci_turn.proofs.Working.{stepped}
-use Rattle.sci_fair.specs.{Changes.{rank_at}, Later.{AreWorked}, Rank.{can_perform, level, rank, work_in, work_on}, Steady.{Working, WorksByTurns}}
+use Rattle.sci_fair.specs.{Changes.{rank_at}, Later.{AreWorked}, Rank.{rank, work_in, work_on}, Steady.{Working, WorksByTurns}}
 use Rattle.sci_fair.specs.Waiting.{AreTurnsBeside, IsTurnBeside}
 use Rattle.sci_fair.proofs.{Few.{issued, line_worth, reserve, size_of_step, turn_line}, RankTables.{level_rank}}
 use Rattle.sci_fair.proofs.{ReadCarries.{changed_by}, ReadSteps.{performed_out}, SteadyTurns.{turned_alone}, Works.{work_good}}

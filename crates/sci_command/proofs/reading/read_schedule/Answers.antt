@@ -1,5 +1,4 @@
-use Rattle.std.proofs.Common.{Err, Result}
-use Rattle.sci_text.specs.{declared.fault.TextFault.{TextFault}, ScheduleFault.{IsScheduleFault}, Tap.{has_failed, tapped}}
+use Rattle.sci_text.specs.{ScheduleFault.{IsScheduleFault}, Tap.{has_failed, tapped}}
 use Rattle.sci_command.proofs.Refusals.{told_refusal}
 use Rattle.sci_command.proofs.reading.read_schedule.Goals as goal
 

@@ -1,5 +1,4 @@
-use Rattle.std.proofs.Common.{Err, Result}
-use Rattle.sci_text.specs.{declared.fault.TextFault.{TextFault}, ScriptFault.{IsScriptFault}, Tap.{has_failed, tapped}}
+use Rattle.sci_text.specs.{ScriptFault.{IsScriptFault}, Tap.{has_failed, tapped}}
 use Rattle.sci_command.proofs.Refusals.{told_refusal}
 use Rattle.sci_command.proofs.reading.read_script.Goals as goal
 

@@ -1,4 +1,4 @@
-use Rattle.std.proofs.Common.{◌≡◌, ℕ, List, ◌++◌, Bool, true, false, Option, None, ap, append_assoc, codes, sym}
+use Rattle.std.proofs.Common.{◌≡◌, ℕ, List, ◌++◌, Bool, true, Option, None, ap, append_assoc, codes, sym}
 use Rattle.sci_core.specs.declared.dead.DeadEvents.{DeadEvents}
 use Rattle.sci_command.specs.{declared.refusal.Refusal.{Refusal}, Message.{message, whole_words}}
 use Rattle.sci_command.proofs.Printed.{as_said, as_text}

@@ -1,6 +1,5 @@
-use Rattle.std.proofs.{Common.{[], refl}, KnownBytes.{Appends-nil}}
-use Rattle.sci_text.specs.Tap.{has_failed, tapped}
-use Rattle.sci_command.specs.{Message.{message}, Writing.{IsPrinted}}
+use Rattle.std.proofs.{Common.{[]}}
+use Rattle.sci_text.specs.Tap.{tapped}
 use Rattle.sci_command.proofs.Printed.{nothing_printed}
 use Rattle.sci_command.proofs.answer.Ended.tell.Goals as goal
 

@@ -1,4 +1,4 @@
-use Rattle.std.proofs.Common.{◌≡◌, ◌++◌, refl}
+use Rattle.std.proofs.Common.{◌++◌, refl}
 use Rattle.sci_command.specs.Message.{message, note_text, place_text}
 use Rattle.sci_command.proofs.{Joined.{joined4}, Printed.{as_text}}
 use Rattle.sci_command.proofs.refusal.Refusal.print.Goals as goal

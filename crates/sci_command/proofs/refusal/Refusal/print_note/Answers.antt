@@ -1,4 +1,4 @@
-use Rattle.std.proofs.Common.{◌≡◌, ap, sym, ◌∙◌}
+use Rattle.std.proofs.Common.{ap, sym, ◌∙◌}
 use Rattle.sci_command.specs.Message.{note_text}
 use Rattle.sci_command.proofs.Printed.{as_said}
 use Rattle.sci_command.proofs.refusal.Refusal.print_note.Goals as goal
