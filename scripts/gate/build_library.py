@@ -30,7 +30,7 @@ def build_program(name, made, *flags):
 
 def build_library(made, *flags):
     """Builds the C library's proved part."""
-    return build(CRATE, ["--crate-type", "staticlib", *flags], made)
+    return build(CRATE, flags, made)
 
 
 if __name__ == "__main__":

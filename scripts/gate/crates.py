@@ -7,10 +7,15 @@ import subprocess
 TOP = os.path.dirname(os.path.dirname(os.path.dirname(os.path.abspath(__file__))))
 
 
+def rows():
+    """Each crate's row of crates.txt: its name, its kind, and the libraries that it uses."""
+    with open(f"{TOP}/crates.txt", encoding="utf-8") as file:
+        return re.findall(r"^(\w+)([^#:\n]*):([^#\n]*)", file.read(), re.M)
+
+
 def libraries():
     """Each crate with the libraries that it uses, those of the kit too, from the lowest up."""
-    with open(f"{TOP}/crates.txt", encoding="utf-8") as file:
-        return {it[1]: it[2].split() for it in re.finditer(r"^(\w+)[^#:\n]*:([^#\n]*)", file.read(), re.M)}
+    return {name: used.split() for name, _, used in rows()}
 
 
 def with_all_below(names, uses):
@@ -29,12 +34,14 @@ def kit_folder():
 
 
 def words_for(crate, kit):
-    """What rattle is told of a crate, in the folder of its sources: its root file, the libraries in crates/*/out/rlib that it stands
-    on, and the logic."""
+    """What rattle is told of a crate, in the folder of its sources: its root file and kind, the libraries in crates/*/out/rlib that it
+    stands on, and the logic."""
     uses = libraries()
     built = {it: f"{TOP}/crates/{it}/out/rlib/{it}.rlib" for it in with_all_below(uses[crate], uses)}
     root = "main" if os.path.exists(f"{TOP}/crates/{crate}/src/main.rt") else "lib"
     words = ["--crate-name", crate, f"src/{root}.rt", "--links", f"{crate}=", "-L", f"dependency={kit}/rlibs"]
+    if any(name == crate and "staticlib" in kind for name, kind, _ in rows()):
+        words += ["--crate-type", "staticlib"]
     for name in ["std", *uses[crate]]:
         words += ["--extern", f"{name}={built.get(name, f'{kit}/rlibs/{name}.rlib')}"]
     for path in sorted(built.values()):

@@ -20,7 +20,7 @@ import tempfile
 from concurrent.futures import ThreadPoolExecutor
 
 from check import most_at_a_time
-from crates import TOP, kit_folder, words_for
+from crates import TOP, kit_folder, libraries, with_all_below, words_for
 from plants import functions_changed, plants_of, plants_of_gate, put_in
 
 # What rattle says of a limit of its own that stops a proof, wherever it is tried.
@@ -100,12 +100,25 @@ def try_plants(crate, names):
         return Plants(crate, names, room).go()
 
 
+def missing(crates):
+    """What is missing to try plants of these crates, or None."""
+    uses = libraries()
+    for it in crates:
+        if not os.path.isdir(f"{TOP}/plants/{it}"):
+            return f"there are no plants of {it}"
+    for it in sorted(with_all_below([below for crate in crates for below in uses[crate]], uses)):
+        if not os.path.isdir(f"{TOP}/crates/{it}/out/rlib/{it}.rlib"):
+            return f"the library {it} isn't built: make check builds it"
+    return None
+
+
 def main(words):
-    missing = [it for it in words if it != "--all" and not os.path.isdir(f"{TOP}/plants/{it}")]
-    if missing:
-        print(f"there are no plants of {missing[0]}")
+    crates = [it for it in words if it != "--all"]
+    why = missing(crates or list(plants_of([])))
+    if why:
+        print(why)
         return 2
-    wanted = plants_of_gate() if not words else plants_of([] if words == ["--all"] else words)
+    wanted = plants_of(crates) if words else plants_of_gate()
     with ThreadPoolExecutor(most_at_a_time()) as pool:
         failed = sum(pool.map(try_plants, *zip(*sorted(wanted.items(), key=lambda it: -len(it[1])))))
     print(f"{sum(map(len, wanted.values())) - failed} passed, {failed} failed")
