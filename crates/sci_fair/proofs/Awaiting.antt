@@ -247,12 +247,19 @@ awaited_opens n from line old new answer good held some inside f answers about a
       | inr opened ↦ opened
     ]
 
-cread_served : (n : ℕ) (p : PolicyOf) (x : Core) (e : Event) (q : PolicyOf) (y : Core) (request : Letter) → IsSteady n p x e q y
-    → request.line < x.size.lines → request.body ≡ Cread → IsOpenAt n request.line x → (next : NodeOf) → node_at y n ≡ next
+-- served so, a line gets another rank
+abbrev pub IsElsewhere : ℕ → ℕ → Core → CacheState × Body → Type 0
+IsElsewhere n line x served =
+    (rank (work_on (node_at x n) line) served.0 == rank (work_on (node_at x n) line) (state_on (node_at x n) line)) ≡ false
+
+-- a request by which a line would get another rank isn't served
+served_in_rank : (n : ℕ) (p : PolicyOf) (x : Core) (e : Event) (q : PolicyOf) (y : Core) (request : Letter) → IsSteady n p x e q y
+    → request.line < x.size.lines → is_for_home request.body ≡ false
+    → IfSome (serving (state_on (node_at x n) request.line) request.source request.body) (IsElsewhere n request.line x) → (next : NodeOf) → node_at y n ≡ next
     → ServedAs (node_at x n) request next → ⊥
-cread_served n p x e q y request st inside cread opened next now (At_home served home is made) =
-    let clash : false ≡ true = ap is_for_home (sym cread) ∙ home in cc
-cread_served n p x e q y request st inside cread opened next now (In_cache served is made) =
+served_in_rank n p x e q y request st inside plain other next now (At_home served home is made) =
+    let clash : false ≡ true = sym plain ∙ home in cc
+served_in_rank n p x e q y request st inside plain other next now (In_cache served is made) =
     let node = node_at x n in
     let line = request.line in
     let work = work_on node line in
@@ -262,20 +269,26 @@ cread_served n p x e q y request st inside cread opened next now (In_cache serve
     ap (λ (part : NodeOf). state_on part line) (sym made)
     ∙ ap (λ (l : LineState). l.state) (get_or-set_same node.cache.lines line (line_in (line_of node.cache line) served.0) untouched below) in
     let t : state_on (node_at y n) line ≡ served.0 = ap (λ (part : NodeOf). state_on part line) now ∙ there in
-    let serves : serving s request.source Cread ≡ Some served = subst (λ (b : Body). serving s request.source b ≡ Some served) cread is in
-    let other = of_some (λ (r : CacheState × Body). (rank work r.0 == rank work s) ≡ false) (serving s request.source Cread) served serves
-    (open_cread work s request.source opened) in
     let keeps = same_rank n p x e q y line st in
-    let clash : true ≡ false = sym keeps ∙ (ap (λ (r : CacheState). rank work r == rank work s) t ∙ other) in cc
+    let clash : true ≡ false = sym keeps ∙ (ap (λ (r : CacheState). rank work r == rank work s) t
+    ∙ of_some (IsElsewhere n line x) (serving s request.source request.body) served is other) in cc
+
+pub never_serves : (n : ℕ) (p : PolicyOf) (x : Core) (from i : ℕ) (q : PolicyOf) (y : Core) (request : Letter) (rest : List Letter)
+    → IsSteady n p x (event.Serve from i) q y → lane_of x Requests from n ≡ request ∷ rest → request.line < x.size.lines → is_for_home request.body ≡ false
+    → IfSome (serving (state_on (node_at x n) request.line) request.source request.body) (IsElsewhere n request.line x) → ⊥
+never_serves n p x from i q y request rest st front inside plain other =
+    let node = node_at x n in
+    let one = serve_one n p x q y from i st in
+    let same : one.front.letter ≡ request = (let both : one.front.letter ∷ one.front.rest ≡ request ∷ rest = sym one.front.front ∙ front in cc) in
+    let takes : node_serving node request ≡ Some one.front.next = subst (λ (l : Letter). node_serving node l ≡ Some one.front.next) same one.front.takes in
+    served_in_rank n p x (event.Serve from i) q y request st inside plain other one.front.next one.node
+    (of_some (ServedAs node request) (node_serving node request) one.front.next takes (serve_as node request))
 
 -- no steady event serves a Cread on an open head
 pub serves_no_cread : (n : ℕ) (p : PolicyOf) (x : Core) (from i : ℕ) (q : PolicyOf) (y : Core) (request : Letter) (rest : List Letter)
     → IsSteady n p x (event.Serve from i) q y → lane_of x Requests from n ≡ request ∷ rest → request.body ≡ Cread → request.line < x.size.lines
     → IsOpenAt n request.line x → ⊥
 serves_no_cread n p x from i q y request rest st front cread inside opened =
-    let node = node_at x n in
-    let one = serve_one n p x q y from i st in
-    let same : one.front.letter ≡ request = (let both : one.front.letter ∷ one.front.rest ≡ request ∷ rest = sym one.front.front ∙ front in cc) in
-    let takes : node_serving node request ≡ Some one.front.next = subst (λ (l : Letter). node_serving node l ≡ Some one.front.next) same one.front.takes in
-    cread_served n p x (event.Serve from i) q y request st inside cread opened one.front.next one.node
-    (of_some (ServedAs node request) (node_serving node request) one.front.next takes (serve_as node request))
+    never_serves n p x from i q y request rest st front inside (ap is_for_home cread)
+    (subst (λ (b : Body). IfSome (serving (state_on (node_at x n) request.line) request.source b) (IsElsewhere n request.line x)) (sym cread)
+    (open_cread (work_on (node_at x n) request.line) (state_on (node_at x n) request.line) request.source opened))

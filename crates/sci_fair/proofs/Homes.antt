@@ -5,12 +5,12 @@ use Rattle.std.proofs.Common.{Option, Some, None, refl, sym, ap, subst, ◌∙�
 use Rattle.std.proofs.lemmas.Bool.{cases_Bool, cases_eq, eq-eqb}
 use Rattle.std.specs.Prelude.{IfSome, is_some, slice_get, unwrap_or}
 use Rattle.sci_history.specs.Seen.{IsAmong}
-use Rattle.sci_words.specs.declared.{event.{AskKind.{AskKind}, Event.{Event}}, stamped.Stamped.{Stamped}}
+use Rattle.sci_words.specs.declared.{event.{Event.{Event}}, stamped.Stamped.{Stamped}}
 use Rattle.sci_packets.specs.{declared.body.Body.{Body, TheVariants.{Claim, Clear, Wback, Wbno, Wbok}}, Table.{is_request}}
 use Rattle.sci_home.specs.{declared.state.HomeState.{HomeState}, Serving.{head_of, home_serving}}
 use Rattle.sci_cache.specs.State.{CacheState, Asking, Below, Claiming, Clearing, Fading, FreshHead, FreshJoining, Head, Joining, Out, Purging, Returning}
 use Rattle.sci_cache.specs.State.{Rolling, Telling}
-use Rattle.sci_cache.specs.{Accepting.{accepting, settled}, Asking.{Asked, asking}}
+use Rattle.sci_cache.specs.{Accepting.{accepting, settled}}
 use Rattle.sci_cache.specs.{Kinds.{joins}, Member.{is_fresh}, Serving.{serving}, Cache.{Letter, line_of}}
 use Rattle.sci_core.specs.declared.lane.LaneKind.TheVariants.{Requests, Answers}
 use Rattle.sci_core.specs.Core.{Core, lane_of, lane_place, node_at}
@@ -29,7 +29,7 @@ use Rattle.sci_fair.specs.{Lanes.{changes_list}, Rank.{rank, work_on}, Retries.{
 use Rattle.sci_fair.proofs.Ahead.{Ahead, Amid, InLane, after_it, earlier, fewer, on_from}
 use Rattle.sci_fair.proofs.{Descents.{turns_part, windows_fewer}, HomeAnswers.{awaits_sent}}
 use Rattle.sci_fair.proofs.{AnswersGo.{Since, since_step}, Awaiting.{Awaits, ask_no_accept, await_all, taking_no_accept}}
-use Rattle.sci_fair.proofs.{Comers.{coming_is, coming_links, leading_links}, Joins.{none_needy, taker_keeps}, Kept.{Class, IsIn, is_needy, needy}}
+use Rattle.sci_fair.proofs.{Comers.{coming_is, coming_links, leading_links}, Joins.{none_needy, taker_keeps}, Kept.{Class, IsIn, Keeps, is_needy, needy}}
 use Rattle.sci_fair.proofs.LaneTurns.{among_gained, among_tail, asks_keep, take_answers}
 use Rattle.sci_fair.proofs.{Promised.{never_on}, ReadSteps.{refuses_cread, refuses_it, replied_sent}}
 use Rattle.sci_fair.proofs.Requests.{LetterTaken, request_taken, size_along, stands_in}
@@ -95,23 +95,12 @@ is_asking : CacheState → Bool
 is_asking Asking = true
 is_asking _ = false
 
-asks_accept : (work : Option Bool) (s : CacheState) (b : Body) → is_asking s ≡ false
-    → IfSome (accepting s b) (λ t. (rank work t == rank work s) ≡ true → is_asking t ≡ false)
+keeps_not_asking : Keeps (λ work s. is_asking s) false
 unfolding is_asking
-asks_accept work s b is = search rules
-
-asks_serve : (work : Option Bool) (s : CacheState) (m : ℕ) (r : Body) → is_asking s ≡ false
-    → IfSome (serving s m r) (λ (served : CacheState × Body). (rank work served.0 == rank work s) ≡ true → is_asking served.0 ≡ false)
-unfolding is_asking
-asks_serve work s m r is = search rules
-
-asks_ask : (work : Option Bool) (s : CacheState) (k : AskKind) → is_asking s ≡ false
-    → IfSome (asking s k) (λ (asked : Asked). (rank work asked.next == rank work s) ≡ true → is_asking asked.next ≡ false)
-unfolding is_asking
-asks_ask work s k is = search rules
+keeps_not_asking = record { accepts = λ work s a is. search rules; serves = λ work s m r is. search rules; asks = λ work s k is. search rules }
 
 not_asking : Class
-not_asking = record { test = λ work s. is_asking s; value = false; accepts = asks_accept; serves = asks_serve; asks = asks_ask }
+not_asking = record { test = λ work s. is_asking s; value = false; kept = keeps_not_asking }
 
 asking_once : (s : CacheState) → is_tried_once s ≡ false → is_asking s ≡ false
 unfolding is_asking

@@ -5,13 +5,13 @@ use Rattle.std.proofs.Common.{◌++◌}
 use Rattle.std.proofs.Common.{Option, Some, None, refl, sym, ap, subst, ◌∙◌, inl, inr, rules}
 use Rattle.std.proofs.lemmas.Bool.{cases_Bool, cases_eq, cases_lt, eqb-true, ne_eqb}
 use Rattle.std.proofs.lemmas.List.{get_or_past}
-use Rattle.std.specs.Prelude.{IfSome, is_some, slice_get}
+use Rattle.std.specs.Prelude.{is_some, slice_get}
 use Rattle.sci_history.specs.Seen.{IsAmong}
 use Rattle.sci_words.specs.declared.{event.{AskKind.{AskKind}, Event.{Event}}}
-use Rattle.sci_packets.specs.{declared.body.Body.{Body, TheVariants.{Cread}}}
+use Rattle.sci_packets.specs.{declared.body.Body.{TheVariants.{Cread}}}
 use Rattle.sci_cache.specs.State.{CacheState, FreshJoining, Joining, Telling, waits}
-use Rattle.sci_cache.specs.{Accepting.{accepting}, Asking.{Asked, asking}}
-use Rattle.sci_cache.specs.{Kinds.{joins, must_send}, Serving.{serving}, Cache.{Letter}}
+use Rattle.sci_cache.specs.{Asking.{Asked, asking}}
+use Rattle.sci_cache.specs.{Kinds.{joins, must_send}, Cache.{Letter}}
 use Rattle.sci_core.specs.declared.lane.LaneKind.TheVariants.{Requests}
 use Rattle.sci_core.specs.Core.{Core, lane_of, lane_place, node_at}
 use Rattle.sci_core.specs.{Node.{NodeOf, lines_of}, Reached.{IsReached}, Rounds.{is_telling, joins_before}, Sharing.{is_about}}
@@ -23,12 +23,12 @@ use Rattle.sci_policy.specs.Lines.{can_drain, has_maker, least, own_ask, state_o
 use Rattle.sci_policy.specs.{Policy.{PolicyOf, asks_home_to_change, awaits_home, decided, ticked}, Turn.{decided_event}}
 use Rattle.sci_policy.proofs.{Found.{least_fits}, Least.{least_first}}
 use Rattle.sci_turn.specs.Moves.{taken_next, taking_event}
-use Rattle.sci_fair.specs.{Rank.{can_perform, rank, work_on}, Retries.{is_tried_once}, Steady.{AreSteadyTurns, IsSteadyTurn, Working, WorksByTurns}}
+use Rattle.sci_fair.specs.{Rank.{can_perform, work_on}, Retries.{is_tried_once}, Steady.{AreSteadyTurns, IsSteadyTurn, Working, WorksByTurns}}
 use Rattle.sci_fair.proofs.Ahead.{Ahead, Amid, InLane, after_it, asked_waits, cannot_perform, earlier, fewer, firm_asked, on_from, waiting_asks}
 use Rattle.sci_fair.proofs.Descents.{turns_join, windows_fewer}
 use Rattle.sci_fair.proofs.{AnswersGo.{front_source}, Awaiting.{is_open_head, serves_no_cread}, FirstWants.{wants_send}, Fronts.{opens_serve}}
 use Rattle.sci_fair.proofs.{HeldUp.{FreeTurn, IsFree, free_turn}, HomeAnswers.{gained_by}, LaneTurns.{among_gained}}
-use Rattle.sci_fair.proofs.Kept.{Class, IsIn, is_needy, kept_along, kept_event, kept_events, kept_in, leading, leads, needy, not_draining, performable}
+use Rattle.sci_fair.proofs.Kept.{Class, IsIn, Keeps, is_needy, kept_along, kept_event, kept_events, kept_in, leading, leads, needy, not_draining, performable}
 use Rattle.sci_fair.proofs.{Requests.{LetterTaken, request_taken, size_along, stands_in}}
 use Rattle.sci_fair.proofs.{Retries.{never_once}, Sharers.{asks_it, no_sharers, none_purged, performs_not}, Steadied.{IsSteady}, SteadyTurns.{Held}}
 use Rattle.sci_fair.proofs.Whereabouts.{in_lane}
@@ -39,41 +39,17 @@ use Rattle.sci_fair.proofs.Comers.{Joined, joined}
 
 -- ---- what steady turns keep
 
-before_accepts : (a : ℕ) (work : Option Bool) (s : CacheState) (b : Body) → joins_before s a ≡ true
-    → IfSome (accepting s b) (λ t. (rank work t == rank work s) ≡ true → joins_before t a ≡ true)
-before_accepts a work s b is = search rules
-
-before_serves : (a : ℕ) (work : Option Bool) (s : CacheState) (m : ℕ) (r : Body) → joins_before s a ≡ true
-    → IfSome (serving s m r) (λ (served : CacheState × Body). (rank work served.0 == rank work s) ≡ true → joins_before served.0 a ≡ true)
-before_serves a work s m r is = search rules
-
-before_asks : (a : ℕ) (work : Option Bool) (s : CacheState) (k : AskKind) → joins_before s a ≡ true
-    → IfSome (asking s k) (λ (asked : Asked). (rank work asked.next == rank work s) ≡ true → joins_before asked.next a ≡ true)
-before_asks a work s k is = search rules
+keeps_joining : (a : ℕ) → Keeps (λ work s. joins_before s a) true
+keeps_joining a = record { accepts = λ work s a is. search rules; serves = λ work s m r is. search rules; asks = λ work s k is. search rules }
 
 abbrev joining : ℕ → Class
-joining a = record {
-  test = λ work s. joins_before s a;
-  value = true;
-  accepts = before_accepts a;
-  serves = before_serves a;
-  asks = before_asks a;
-}
+joining a = record { test = λ work s. joins_before s a; value = true; kept = keeps_joining a }
 
-telling_accepts : (work : Option Bool) (s : CacheState) (b : Body) → is_telling s ≡ true
-    → IfSome (accepting s b) (λ t. (rank work t == rank work s) ≡ true → is_telling t ≡ true)
-telling_accepts work s b is = search rules
-
-telling_serves : (work : Option Bool) (s : CacheState) (m : ℕ) (r : Body) → is_telling s ≡ true
-    → IfSome (serving s m r) (λ (served : CacheState × Body). (rank work served.0 == rank work s) ≡ true → is_telling served.0 ≡ true)
-telling_serves work s m r is = search rules
-
-telling_asks : (work : Option Bool) (s : CacheState) (k : AskKind) → is_telling s ≡ true
-    → IfSome (asking s k) (λ (asked : Asked). (rank work asked.next == rank work s) ≡ true → is_telling asked.next ≡ true)
-telling_asks work s k is = search rules
+keeps_telling : Keeps (λ work s. is_telling s) true
+keeps_telling = record { accepts = λ work s a is. search rules; serves = λ work s m r is. search rules; asks = λ work s k is. search rules }
 
 abbrev telling : Class
-telling = record { test = λ work s. is_telling s; value = true; accepts = telling_accepts; serves = telling_serves; asks = telling_asks }
+telling = record { test = λ work s. is_telling s; value = true; kept = keeps_telling }
 
 -- ---- what must be sent is sent
 

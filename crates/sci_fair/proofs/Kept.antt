@@ -16,16 +16,20 @@ use Rattle.sci_fair.proofs.Awaiting.{same_rank, same_work}
 use Rattle.sci_fair.proofs.StateSteps.{By_accept, By_ask, By_serve, StateStep, Stays, state_step}
 use Rattle.sci_fair.proofs.{Steadied.{IsSteady, Steadily}, SteadyTurns.{Held, steady_turn}}
 
--- a test of a line whose answer is kept
-pub record Class : Type 0 where
-  pub test : Option Bool → CacheState → Bool
-  pub value : Bool
+-- each row of the tables that leaves the rank leaves what a test of a line answers
+pub record Keeps (test : Option Bool → CacheState → Bool) (value : Bool) : Type 0 where
   pub accepts : (work : Option Bool) (s : CacheState) (a : Body) → test work s ≡ value
       → IfSome (accepting s a) (λ t. (rank work t == rank work s) ≡ true → test work t ≡ value)
   pub serves : (work : Option Bool) (s : CacheState) (m : ℕ) (r : Body) → test work s ≡ value
       → IfSome (serving s m r) (λ (served : CacheState × Body). (rank work served.0 == rank work s) ≡ true → test work served.0 ≡ value)
   pub asks : (work : Option Bool) (s : CacheState) (k : AskKind) → test work s ≡ value
       → IfSome (asking s k) (λ (asked : Asked). (rank work asked.next == rank work s) ≡ true → test work asked.next ≡ value)
+
+-- a test of a line whose answer is kept
+pub record Class : Type 0 where
+  pub test : Option Bool → CacheState → Bool
+  pub value : Bool
+  pub kept : Keeps test value
 
 abbrev pub IsIn : Class → ℕ → ℕ → Core → Type 0
 IsIn class n line x = class.test (work_on (node_at x n) line) (state_on (node_at x n) line) ≡ class.value
@@ -37,14 +41,14 @@ step_kept : (class : Class) (e : Event) (line : ℕ) (work : Option Bool) (s t :
 step_kept class e line work s t (Stays same) keeps is = subst (λ (r : CacheState). class.test work r ≡ class.value) (sym same) is
 step_kept class e line work s t (By_accept kind a accepts) keeps is =
     of_some (λ (r : CacheState). (rank work r == rank work s) ≡ true → class.test work r ≡ class.value) (accepting s a) t accepts
-    (class.accepts work s a is) keeps
+    (class.kept.accepts work s a is) keeps
 step_kept class e line work s t (By_serve kind m r b serves) keeps is =
     of_some (λ (served : CacheState × Body). (rank work served.0 == rank work s) ≡ true → class.test work served.0 ≡ class.value) (serving s m r) (t, b) serves
-    (class.serves work s m r is) keeps
+    (class.kept.serves work s m r is) keeps
 step_kept class e line work s t (By_ask kind k asked asks next) keeps is =
     subst (λ (r : CacheState). class.test work r ≡ class.value) next
     (of_some (λ (a : Asked). (rank work a.next == rank work s) ≡ true → class.test work a.next ≡ class.value) (asking s k) asked asks
-    (class.asks work s k is) (subst (λ (r : CacheState). (rank work r == rank work s) ≡ true) (sym next) keeps))
+    (class.kept.asks work s k is) (subst (λ (r : CacheState). (rank work r == rank work s) ≡ true) (sym next) keeps))
 
 pub kept_event : (class : Class) (n line : ℕ) (p : PolicyOf) (x : Core) (e : Event) (q : PolicyOf) (y : Core) → IsSteady n p x e q y → IsIn class n line x
     → IsIn class n line y
@@ -94,20 +98,11 @@ kept_along class n line (i ∷ order) first last good turns is =
 -- ---- classes
 
 -- a line that is no head of a list with a next entry, and doesn't purge, doesn't become one of them
-pub drain_accepts : (work : Option Bool) (s : CacheState) (a : Body) → can_drain s ≡ false
-    → IfSome (accepting s a) (λ t. (rank work t == rank work s) ≡ true → can_drain t ≡ false)
-drain_accepts work s a is = search rules
-
-pub drain_serves : (work : Option Bool) (s : CacheState) (m : ℕ) (r : Body) → can_drain s ≡ false
-    → IfSome (serving s m r) (λ (served : CacheState × Body). (rank work served.0 == rank work s) ≡ true → can_drain served.0 ≡ false)
-drain_serves work s m r is = search rules
-
-pub drain_asks : (work : Option Bool) (s : CacheState) (k : AskKind) → can_drain s ≡ false
-    → IfSome (asking s k) (λ (asked : Asked). (rank work asked.next == rank work s) ≡ true → can_drain asked.next ≡ false)
-drain_asks work s k is = search rules
+pub keeps_drain : Keeps (λ work s. can_drain s) false
+keeps_drain = record { accepts = λ work s a is. search rules; serves = λ work s m r is. search rules; asks = λ work s k is. search rules }
 
 abbrev pub not_draining : Class
-not_draining = record { test = λ work s. can_drain s; value = false; accepts = drain_accepts; serves = drain_serves; asks = drain_asks }
+not_draining = record { test = λ work s. can_drain s; value = false; kept = keeps_drain }
 
 -- nor does one become the head of a fresh list with a next entry, or claim such a list
 abbrev pub has_fresh_next : CacheState → Bool
@@ -115,37 +110,19 @@ has_fresh_next (FreshHead (Some f) c) = true
 has_fresh_next (Claiming (Some f) c) = true
 has_fresh_next _ = false
 
-pub fresh_accepts : (work : Option Bool) (s : CacheState) (a : Body) → has_fresh_next s ≡ false
-    → IfSome (accepting s a) (λ t. (rank work t == rank work s) ≡ true → has_fresh_next t ≡ false)
-fresh_accepts work s a is = search rules
-
-pub fresh_serves : (work : Option Bool) (s : CacheState) (m : ℕ) (r : Body) → has_fresh_next s ≡ false
-    → IfSome (serving s m r) (λ (served : CacheState × Body). (rank work served.0 == rank work s) ≡ true → has_fresh_next served.0 ≡ false)
-fresh_serves work s m r is = search rules
-
-pub fresh_asks : (work : Option Bool) (s : CacheState) (k : AskKind) → has_fresh_next s ≡ false
-    → IfSome (asking s k) (λ (asked : Asked). (rank work asked.next == rank work s) ≡ true → has_fresh_next asked.next ≡ false)
-fresh_asks work s k is = search rules
+pub keeps_fresh : Keeps (λ work s. has_fresh_next s) false
+keeps_fresh = record { accepts = λ work s a is. search rules; serves = λ work s m r is. search rules; asks = λ work s k is. search rules }
 
 -- a line that joins a list, or leaves one and has to tell so, goes on to, and no other begins to
 abbrev pub is_needy : CacheState → Bool
 is_needy (Telling r w sent) = true
 is_needy s = joins s
 
-pub needy_accepts : (b : Bool) (work : Option Bool) (s : CacheState) (a : Body) → is_needy s ≡ b
-    → IfSome (accepting s a) (λ t. (rank work t == rank work s) ≡ true → is_needy t ≡ b)
-needy_accepts b work s a is = search rules
-
-pub needy_serves : (b : Bool) (work : Option Bool) (s : CacheState) (m : ℕ) (r : Body) → is_needy s ≡ b
-    → IfSome (serving s m r) (λ (served : CacheState × Body). (rank work served.0 == rank work s) ≡ true → is_needy served.0 ≡ b)
-needy_serves b work s m r is = search rules
-
-pub needy_asks : (b : Bool) (work : Option Bool) (s : CacheState) (k : AskKind) → is_needy s ≡ b
-    → IfSome (asking s k) (λ (asked : Asked). (rank work asked.next == rank work s) ≡ true → is_needy asked.next ≡ b)
-needy_asks b work s k is = search rules
+pub keeps_needy : (b : Bool) → Keeps (λ work s. is_needy s) b
+keeps_needy b = record { accepts = λ work s a is. search rules; serves = λ work s m r is. search rules; asks = λ work s k is. search rules }
 
 abbrev pub needy : Bool → Class
-needy b = record { test = λ work s. is_needy s; value = b; accepts = needy_accepts b; serves = needy_serves b; asks = needy_asks b }
+needy b = record { test = λ work s. is_needy s; value = b; kept = keeps_needy b }
 
 -- a line that leads its list goes on to lead it
 abbrev pub leads : CacheState → Bool
@@ -157,49 +134,22 @@ leads (Clearing c) = true
 leads (Returning c) = true
 leads _ = false
 
-pub lead_accepts : (work : Option Bool) (s : CacheState) (a : Body) → leads s ≡ true
-    → IfSome (accepting s a) (λ t. (rank work t == rank work s) ≡ true → leads t ≡ true)
-lead_accepts work s a is = search rules
-
-pub lead_serves : (work : Option Bool) (s : CacheState) (m : ℕ) (r : Body) → leads s ≡ true
-    → IfSome (serving s m r) (λ (served : CacheState × Body). (rank work served.0 == rank work s) ≡ true → leads served.0 ≡ true)
-lead_serves work s m r is = search rules
-
-pub lead_asks : (work : Option Bool) (s : CacheState) (k : AskKind) → leads s ≡ true
-    → IfSome (asking s k) (λ (asked : Asked). (rank work asked.next == rank work s) ≡ true → leads asked.next ≡ true)
-lead_asks work s k is = search rules
+pub keeps_leading : Keeps (λ work s. leads s) true
+keeps_leading = record { accepts = λ work s a is. search rules; serves = λ work s m r is. search rules; asks = λ work s k is. search rules }
 
 abbrev pub leading : Class
-leading = record { test = λ work s. leads s; value = true; accepts = lead_accepts; serves = lead_serves; asks = lead_asks }
+leading = record { test = λ work s. leads s; value = true; kept = keeps_leading }
 
 -- what can be performed stays so
-pub perform_accepts : (work : Option Bool) (s : CacheState) (a : Body) → can_perform work s ≡ true
-    → IfSome (accepting s a) (λ t. (rank work t == rank work s) ≡ true → can_perform work t ≡ true)
-perform_accepts work s a is = search rules
-
-pub perform_serves : (work : Option Bool) (s : CacheState) (m : ℕ) (r : Body) → can_perform work s ≡ true
-    → IfSome (serving s m r) (λ (served : CacheState × Body). (rank work served.0 == rank work s) ≡ true → can_perform work served.0 ≡ true)
-perform_serves work s m r is = search rules
-
-pub perform_asks : (work : Option Bool) (s : CacheState) (k : AskKind) → can_perform work s ≡ true
-    → IfSome (asking s k) (λ (asked : Asked). (rank work asked.next == rank work s) ≡ true → can_perform work asked.next ≡ true)
-perform_asks work s k is = search rules
+pub keeps_performable : Keeps can_perform true
+keeps_performable = record { accepts = λ work s a is. search rules; serves = λ work s m r is. search rules; asks = λ work s k is. search rules }
 
 abbrev pub performable : Class
-performable = record { test = can_perform; value = true; accepts = perform_accepts; serves = perform_serves; asks = perform_asks }
+performable = record { test = can_perform; value = true; kept = keeps_performable }
 
 -- what is tried once, is tried once
-pub once_accepts : (work : Option Bool) (s : CacheState) (a : Body) → is_tried_once s ≡ true
-    → IfSome (accepting s a) (λ t. (rank work t == rank work s) ≡ true → is_tried_once t ≡ true)
-once_accepts work s a is = search rules
-
-pub once_serves : (work : Option Bool) (s : CacheState) (m : ℕ) (r : Body) → is_tried_once s ≡ true
-    → IfSome (serving s m r) (λ (served : CacheState × Body). (rank work served.0 == rank work s) ≡ true → is_tried_once served.0 ≡ true)
-once_serves work s m r is = search rules
-
-pub once_asks : (work : Option Bool) (s : CacheState) (k : AskKind) → is_tried_once s ≡ true
-    → IfSome (asking s k) (λ (asked : Asked). (rank work asked.next == rank work s) ≡ true → is_tried_once asked.next ≡ true)
-once_asks work s k is = search rules
+pub keeps_once : Keeps (λ work s. is_tried_once s) true
+keeps_once = record { accepts = λ work s a is. search rules; serves = λ work s m r is. search rules; asks = λ work s k is. search rules }
 
 abbrev pub once : Class
-once = record { test = λ work s. is_tried_once s; value = true; accepts = once_accepts; serves = once_serves; asks = once_asks }
+once = record { test = λ work s. is_tried_once s; value = true; kept = keeps_once }

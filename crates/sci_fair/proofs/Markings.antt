@@ -1,10 +1,8 @@
 -- The two kinds of marks of a policy, and which lines have them: draining lines and due lines.
-use Rattle.std.proofs.Common.{◌≡◌, ◌<◌, ◌+◌, ◌==◌, ℕ, nat_lt, Bool, true, false, List}
+use Rattle.std.proofs.Common.{◌≡◌, ◌<◌, ◌+◌, ℕ, nat_lt, Bool, true, false, List}
 use Rattle.std.proofs.Common.{Option, refl, rules}
-use Rattle.std.specs.Prelude.{IfSome}
-use Rattle.sci_words.specs.declared.{event.{AskKind.{AskKind}}, limits.TheConstants.{MAX_LINES}}
-use Rattle.sci_packets.specs.declared.body.Body.{Body}
-use Rattle.sci_cache.specs.{Accepting.{accepting}, Asking.{Asked, asking}, Kinds.{has_fresh_sharers, has_sharers}, Serving.{serving}}
+use Rattle.sci_words.specs.declared.{limits.TheConstants.{MAX_LINES}}
+use Rattle.sci_cache.specs.{Kinds.{has_fresh_sharers, has_sharers}}
 use Rattle.sci_cache.specs.State.{CacheState, waits}
 use Rattle.sci_core.specs.{Node.{NodeOf}}
 use Rattle.sci_policy.specs.declared.{policy.TheConstants.{PATIENCE}}
@@ -12,8 +10,7 @@ use Rattle.sci_policy.specs.Lines.{can_be_due, can_drain, state_on}
 use Rattle.sci_policy.specs.Policy.{PolicyOf, has, next_policy}
 use Rattle.sci_policy.specs.Policy.{turned}
 use Rattle.sci_policy.proofs.{Patience.{draining_sets, draining_stays, due_sets}, PolicyLaws.{due_stays}}
-use Rattle.sci_fair.specs.{Rank.{rank}}
-use Rattle.sci_fair.proofs.Kept.{Class, drain_accepts, drain_asks, drain_serves, fresh_accepts, fresh_asks, fresh_serves, has_fresh_next}
+use Rattle.sci_fair.proofs.Kept.{Class, Keeps, has_fresh_next, keeps_drain, keeps_fresh}
 
 -- ---- marks
 
@@ -29,16 +26,11 @@ pub record Marking : Type 0 where
   pub served : (policy : PolicyOf) (o : Option ℕ) → marks (record policy { served = o }) ≡ marks policy
   pub turns : (policy : PolicyOf) → marks (turned policy) ≡ marks policy
   pub held : (s : CacheState) → class s ≡ true → last s ≡ false → waits s ≡ true
-  pub accepts : (work : Option Bool) (s : CacheState) (a : Body) → class s ≡ false
-      → IfSome (accepting s a) (λ t. (rank work t == rank work s) ≡ true → class t ≡ false)
-  pub serves : (work : Option Bool) (s : CacheState) (m : ℕ) (r : Body) → class s ≡ false
-      → IfSome (serving s m r) (λ (served : CacheState × Body). (rank work served.0 == rank work s) ≡ true → class served.0 ≡ false)
-  pub asks : (work : Option Bool) (s : CacheState) (k : AskKind) → class s ≡ false
-      → IfSome (asking s k) (λ (asked : Asked). (rank work asked.next == rank work s) ≡ true → class asked.next ≡ false)
+  pub kept : Keeps (λ work s. class s) false
 
 -- the lines that lose their mark
 abbrev pub gone : Marking → Class
-gone m = record { test = λ work s. m.class s; value = false; accepts = m.accepts; serves = m.serves; asks = m.asks }
+gone m = record { test = λ work s. m.class s; value = false; kept = m.kept }
 
 -- ---- draining lines
 
@@ -55,9 +47,7 @@ draining = record {
   served = λ policy o. refl;
   turns = λ policy. refl;
   held = purging_waits;
-  accepts = drain_accepts;
-  serves = drain_serves;
-  asks = drain_asks;
+  kept = keeps_drain;
 }
 
 -- ---- due lines
@@ -78,7 +68,5 @@ due = record {
   served = λ policy o. refl;
   turns = λ policy. refl;
   held = claiming_waits;
-  accepts = fresh_accepts;
-  serves = fresh_serves;
-  asks = fresh_asks;
+  kept = keeps_fresh;
 }

@@ -1,26 +1,26 @@
 -- What isn't tried again and again: a line that awaits the answer to a read, or to its Setback, or that was purged while it rolled, gets
 -- another rank when its answer comes; and so does the line that a Purge reaches. So in steady turns there is none of them for long.
 use Rattle.std.proofs.Common.{◌≡◌, ◌<◌, ◌%◌, ◌==◌, ◌⊎◌, ℕ, Bool, true, false, arith, List, [], ◌∷◌}
-use Rattle.std.proofs.Common.{Option, Some, None, refl, sym, ap, subst, ◌∙◌, inl, inr, rules, get_or-set_same}
+use Rattle.std.proofs.Common.{Option, None, refl, sym, ap, subst, ◌∙◌, inl, inr, rules}
 use Rattle.std.specs.Prelude.{IfSome}
 use Rattle.sci_history.specs.Seen.{IsAmong}
 use Rattle.sci_words.specs.declared.event.{Event.{Event}}
 use Rattle.sci_packets.specs.{declared.body.Body.{Body, TheVariants.{Purge}}, Table.{is_request}}
 use Rattle.sci_home.specs.Serving.{is_for_home}
 use Rattle.sci_cache.specs.{State.{CacheState, waits}, Serving.{serving}}
-use Rattle.sci_cache.specs.{Line.{LineState, line_in, untouched}, Cache.{Letter, line_of}}
+use Rattle.sci_cache.specs.{Cache.{Letter, line_of}}
 use Rattle.sci_core.specs.declared.lane.LaneKind.TheVariants.{Requests}
-use Rattle.sci_core.specs.{Core.{Core, lane_of, lane_place, node_at}, Node.{NodeOf, lines_of, node_serving}, Size.{Size}}
+use Rattle.sci_core.specs.{Core.{Core, lane_of, lane_place, node_at}, Size.{Size}}
 use Rattle.sci_core.specs.{Shape.{follows, state_at}, Sharing.{answer_in, answer_to, is_about, packets_of}}
-use Rattle.sci_core.proofs.{Basics.Options.{of_some}, Step.{NodeSides.{At_home, In_cache, ServedAs, serve_as}, Places.{place_to}}}
-use Rattle.sci_core.proofs.{Tidy.TidyRuns.{reached_tidy}, WellFormed.WellFormedSteps.{reached_well}}
+use Rattle.sci_core.proofs.{Step.{Places.{place_to}}}
+use Rattle.sci_core.proofs.{Tidy.TidyRuns.{reached_tidy}}
 use Rattle.sci_policy.specs.{Lines.{state_on}, Policy.{PolicyOf, is_cread}}
 use Rattle.sci_fair.specs.{Rank.{rank, work_on}, Steady.{AreSteadyTurns, HasWindows, Working, WorksByTurns}}
 use Rattle.sci_fair.specs.Retries.{is_tried_once}
-use Rattle.sci_fair.proofs.{Awaiting.{accepted_idle, same_rank}, Followers.{purge_finds}, Kept.{IsIn, kept_along, kept_in, once}, LaneTurns.{among_stands}}
+use Rattle.sci_fair.proofs.{Awaiting.{IsElsewhere, accepted_idle, never_serves}, Followers.{purge_finds}, Kept.{IsIn, kept_along, kept_in, once}, LaneTurns.{among_stands}}
 use Rattle.sci_fair.proofs.{ReadSteps.{refuses_cread, refuses_it}, AnswersCome.{AnswerTurn, answer_within}}
 use Rattle.sci_fair.proofs.Requests.{request_taken, size_along, stands_in}
-use Rattle.sci_fair.proofs.{StateSteps.{serve_one}, Steadied.{IsSteady}}
+use Rattle.sci_fair.proofs.{Steadied.{IsSteady}}
 use Rattle.sci_fair.proofs.{SteadyTurns.{Held}, Whereabouts.{in_lane, lane_packets}, WholeTurns.{request_alone, sent_purge, sole}}
 use Rattle.sci_words.specs.declared.event.Event.TheVariants as event
 
@@ -61,40 +61,15 @@ never_once n line order first last good some inside turns windows is =
 purge_plain : (b : Body) → b ≡ Purge → is_cread b ≡ false
 purge_plain b is = ap is_cread is
 
-served_purge : (n : ℕ) (p : PolicyOf) (x : Core) (e : Event) (q : PolicyOf) (y : Core) (request : Letter) → IsSteady n p x e q y
-    → request.line < x.size.lines → request.body ≡ Purge → follows (state_on (node_at x n) request.line) ≡ true → (next : NodeOf) → node_at y n ≡ next
-    → ServedAs (node_at x n) request next → ⊥
-served_purge n p x e q y request st inside purge follow next now (At_home served home is made) =
-    let clash : false ≡ true = ap is_for_home (sym purge) ∙ home in cc
-served_purge n p x e q y request st inside purge follow next now (In_cache served is made) =
-    let node = node_at x n in
-    let line = request.line in
-    let work = work_on node line in
-    let s = state_on node line in
-    let below : line < lines_of node = subst (λ (k : ℕ). line < k) (sym ((reached_well x st.reached).each_part n st.some).each) inside in
-    let there : state_on next line ≡ served.0 =
-    ap (λ (part : NodeOf). state_on part line) (sym made)
-    ∙ ap (λ (l : LineState). l.state) (get_or-set_same node.cache.lines line (line_in (line_of node.cache line) served.0) untouched below) in
-    let t : state_on (node_at y n) line ≡ served.0 = ap (λ (part : NodeOf). state_on part line) now ∙ there in
-    let serves : serving s request.source Purge ≡ Some served = subst (λ (b : Body). serving s request.source b ≡ Some served) purge is in
-    let other = of_some (λ (r : CacheState × Body). (rank work r.0 == rank work s) ≡ false) (serving s request.source Purge) served serves
-    (purged_rank work s request.source follow) in
-    let keeps = same_rank n p x e q y line st in
-    let clash : true ≡ false = sym keeps ∙ (ap (λ (r : CacheState). rank work r == rank work s) t ∙ other) in cc
-
 -- an event that takes it serves it
 takes_purge : (n to : ℕ) (p : PolicyOf) (x : Core) (e : Event) (q : PolicyOf) (y : Core) (request : Letter) (rest : List Letter) → IsSteady to p x e q y
     → lane_of x Requests n to ≡ request ∷ rest → (e ≡ event.Serve n to) ⊎ (e ≡ event.Refuse n to) → request.line < x.size.lines → request.body ≡ Purge
     → follows (state_on (node_at x to) request.line) ≡ true → ⊥
 takes_purge n to p x e q y request rest st lane (inr refuse) inside purge follow = grind (arith, refuses_cread, refuses_it, purge_plain)
 takes_purge n to p x e q y request rest st lane (inl serve) inside purge follow =
-    let own = subst (λ (o : Event). IsSteady to p x o q y) serve st in
-    let node = node_at x to in
-    let one = serve_one to p x q y n to own in
-    let same : one.front.letter ≡ request = (let both : one.front.letter ∷ one.front.rest ≡ request ∷ rest = sym one.front.front ∙ lane in cc) in
-    let takes : node_serving node request ≡ Some one.front.next = subst (λ (l : Letter). node_serving node l ≡ Some one.front.next) same one.front.takes in
-    served_purge to p x (event.Serve n to) q y request own inside purge follow one.front.next one.node
-    (of_some (ServedAs node request) (node_serving node request) one.front.next takes (serve_as node request))
+    never_serves to p x n to q y request rest (subst (λ (o : Event). IsSteady to p x o q y) serve st) lane inside (ap is_for_home purge)
+    (subst (λ (b : Body). IfSome (serving (state_on (node_at x to) request.line) request.source b) (IsElsewhere to request.line x)) (sym purge)
+    (purged_rank (work_on (node_at x to) request.line) (state_on (node_at x to) request.line) request.source follow))
 
 -- in steady turns no Purge is in a lane for long
 pub never_purge : (n to : ℕ) (letter : Letter) (order : List ℕ) (first last : Working) → WorksByTurns first.core → n < first.core.size.nodes

@@ -5,7 +5,7 @@ use Rattle.std.proofs.Common.{Option, Some, None, refl, sym, ap, subst, ◌∙�
 use Rattle.std.proofs.lemmas.{Bool.{and_parts, cases_Bool, cases_lt}, List.{get_or_past}}
 use Rattle.std.specs.Prelude.{IfSome, is_some}
 use Rattle.sci_history.specs.Seen.{IsAmong}
-use Rattle.sci_words.specs.declared.{event.AskKind.{AskKind}, stamped.Stamped.{Stamped}}
+use Rattle.sci_words.specs.declared.{stamped.Stamped.{Stamped}}
 use Rattle.sci_packets.specs.declared.body.Body.{Body}
 use Rattle.sci_cache.specs.{State.{Below, CacheState, Claiming, FreshHead, Head, Purging, Rolling, waits}, Accepting.{accepting}, Asking.{Asked, asking}}
 use Rattle.sci_cache.specs.Kinds.{has_fresh_sharers, joins, must_send}
@@ -26,7 +26,7 @@ use Rattle.sci_fair.proofs.Ahead.{windows_on}
 use Rattle.sci_fair.proofs.{Descents.{turns_join, turns_part, windows_fewer, windows_part}, FirstWants.{wants_claim}}
 use Rattle.sci_fair.proofs.HeldUp.{Asks_it, FreeTurn, IsFree, Performs_it, Wants_none, free_turn}
 use Rattle.sci_fair.proofs.{Homes.{none_changes}, Joins.{none_needy}}
-use Rattle.sci_fair.proofs.Kept.{Class, has_fresh_next, is_needy, kept_along, kept_in, needy, not_draining, once}
+use Rattle.sci_fair.proofs.Kept.{Class, Keeps, has_fresh_next, is_needy, kept_along, kept_in, needy, not_draining, once}
 use Rattle.sci_fair.proofs.Markings.{due, fresh_due}
 use Rattle.sci_fair.proofs.{Patience.{MarkedTurn, Stopped, marked_turn}, Promised.{As_it_is, By_answer, SettlesTo, settles}}
 use Rattle.sci_fair.proofs.{Requests.{good_along, size_along}, Retries.{never_once}}
@@ -266,20 +266,11 @@ no_follower n line w last some late = elim (cases_Bool (follows (state_on (node_
 
 -- ---- no line awaits an answer
 
-follow_accepts : (work : Option Bool) (s : CacheState) (a : Body) → follows s ≡ false
-    → IfSome (accepting s a) (λ t. (rank work t == rank work s) ≡ true → follows t ≡ false)
-follow_accepts work s a is = search rules
-
-follow_serves : (work : Option Bool) (s : CacheState) (m : ℕ) (r : Body) → follows s ≡ false
-    → IfSome (serving s m r) (λ (served : CacheState × Body). (rank work served.0 == rank work s) ≡ true → follows served.0 ≡ false)
-follow_serves work s m r is = search rules
-
-follow_asks : (work : Option Bool) (s : CacheState) (k : AskKind) → follows s ≡ false
-    → IfSome (asking s k) (λ (asked : Asked). (rank work asked.next == rank work s) ≡ true → follows asked.next ≡ false)
-follow_asks work s k is = search rules
+keeps_not_following : Keeps (λ work s. follows s) false
+keeps_not_following = record { accepts = λ work s a is. search rules; serves = λ work s m r is. search rules; asks = λ work s k is. search rules }
 
 abbrev not_following : Class
-not_following = record { test = λ work s. follows s; value = false; accepts = follow_accepts; serves = follow_serves; asks = follow_asks }
+not_following = record { test = λ work s. follows s; value = false; kept = keeps_not_following }
 
 -- why a line waits
 waits_for : (s : CacheState) → waits s ≡ true
@@ -305,10 +296,12 @@ abbrev pends : Class
 pends = record {
   test = λ work s. is_some work;
   value = true;
-  accepts = λ work s a is. if_any (accepting s a) (λ t. (rank work t == rank work s) ≡ true → is_some work ≡ true) (λ t keeps. is);
-  serves = λ work s m r is. if_any (serving s m r) (λ (served : CacheState × Body). (rank work served.0 == rank work s) ≡ true → is_some work ≡ true)
-      (λ served keeps. is);
-  asks = λ work s k is. if_any (asking s k) (λ (asked : Asked). (rank work asked.next == rank work s) ≡ true → is_some work ≡ true) (λ asked keeps. is);
+  kept = record {
+    accepts = λ work s a is. if_any (accepting s a) (λ t. (rank work t == rank work s) ≡ true → is_some work ≡ true) (λ t keeps. is);
+    serves = λ work s m r is. if_any (serving s m r) (λ (served : CacheState × Body). (rank work served.0 == rank work s) ≡ true → is_some work ≡ true)
+        (λ served keeps. is);
+    asks = λ work s k is. if_any (asking s k) (λ (asked : Asked). (rank work asked.next == rank work s) ≡ true → is_some work ≡ true) (λ asked keeps. is);
+  };
 }
 
 none_works : (o : Option Pending) → o ≡ None → is_some (work_in o) ≡ true → ⊥
