@@ -8,7 +8,7 @@ use Rattle.sci_words.specs.declared.event.{Event.{Event}}
 use Rattle.sci_cache.specs.Cache.{Letter, line_of}
 use Rattle.sci_core.specs.declared.lane.LaneKind.TheVariants.{Requests, Answers}
 use Rattle.sci_core.specs.Core.{Core, lane_at, lane_of, lane_place, node_at}
-use Rattle.sci_core.specs.{Node.{NodeOf}, Reached.{IsReached}, Sharing.{is_about, packets_of}, Size.{Size}}
+use Rattle.sci_core.specs.{Node.{NodeOf, node_refusing, node_serving}, Reached.{IsReached}, Sharing.{is_about, packets_of}, Size.{Size}}
 use Rattle.sci_core.proofs.{Basics.FlatMaps.{around}, Step.Steps.{lane_below}, Tidy.TidyRuns.{reached_tidy}, WellFormed.WellFormedSteps.{reached_well}}
 use Rattle.sci_policy.specs.declared.decision.Decision.{Decision}
 use Rattle.sci_policy.specs.{Policy.{PolicyOf, decided}, Turn.{decided_event, is_ask}}
@@ -18,6 +18,7 @@ use Rattle.sci_fair.specs.Steady.{Working}
 use Rattle.sci_fair.specs.Steady.{WorksByTurns}
 use Rattle.sci_fair.proofs.{StateSteps.{IsTaken, ask_one, refuse_one, reply_one, serve_one, size_kept, take_lost}, Steadied.{Change, GoesBy, IsGoing}}
 use Rattle.sci_fair.proofs.{SteadyTurns.{HeldBy}, Trace.{AreAll, is_taking}, Whereabouts.{lane_packets}, WholeTurns.{sole}}
+use Rattle.sci_fair.proofs.OneStep.{TakesOne}
 use Rattle.sci_policy.specs.declared.decision.Decision.TheVariants as decision
 use Rattle.sci_words.specs.declared.event.Event.TheVariants as event
 
@@ -105,34 +106,34 @@ lost_all K n p x (e ∷ events) q y j kinds steady f =
     let second = lost_all K n steady.0 mid events q y j kinds.1 steady.3 (subst (λ (z : Size). j < z.nodes) (sym size) f) in
     (first.0 ++ second.0, first.1 ∙ (ap (λ (l : List Letter). first.0 ++ l) second.1 ∙ sym (append_assoc first.0 second.0 (lane_of y Requests j n))))
 
+-- a request that is taken leaves a lane, or is its front
+left_or_taken : (n j from : ℕ) (x y : Core) (taking : Letter → Option NodeOf) (front : Letter) (rest : List Letter) → j < x.size.nodes → n < x.size.nodes
+    → TakesOne x y n from Requests taking → lane_of x Requests j n ≡ front ∷ rest
+    → (lane_of y Requests j n ≡ front ∷ rest) ⊎ ((from ≡ j) × (lane_of y Requests j n ≡ rest))
+left_or_taken n j from x y taking front rest f some one lane = elim (cases_eq j from) [
+  | inl same ↦
+      let front_is : lane_of x Requests j n ≡ one.front.letter ∷ one.front.rest =
+      subst (λ (k : ℕ). lane_of x Requests k n ≡ one.front.letter ∷ one.front.rest) (sym same) one.front.front in
+      let now : lane_of y Requests j n ≡ one.front.rest = subst (λ (k : ℕ). lane_of y Requests k n ≡ one.front.rest) (sym same) one.sets.now in
+      let left : one.front.rest ≡ rest = (let both : one.front.letter ∷ one.front.rest ≡ front ∷ rest = sym front_is ∙ lane in cc) in
+      inr (sym same, now ∙ left)
+  | inr other ↦ inl (one.sets.rest Requests j n f some (λ c d g. other d) ∙ lane)
+]
+
 -- an event that takes requests leaves a lane, or takes its front
 pub take_one : {K : Change} (n j : ℕ) (p : PolicyOf) (x : Core) (q : PolicyOf) (y : Core) (e : Event) (front : Letter) (rest : List Letter)
     → IsGoing K n p x e q y
     → is_taking e ≡ true → j < x.size.nodes → lane_of x Requests j n ≡ front ∷ rest
     → (lane_of y Requests j n ≡ front ∷ rest) ⊎ (((e ≡ event.Serve j n) ⊎ (e ≡ event.Refuse j n)) × (lane_of y Requests j n ≡ rest))
 take_one n j p x q y (event.Serve from i) front rest st kind f lane =
-    let one = serve_one n p x q y from i st in
-    elim (cases_eq j from) [
-      | inl same ↦
-          let front_is : lane_of x Requests j n ≡ one.front.letter ∷ one.front.rest =
-          subst (λ (k : ℕ). lane_of x Requests k n ≡ one.front.letter ∷ one.front.rest) (sym same) one.front.front in
-          let now : lane_of y Requests j n ≡ one.front.rest = subst (λ (k : ℕ). lane_of y Requests k n ≡ one.front.rest) (sym same) one.sets.now in
-          let left : one.front.rest ≡ rest = (let both : one.front.letter ∷ one.front.rest ≡ front ∷ rest = sym front_is ∙ lane in cc) in
-          let i_is : i ≡ n = st.own.kind.own in
-          inr (inl (ap (λ (k : ℕ). event.Serve k i) (sym same) ∙ ap (λ (k : ℕ). event.Serve j k) i_is), now ∙ left)
-      | inr other ↦ inl (one.sets.rest Requests j n f st.some (λ c d g. other d) ∙ lane)
+    elim (left_or_taken n j from x y (node_serving (node_at x n)) front rest f st.some (serve_one n p x q y from i st) lane) [
+      | inl left ↦ inl left
+      | inr taken ↦ inr (inl (ap (λ (k : ℕ). event.Serve k i) taken.0 ∙ ap (λ (k : ℕ). event.Serve j k) st.own.kind.own), taken.1)
     ]
 take_one n j p x q y (event.Refuse from i) front rest st kind f lane =
-    let one = refuse_one n p x q y from i st in
-    elim (cases_eq j from) [
-      | inl same ↦
-          let front_is : lane_of x Requests j n ≡ one.front.letter ∷ one.front.rest =
-          subst (λ (k : ℕ). lane_of x Requests k n ≡ one.front.letter ∷ one.front.rest) (sym same) one.front.front in
-          let now : lane_of y Requests j n ≡ one.front.rest = subst (λ (k : ℕ). lane_of y Requests k n ≡ one.front.rest) (sym same) one.sets.now in
-          let left : one.front.rest ≡ rest = (let both : one.front.letter ∷ one.front.rest ≡ front ∷ rest = sym front_is ∙ lane in cc) in
-          let i_is : i ≡ n = st.own.kind.own in
-          inr (inr (ap (λ (k : ℕ). event.Refuse k i) (sym same) ∙ ap (λ (k : ℕ). event.Refuse j k) i_is), now ∙ left)
-      | inr other ↦ inl (one.sets.rest Requests j n f st.some (λ c d g. other d) ∙ lane)
+    elim (left_or_taken n j from x y (node_refusing (node_at x n)) front rest f st.some (refuse_one n p x q y from i st) lane) [
+      | inl left ↦ inl left
+      | inr taken ↦ inr (inr (ap (λ (k : ℕ). event.Refuse k i) taken.0 ∙ ap (λ (k : ℕ). event.Refuse j k) st.own.kind.own), taken.1)
     ]
 take_one n j p x q y (event.Reply i) front rest st kind f lane = inl ((reply_one n p x q y i st).sets.rest Requests j n f st.some (λ k. cc) ∙ lane)
 take_one n j p x q y (event.Accept from i) front rest st kind f lane = cc

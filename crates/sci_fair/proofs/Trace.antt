@@ -187,6 +187,30 @@ goes_on_from n old froms p x a b some goes steps =
     (λ i c d is ups. goes_up n old some p x i Nothing 4 c d is (λ e f g reached size kind steps_ q. tt) ups) froms a b goes steps
 
 module _ (n j : ℕ) (old : Core) (some : n < old.size.nodes) (f : j < old.size.nodes) (p1 : PolicyOf) (c1 : Core) where
+  -- the node takes a request of node j
+  look_taken : (froms : List ℕ) (a taken next mid b : Stage) (e : Event)
+      → Goes n is_taking (λ c. HasTaken n old c × (lane_of c Requests j n ≡ lane_of c1 Requests j n)) p1 c1 a → MadeOwn n a e taken → is_taking e ≡ true
+      → taken_next a.policy a.post.core j n ≡ Some e → HasServed n j old taken.post.core → Replies taken next
+      → UpTo 3 (Takes j) (FindsNoRequest j) next mid → InTurn TakesFrom froms mid b → Look n j old p1 c1 b.policy b.post.core
+  look_taken froms a taken next mid b e goes made kind decides step replies ups steps =
+      let served = goes_first n is_taking (λ c. HasServed n j old c × Nothing c) taken made.is (step, tt) in
+      let replied = goes_replies n old some taken.policy taken.post.core j Nothing taken next served (λ c d e reached size is steps_ q. tt) replies in
+      let up = goes_up n old some taken.policy taken.post.core j Nothing 3 next mid replied (λ c d e reached size kind steps_ q. tt) ups in
+      let last = goes_on_from n old froms taken.policy taken.post.core mid b some up steps in
+      record {
+        p = a.policy;
+        c = a.post.core;
+        first = goes.events;
+        before = goes.does;
+        first_takes = goes.kinds;
+        second = e ∷ last.events;
+        after = (taken.policy, taken.post.core, made.own, made.steps, last.does);
+        second_takes = (kind, last.kinds);
+        so = goes.so.0;
+        lane = goes.so.1;
+        did = inr (e, last.events, refl, decides);
+      }
+
   -- the turn has come to node j
   look_at : (froms : List ℕ) (a mid b : Stage) → Goes n is_taking (λ c. HasTaken n old c × (lane_of c Requests j n ≡ lane_of c1 Requests j n)) p1 c1 a
       → TakesFrom j a mid → InTurn TakesFrom froms mid b → Look n j old p1 c1 b.policy b.post.core
@@ -212,50 +236,15 @@ module _ (n j : ℕ) (old : Core) (some : n < old.size.nodes) (f : j < old.size.
       }
   look_at froms a mid b goes (inr rest) steps =
       let taken = rest.1.taken in
-      let next = rest.0 in
       elim rest.1.takes [
         | inl makes ↦
             let made = made_own n a taken (λ m. event.Serve j m) (λ m. record { own = refl; kind = refl }) goes.is makes in
-            let served = goes_first n is_taking (λ c. HasServed n j old c × Nothing c) taken made.is
-            (serve_step n j old a.post.core taken.post.core some goes.so.0 made.steps, tt) in
-            let replied = goes_replies n old some taken.policy taken.post.core j Nothing taken next served
-            (λ c d e reached size is steps_ q. tt) rest.1.replies in
-            let up = goes_up n old some taken.policy taken.post.core j Nothing 3 next mid replied (λ c d e reached size kind steps_ q. tt) rest.2 in
-            let last = goes_on_from n old froms taken.policy taken.post.core mid b some up steps in
-            record {
-              p = a.policy;
-              c = a.post.core;
-              first = goes.events;
-              before = goes.does;
-              first_takes = goes.kinds;
-              second = event.Serve j n ∷ last.events;
-              after = (taken.policy, taken.post.core, made.own, made.steps, last.does);
-              second_takes = (refl, last.kinds);
-              so = goes.so.0;
-              lane = goes.so.1;
-              did = inr (event.Serve j n, last.events, refl, made.own.decides.0);
-            }
+            look_taken froms a taken rest.0 mid b (event.Serve j n) goes made refl made.own.decides.0
+            (serve_step n j old a.post.core taken.post.core some goes.so.0 made.steps) rest.1.replies rest.2 steps
         | inr makes ↦
             let made = made_own n a taken (λ m. event.Refuse j m) (λ m. record { own = refl; kind = refl }) goes.is makes in
-            let served = goes_first n is_taking (λ c. HasServed n j old c × Nothing c) taken made.is
-            (refuse_step n j old a.post.core taken.post.core some goes.so.0 made.steps, tt) in
-            let replied = goes_replies n old some taken.policy taken.post.core j Nothing taken next served
-            (λ c d e reached size is steps_ q. tt) rest.1.replies in
-            let up = goes_up n old some taken.policy taken.post.core j Nothing 3 next mid replied (λ c d e reached size kind steps_ q. tt) rest.2 in
-            let last = goes_on_from n old froms taken.policy taken.post.core mid b some up steps in
-            record {
-              p = a.policy;
-              c = a.post.core;
-              first = goes.events;
-              before = goes.does;
-              first_takes = goes.kinds;
-              second = event.Refuse j n ∷ last.events;
-              after = (taken.policy, taken.post.core, made.own, made.steps, last.does);
-              second_takes = (refl, last.kinds);
-              so = goes.so.0;
-              lane = goes.so.1;
-              did = inr (event.Refuse j n, last.events, refl, made.own.decides.0);
-            }
+            look_taken froms a taken rest.0 mid b (event.Refuse j n) goes made refl made.own.decides.0
+            (refuse_step n j old a.post.core taken.post.core some goes.so.0 made.steps) rest.1.replies rest.2 steps
       ]
 
   -- other nodes' requests are taken before, and the lane stays
