@@ -15,8 +15,8 @@ use Rattle.sci_fair.specs.Steady.{AreSteadyTurns, AreTurns, HasWindows, IsSteady
 use Rattle.sci_fair.specs.{Steady.{WorksByTurns}}
 use Rattle.sci_fair.proofs.{Awaiting.{taking_no_accept, taking_no_ask}, Descents.{Comes, ComesBy, Falls, Stays, comes_later, descend}}
 use Rattle.sci_fair.proofs.Descents.{windows_fewer}
-use Rattle.sci_fair.proofs.{HomeAnswers.{AnsweredAt, answers_kept, free_taken}}
-use Rattle.sci_fair.proofs.LaneTurns.{among_gained, among_stands, among_tail, asks_keep, lost_all, no_two}
+use Rattle.sci_fair.proofs.{HomeAnswers.{AnsweredAt, answered_on, answers_kept, free_taken}}
+use Rattle.sci_fair.proofs.LaneTurns.{among_gained, among_stands, among_tail, lost_all, no_two}
 use Rattle.sci_fair.proofs.{StateSteps.{By_accept, By_ask, By_serve, StateStep, Stays as Remains, state_step}, Steadied.{Change, GoesBy, IsSame}}
 use Rattle.sci_fair.proofs.{SteadyTurns.{Held, steady_turn}, Trace.{AreAll, is_taking}, WholeTurns.{sole}}
 use Rattle.sci_fair.proofs.Whereabouts.{Answered_from, Asked_at, in_lane, lane_packets, same_packet, where_is}
@@ -114,16 +114,7 @@ module _ (K : Change) (i n to line : ℕ) (old new : Working) (letter : Letter) 
       let l2 : line < c2.size.lines = subst (λ (z : Size). line < z.lines) (sym since.size) inside in
       elim (where_is c2 n line since.reached (free_taken i old new taken.good held) n2 l2 waits_taken) [
         | Asked_at other packet g asks asked among ↦ absurd (never_again other packet g asked among)
-        | Answered_from from packet f answers asked among ↦
-            let keeps = asks_keep K i held.trace.p2 c2 held.trace.e3 held.trace.p3 new.core from n held.trace.are_asks held.asks f n2 in
-            record {
-              from = from;
-              sender = subst (λ (z : Size). from < z.nodes) (sym held.size) (subst (λ (z : Size). from < z.nodes) since.size f);
-              letter = packet;
-              answers = answers;
-              about = asked;
-              among = subst (IsAmong packet) (sym keeps.1) among;
-            }
+        | Answered_from from packet f answers asked among ↦ answered_on i n line from old new packet held some f answers asked among
       ]
 
 -- ---- the node accepts it

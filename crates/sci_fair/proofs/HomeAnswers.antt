@@ -204,6 +204,23 @@ gained_by {K = K} h n b old new held some t =
           ([], keeps.0 other ∙ sym (append-nil (lane_of held.trace.c2 Requests n b)))
     ]
 
+-- an answer that is under way when requests have been taken is so when the turn has ended
+pub answered_on : {K : Change} (i n line from : ℕ) (old new : Working) (letter : Letter) → (held : HeldBy K i old new) → n < old.core.size.nodes
+    → from < held.trace.c2.size.nodes → is_request letter.body ≡ false → is_about n line letter ≡ true
+    → IsAmong letter (lane_of held.trace.c2 Answers from n) → AnsweredAt n line new.core
+answered_on {K = K} i n line from old new letter held some f answers about among =
+    let size = held.trace.taken.so.since.size in
+    let here : n < held.trace.c2.size.nodes = subst (λ (z : Size). n < z.nodes) (sym size) some in
+    let keeps = asks_keep K i held.trace.p2 held.trace.c2 held.trace.e3 held.trace.p3 new.core from n held.trace.are_asks held.asks f here in
+    record {
+      from = from;
+      sender = subst (λ (z : Size). from < z.nodes) (sym held.size) (subst (λ (z : Size). from < z.nodes) size f);
+      letter = letter;
+      answers = answers;
+      about = about;
+      among = subst (IsAmong letter) (sym keeps.1) among;
+    }
+
 gone_answered : {K : Change} (h n line k : ℕ) (old new : Working) → WorksByTurns old.core → (held : HeldBy K h old new) → h < old.core.size.nodes
     → n < old.core.size.nodes
     → line < old.core.size.lines → h ≡ line % old.core.size.nodes → (asked : AskedAt n h line k old.core) → Awaits n line held.trace.c2 → (gone : List Letter)
@@ -220,16 +237,7 @@ gone_answered {K = K} h n line k old new good held server some inside home asked
           let left : IsAmong letter (lane_of c2 Requests n h) = subst (λ (m : ℕ). IsAmong letter (lane_of c2 Requests n m)) same among in
           let behind : IsAmong letter asked.after = subst (IsAmong letter) (sym is) (among_tail letter gone (lane_of c2 Requests n h) left) in
           absurd (no_two old.core n h line asked.letter letter asked.before asked.after good.reached some server inside asked.lane asked.about about behind)
-      | Answered_from from letter f answers about among ↦
-          let keeps = asks_keep K h held.trace.p2 c2 held.trace.e3 held.trace.p3 new.core from n held.trace.are_asks held.asks f here in
-          record {
-            from = from;
-            sender = subst (λ (z : Size). from < z.nodes) (sym held.size) (subst (λ (z : Size). from < z.nodes) since.size f);
-            letter = letter;
-            answers = answers;
-            about = about;
-            among = subst (IsAmong letter) (sym keeps.1) among;
-          }
+      | Answered_from from letter f answers about among ↦ answered_on h n line from old new letter held some f answers about among
     ]
 
 pub server_turn : {K : Change} (h n line k : ℕ) (old new : Working) → WorksByTurns old.core → (held : HeldBy K h old new) → h < old.core.size.nodes

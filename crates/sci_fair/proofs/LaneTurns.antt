@@ -6,7 +6,7 @@ use Rattle.std.specs.{Prelude.{is_some, option_to_list, slice_get}, List.{flat_m
 use Rattle.sci_history.specs.Seen.{IsAmong}
 use Rattle.sci_words.specs.declared.event.{Event.{Event}}
 use Rattle.sci_cache.specs.Cache.{Letter, line_of}
-use Rattle.sci_core.specs.declared.lane.LaneKind.TheVariants.{Requests, Answers}
+use Rattle.sci_core.specs.declared.lane.LaneKind.{LaneKind, TheVariants.{Requests, Answers}}
 use Rattle.sci_core.specs.Core.{Core, lane_at, lane_of, lane_place, node_at}
 use Rattle.sci_core.specs.{Node.{NodeOf, node_refusing, node_serving}, Reached.{IsReached}, Sharing.{is_about, packets_of}, Size.{Size}}
 use Rattle.sci_core.proofs.{Basics.FlatMaps.{around}, Step.Steps.{lane_below}, Tidy.TidyRuns.{reached_tidy}, WellFormed.WellFormedSteps.{reached_well}}
@@ -229,16 +229,21 @@ ask_gains n p x q y b (event.Reply i) st kind f = cc
 ask_gains n p x q y b (event.Issue i op) st kind f = cc
 ask_gains n p x q y b (event.Perform i line) st kind f = cc
 
-pub gains_all : (K : Change) (n : ℕ) (p : PolicyOf) (x : Core) (events : List Event) (q : PolicyOf) (y : Core) (b : ℕ) → AreAll is_ask events
-    → GoesBy K n p x events q y
-    → b < x.size.nodes → HasGained (lane_of x Requests n b) (lane_of y Requests n b)
-gains_all K n p x [] q y b kinds steady f =
-    subst (λ (c : Core). HasGained (lane_of x Requests n b) (lane_of c Requests n b)) steady.1 (gained_none (lane_of x Requests n b))
-gains_all K n p x (e ∷ events) q y b kinds steady f =
+gained_along : (K : Change) (n b : ℕ) (is_one : Event → Bool) (kind : LaneKind)
+    → ((p : PolicyOf) (x : Core) (e : Event) (q : PolicyOf) (y : Core) → IsGoing K n p x e q y → is_one e ≡ true → b < x.size.nodes
+    → HasGained (lane_of x kind n b) (lane_of y kind n b)) → (p : PolicyOf) (x : Core) (events : List Event) (q : PolicyOf) (y : Core)
+    → AreAll is_one events → GoesBy K n p x events q y → b < x.size.nodes → HasGained (lane_of x kind n b) (lane_of y kind n b)
+gained_along K n b is_one kind gains p x [] q y kinds steady f =
+    subst (λ (c : Core). HasGained (lane_of x kind n b) (lane_of c kind n b)) steady.1 (gained_none (lane_of x kind n b))
+gained_along K n b is_one kind gains p x (e ∷ events) q y kinds steady f =
     let mid = steady.1 in
     let size = size_kept n p x steady.0 mid e steady.2 in
-    gained_then (lane_of x Requests n b) (lane_of mid Requests n b) (lane_of y Requests n b) (ask_gains n p x steady.0 mid b e steady.2 kinds.0 f)
-    (gains_all K n steady.0 mid events q y b kinds.1 steady.3 (subst (λ (z : Size). b < z.nodes) (sym size) f))
+    gained_then (lane_of x kind n b) (lane_of mid kind n b) (lane_of y kind n b) (gains p x e steady.0 mid steady.2 kinds.0 f)
+    (gained_along K n b is_one kind gains steady.0 mid events q y kinds.1 steady.3 (subst (λ (z : Size). b < z.nodes) (sym size) f))
+
+pub gains_all : (K : Change) (n : ℕ) (p : PolicyOf) (x : Core) (events : List Event) (q : PolicyOf) (y : Core) (b : ℕ) → AreAll is_ask events
+    → GoesBy K n p x events q y → b < x.size.nodes → HasGained (lane_of x Requests n b) (lane_of y Requests n b)
+gains_all K n p x events q y b = gained_along K n b is_ask Requests (λ p x e q y. ask_gains n p x q y b e) p x events q y
 
 -- ---- lanes that stay
 
@@ -296,13 +301,7 @@ take_answers n p x q y b (event.Perform i line) st kind f = cc
 
 pub takes_answers : (K : Change) (n : ℕ) (p : PolicyOf) (x : Core) (events : List Event) (q : PolicyOf) (y : Core) (b : ℕ) → AreAll is_taking events
     → GoesBy K n p x events q y → b < x.size.nodes → HasGained (lane_of x Answers n b) (lane_of y Answers n b)
-takes_answers K n p x [] q y b kinds steady f =
-    subst (λ (c : Core). HasGained (lane_of x Answers n b) (lane_of c Answers n b)) steady.1 (gained_none (lane_of x Answers n b))
-takes_answers K n p x (e ∷ events) q y b kinds steady f =
-    let mid = steady.1 in
-    let size = size_kept n p x steady.0 mid e steady.2 in
-    gained_then (lane_of x Answers n b) (lane_of mid Answers n b) (lane_of y Answers n b) (take_answers n p x steady.0 mid b e steady.2 kinds.0 f)
-    (takes_answers K n steady.0 mid events q y b kinds.1 steady.3 (subst (λ (z : Size). b < z.nodes) (sym size) f))
+takes_answers K n p x events q y b = gained_along K n b is_taking Answers (λ p x e q y. take_answers n p x q y b e) p x events q y
 
 pub among_gained : (x : Letter) (old new : List Letter) → HasGained old new → IsAmong x old → IsAmong x new
 among_gained x old new gained among = subst (IsAmong x) (sym gained.1) (among_ahead x old gained.0 among)
