@@ -23,6 +23,8 @@ from check import most_at_a_time
 from crates import TOP, kit_folder, libraries, with_all_below, words_for
 from plants import functions_changed, plants_of, plants_of_gate, put_in
 
+# What rattle says where a proof names what a plant took away.
+NAMES = re.compile(r"has no field|is not in scope|has no `|was not admitted|is no name")
 # What rattle says of a limit of its own that stops a proof, wherever it is tried.
 LIMIT = re.compile(r"antt ran out of (stack|the (steps|memory))|outgrew the memory limit|stopped at the step limit")
 
@@ -32,12 +34,20 @@ def is_refused(verdict, said):
     return verdict.startswith(("not proved", "no proof: expected")) or verdict.startswith("could not tell") and bool(LIMIT.search(said))
 
 
+def names_alone(function, verdict, said):
+    """Whether a function isn't proved only since its proof names what isn't there."""
+    errors = re.findall(rf"^\./proofs/{function.replace('::', '/')}/\S+: error: (.*)$", said, re.M)
+    return verdict == "not proved" and bool(errors) and all(map(NAMES.search, errors))
+
+
 class Plants:
     """A copy of a crate, in which its plants are tried."""
 
     def __init__(self, crate, names, room):
         kit = kit_folder()
-        self.crate, self.sources, self.refused = crate, f"{room}/{crate}", set()
+        self.crate, self.sources = crate, f"{room}/{crate}"
+        # Those that are refused, and of them those whose function's proof only names what they took away.
+        self.refused, self.misnamed = set(), set()
         self.functions = {it: functions_changed(crate, it) for it in names}
         flags = ["--jobs", "1", "--incremental", f"{room}/kept"]
         self.words = [f"{kit}/bin/rattle", "check", *words_for(crate, kit), *flags]
@@ -56,9 +66,12 @@ class Plants:
             said = self.check(functions)[1]
         for name in names:
             ends = "|".join(map(re.escape, self.functions[name]))
-            verdicts = re.findall(rf"^fn {self.crate}::(?:\S+::)?(?:{ends}): (.*)$", said, re.M)
-            if any(is_refused(it, said) for it in verdicts):
+            found = re.findall(rf"^fn {self.crate}::((?:\S+::)?(?:{ends})): (.*)$", said, re.M)
+            refused = [it for it in found if is_refused(it[1], said)]
+            if refused:
                 self.refused.add(name)
+            if refused and all(names_alone(*it, said) for it in refused):
+                self.misnamed.add(name)
         return said
 
     def try_alone(self, name):
@@ -90,7 +103,8 @@ class Plants:
                 self.try_together(group)
         for name in self.functions:
             said = "" if name in self.refused else self.try_alone(name)
-            print(f"{self.crate}/{name}: {'refused, as it must be' if name in self.refused else f'NOT REFUSED: {said[-2000:]}'}", flush=True)
+            so = "refused, as it must be" if name in self.refused else f"NOT REFUSED: {said[-2000:]}"
+            print(f"{self.crate}/{name}: {so}{' (a proof names what it takes away)' if name in self.misnamed else ''}", flush=True)
         return len(self.functions.keys() - self.refused)
 
 
