@@ -4,11 +4,11 @@ use Rattle.std.specs.List.{flat_map}
 use Rattle.sci_words.specs.declared.stamped.Stamped.{Stamped}
 use Rattle.sci_history.specs.{declared.{entry.Entry.{Entry}, faults.LineFault.{LineFault}}, Audit.{AreFound}}
 use Rattle.sci_history.specs.Lawful.{Lawful}
-use Rattle.sci_text.specs.{FirstFault.{IsTold}, LogFault.{IsLogFault}, LogValue.{IsLogs}}
+use Rattle.sci_text.specs.{FirstFault.{IsTold}, LogFault.{IsLogFault}}
 use Rattle.sci_command.specs.declared.outcome.Outcome.{Outcome, TheVariants.{Done, Unlawful, Refused}}
 use Rattle.sci_command.specs.{Answer.{IsAnswerBy}, VerdictLine.{verdict_text}}
-use Rattle.sci_reports.specs.{declared.finding.Finding.{Finding}, EntryLines.{IsBeforeEntries}, ExplainJson.{findings_json, lawful_json}}
-use Rattle.sci_reports.specs.{Finding.{AreFindings}, NoteText.{finding_text}}
+use Rattle.sci_reports.specs.{declared.finding.Finding.{Finding}, ExplainJson.{findings_json, lawful_json}}
+use Rattle.sci_reports.specs.{Finding.{AreFindings}, NoteText.{finding_text}, ReadLog.{IsOfLogs}}
 use Rattle.sci_history.specs.declared.verdict.Verdict.TheVariants as verdicts
 
 -- that a log is lawful, in words or as a JSON object; and the same of what is found in another
@@ -27,14 +27,8 @@ IsExplained json before logs last text Unlawful = (Lawful logs last → ⊥)
 IsExplained json before logs last text Refused = ⊥
 
 -- the input is the text of logs with last contents, which are explained
-pub record IsExplanationOf (json : Bool) (input text : List ℕ) (outcome : Outcome) : Type 0 where
-  pub nodes : ℕ
-  pub logs : List (List Entry)
-  pub last : List Stamped
-  pub read : IsLogs input nodes logs last
-  pub before : ℕ
-  pub places : IsBeforeEntries input (length last) before
-  pub found : IsExplained json before logs last text outcome
+abbrev pub IsExplanationOf : Bool → List ℕ → List ℕ → Outcome → Type 0
+IsExplanationOf json input text outcome = IsOfLogs (λ before logs last. IsExplained json before logs last text outcome) input
 
 -- what `explain` writes, and how it ends, for the bytes of a reader, which has failed or not
 abbrev pub IsExplainAnswer : Bool → Option (List ℕ) → Bool → List ℕ → Outcome → Type 0

@@ -8,12 +8,12 @@ use Rattle.sci_history.specs.declared.verdict.FaultKind.{FaultKind}
 use Rattle.sci_history.specs.{declared.order_verdict.Step.{Step}, Audit.{IsFault, entries_of}, Lawful.{Lawful}}
 use Rattle.sci_history.specs.{Cycle.{IsOrderVerdict}, Sequential.{IsSequentiallyConsistent, by_serial}}
 use Rattle.sci_text.specs.{Number.{field}, FirstFault.{IsTold}, Log.{entry_line, issue_text, outcome_text}}
-use Rattle.sci_text.specs.{LogFault.{IsLogFault}, LogValue.{IsLogs}}
+use Rattle.sci_text.specs.LogFault.{IsLogFault}
 use Rattle.sci_command.specs.{declared.outcome.Outcome.{Outcome, TheVariants.{Done, Refused}}, Answer.{IsAnswerBy}}
 use Rattle.sci_command.specs.VerdictLine.{verdict_text}
 use Rattle.sci_reports.specs.declared.ordering.NodeOrder.{NodeOrder, TheVariants.{Logged, BySerial}}
 use Rattle.sci_reports.specs.declared.ordering.{NumberedStep.{NumberedStep}, OrderRequest.{OrderRequest}}
-use Rattle.sci_reports.specs.{EntryLines.{IsBeforeEntries, IsLineOf}, OrderJson.{cycle_json, fault_json, found_json}, OrderWords.{reason_text}}
+use Rattle.sci_reports.specs.{EntryLines.{IsLineOf}, OrderJson.{cycle_json, fault_json, found_json}, OrderWords.{reason_text}, ReadLog.{IsOfLogs}}
 use Rattle.sci_history.specs.declared.verdict.Verdict.TheVariants as verdicts
 
 -- each node's entries in the order that is asked for
@@ -91,14 +91,8 @@ pub record IsFound (request : OrderRequest) (before : ℕ) (logs : List (List En
   pub ends : (outcome ≡ Done) ↔ (Lawful logs last × IsSequentiallyConsistent (kept request.keeps logs) last)
 
 -- the input is the text of logs with last contents, and what is found of them is written
-pub record IsOrderOf (request : OrderRequest) (input text : List ℕ) (outcome : Outcome) : Type 0 where
-  pub nodes : ℕ
-  pub logs : List (List Entry)
-  pub last : List Stamped
-  pub read : IsLogs input nodes logs last
-  pub before : ℕ
-  pub places : IsBeforeEntries input (length last) before
-  pub found : IsFound request before logs last text outcome
+abbrev pub IsOrderOf : OrderRequest → List ℕ → List ℕ → Outcome → Type 0
+IsOrderOf request input text outcome = IsOfLogs (λ before logs last. IsFound request before logs last text outcome) input
 
 -- what `order` writes, and how it ends, for the bytes of a reader, which has failed or not
 abbrev pub IsOrderAnswer : OrderRequest → Option (List ℕ) → Bool → List ℕ → Outcome → Type 0

@@ -5,10 +5,9 @@ use Rattle.sci_history.specs.declared.{entry.Entry.{Entry}}
 use Rattle.sci_history.specs.declared.verdict.FaultKind.TheVariants.{VersionTwice, VersionMissing, WrongReply, OutOfOrder, LastDiffers}
 use Rattle.sci_history.specs.{declared.verdict.Verdict.{Verdict}, Audit.{IsFault, IsVerdict}}
 use Rattle.sci_history.specs.declared.verdict.Verdict.TheVariants.{Lawful, Fault}
-use Rattle.sci_text.specs.LogValue.{IsLogs}
 use Rattle.sci_reports.specs.declared.{faulty.{Cause.{Cause}, FaultyEntry.{FaultyEntry}}, finding.Finding.{Finding}, wanted.Wanted.{Wanted}}
 use Rattle.sci_reports.specs.declared.faulty.Cause.TheVariants.{MadeBefore, FewMakers, OtherWord, SerialAfter, PlacedAfter}
-use Rattle.sci_reports.specs.{EntryLines.{IsBeforeEntries, entry_of}, Finding.{IsFinding}, Subject.{IsSubject}}
+use Rattle.sci_reports.specs.{EntryLines.{entry_of}, Finding.{IsFinding}, ReadLog.{IsOfLogs}, Subject.{IsSubject}}
 
 -- by the cause of a fault: another word, and the entry that made it
 abbrev pub wanted_by_cause : Cause → Option Wanted
@@ -52,11 +51,5 @@ IsWanted before logs last None = HasNoWrongReply logs last
 IsWanted before logs last (Some wanted) = IsWantedWord before logs last wanted
 
 -- the input is the text of such logs
-pub record IsWantedOf (input : List ℕ) (wanted : Option Wanted) : Type 0 where
-  pub nodes : ℕ
-  pub logs : List (List Entry)
-  pub last : List Stamped
-  pub read : IsLogs input nodes logs last
-  pub before : ℕ
-  pub places : IsBeforeEntries input (length last) before
-  pub found : IsWanted before logs last wanted
+abbrev pub IsWantedOf : List ℕ → Option Wanted → Type 0
+IsWantedOf input wanted = IsOfLogs (λ before logs last. IsWanted before logs last wanted) input
