@@ -17,7 +17,8 @@ use Rattle.sci_core.proofs.{Tidy.TidyRuns.{reached_tidy}}
 use Rattle.sci_policy.specs.{Lines.{state_on}, Policy.{PolicyOf, is_cread}}
 use Rattle.sci_fair.specs.{Rank.{rank, work_on}, Steady.{AreSteadyTurns, HasWindows, Working, WorksByTurns}}
 use Rattle.sci_fair.specs.Retries.{is_tried_once}
-use Rattle.sci_fair.proofs.{Awaiting.{IsElsewhere, accepted_idle, never_serves}, Followers.{purge_finds}, Kept.{IsIn, kept_along, kept_in, once}, LaneTurns.{among_stands}}
+use Rattle.sci_fair.proofs.{Awaiting.{IsElsewhere, accepted_idle, never_serves}, Kept.{IsIn, kept_along, kept_in, once}, LaneTurns.{among_stands}}
+use Rattle.sci_fair.proofs.Followers.{purge_finds}
 use Rattle.sci_fair.proofs.{ReadSteps.{refuses_cread, refuses_it}, AnswersCome.{AnswerTurn, answer_within}}
 use Rattle.sci_fair.proofs.Requests.{request_taken, size_along, stands_in}
 use Rattle.sci_fair.proofs.{Steadied.{IsSteady}}
