@@ -56,6 +56,14 @@ def texts_with(crate, plants):
     return texts
 
 
+def fit_together(crate, plants):
+    """Whether these plants can be put in together: none takes away or repeats the old text of another."""
+    try:
+        return bool(texts_with(crate, plants))
+    except ValueError:
+        return False
+
+
 @contextlib.contextmanager
 def put_in(crate, plants, sources):
     """Puts plants into a copy of the crate's sources, for as long as the block runs."""

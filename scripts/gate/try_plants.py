@@ -21,7 +21,7 @@ from concurrent.futures import ThreadPoolExecutor
 
 from check import most_at_a_time
 from crates import TOP, kit_folder, libraries, with_all_below, words_for
-from plants import functions_changed, plants_of, plants_of_gate, put_in
+from plants import fit_together, functions_changed, plants_of, plants_of_gate, put_in
 
 # What rattle says where a proof names what a plant took away.
 NAMES = re.compile(r"has no field|is not in scope|has no `|was not admitted|is no name")
@@ -90,7 +90,7 @@ class Plants:
         while left:
             group, taken = [], set()
             for it in left:
-                if taken.isdisjoint(self.functions[it]):
+                if taken.isdisjoint(self.functions[it]) and fit_together(self.crate, [*group, it]):
                     group.append(it)
                     taken |= self.functions[it]
             yield group
