@@ -1,15 +1,13 @@
 -- Lines of a trace, one after another.
-use Rattle.std.proofs.Common.{◌≡◌, ℕ, suc, ◌+◌, ◌<◌, ◌≤◌, List, [], ◌∷◌, ◌++◌, length, get_or, take, drop, Some, None, refl, sym, ap, subst, ◌∙◌, arith}
+use Rattle.std.proofs.Common.{◌≡◌, ℕ, ◌+◌, ◌<◌, ◌≤◌, List, [], ◌∷◌, ◌++◌, length, take, drop, Some, None, refl, sym, ap, subst, ◌∙◌, arith}
 use Rattle.std.proofs.Common.{inl, inr}
-use Rattle.std.proofs.lemmas.{Bool.{cases_eq, eq-eqb, ne_eqb}, List.{append-nil, length-append, take_more}}
-use Rattle.std.proofs.Math.Seq.{drop-cons}
+use Rattle.std.proofs.lemmas.{Bool.{cases_eq, eq-eqb, ne_eqb}, List.{length-append}}
 use Rattle.sci_judge.specs.declared.access.Access.{Access}
 use Rattle.sci_axe.specs.declared.line.{LastWord.{LastWord}, Said.{Said, TheVariants.{Nothing, Did, Ended}}}
 use Rattle.sci_axe.specs.Line.{line_read}
 use Rattle.sci_axe.specs.Trace.{Agrees, AreAgreed, AreSaid, IsAdded, IsKnown, LastWords, accesses_of, learnt, learnt_from, line_split, no_words}
-use Rattle.sci_axe.specs.Trace.{IsWrong, is_free_for}
-use Rattle.std.proofs.Common.{true, false, Option}
-use Rattle.sci_text.specs.declared.fault.TextFaultKind.{TextFaultKind, TheVariants.{Syntax, Range, TooMany, Read, Write, Memory}}
+use Rattle.sci_axe.specs.Trace.{is_free_for}
+use Rattle.std.proofs.Common.{true, Option}
 use Rattle.sci_words.specs.declared.limits.TheConstants.{MAX_NODES}
 use Rattle.sci_judge.specs.Access.{AreKnown}
 use Rattle.std.proofs.lemmas.List.Elements.{All-push}
@@ -37,10 +35,7 @@ split_long (b ∷ bytes) = elim (cases_eq b 10) [
 
 pub split_shorter : (bytes : List ℕ) → 0 < length bytes → length (line_split bytes).1 < length bytes
 split_shorter [] some = absurd (omega arith)
-split_shorter (b ∷ bytes) some = elim (cases_eq b 10) [
-  | inl is ↦ rw (split_end b bytes is) (omega arith)
-  | inr not_ ↦ let more = split_long bytes in rw (split_more b bytes not_) (omega arith)
-]
+split_shorter (b ∷ bytes) some = grind (arith, cases_eq, split_end, split_long, split_more)
 
 -- no line feed up to a place
 abbrev pub IsWithin : List ℕ → ℕ → Type 0

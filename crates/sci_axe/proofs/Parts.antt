@@ -4,7 +4,7 @@ use Rattle.std.proofs.Common.{if◌then◌else◌, filter, length, ap, arith, in
 use Rattle.std.proofs.lemmas.Bool.{cases_Bool, cases_eq, cases_lt, eq-eqb, eqb-true, Decides.{nat_tests}}
 use Rattle.std.proofs.lemmas.List.{get_or-append-add, map-append, Kept.{AllPairs-cons, AllPairs-filter}, Sums.{sum_by-cons}}
 use Rattle.std.proofs.lemmas.List.Elements.{All-append, All-contains, All-contains_itself, All-filter, filter_passes}
-use Rattle.std.proofs.lemmas.List.Elements.{Contains-append_cases, Contains-append_left, Contains-append_right, Contains-get_or, Contains-push_cases}
+use Rattle.std.proofs.lemmas.List.Elements.{Contains-append_cases, Contains-append_left, Contains-append_right, Contains-get_or}
 use Rattle.std.proofs.lemmas.Map.Views.{any-filter_same}
 use Rattle.std.specs.{List.{AllPairs, Contains, list_any}, Prelude.{IfOk, IsSome, Result, slice_index_or}}
 use Rattle.sci_words.specs.declared.limits.TheConstants.{MAX_NODES}
@@ -51,11 +51,7 @@ no_witness timed (Circle steps) is = no_path timed steps.items is.1.0 is.1.1
 no_witness timed (Round maker through) is = none_at maker is.0 is.1
 
 pub only : (y x : ℕ) → Contains (y ∷ []) x → y ≡ x
-only y x had =
-    elim (Contains-push_cases [] y x had) [
-      | inl none ↦ let lt = none.1 in absurd (omega (arith, lt))
-      | inr is ↦ is
-    ]
+only y x had = grind arith
 
 -- the addresses of the sites that are kept
 addresses_kept : (p : ℕ → Bool) (sites : List SiteVersions) → addresses_of (filter (λ site. p site.address) sites) ≡ filter p (addresses_of sites)

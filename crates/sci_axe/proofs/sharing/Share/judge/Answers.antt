@@ -1,4 +1,4 @@
-use Rattle.std.proofs.Common.{subst, sym}
+use Rattle.std.proofs.Common.{subst, sym, arith}
 use Rattle.sci_axe.specs.Parts.{ArePartExplained}
 use Rattle.sci_axe.proofs.Parts.{explained_in_whole, fault_in_whole, part_known}
 use Rattle.sci_axe.proofs.sharing.Share.judge.Goals as goal
@@ -16,7 +16,4 @@ returns-in-Coherent c =
     (rw c.in-Coherent.is at c.in_ok-fault.ensures))
 
 pub returns : goal.returns
-returns c =
-    let share = c.args.self.now in
-    fault_in_whole share.way.timed share.cuts.now c.args.part share.trace.now c.in_ok-part.field-0 c.in_ok-part.ensures c.in_ok-fault.fault
-    c.in_default.not-Coherent c.in_ok-fault.ensures
+returns c = grind (arith, fault_in_whole)

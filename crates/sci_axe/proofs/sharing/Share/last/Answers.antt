@@ -1,6 +1,6 @@
-use Rattle.std.proofs.Common.{◌≡◌, ◌⊎◌, ◌∙◌, ℕ, All, Bool, true, false, List, ◌∷◌, [], Option, None, Some, ap, if◌then◌else◌, inl, inr, refl, subst, sym}
+use Rattle.std.proofs.Common.{◌≡◌, ◌⊎◌, ◌∙◌, ℕ, All, Bool, true, false, List, ◌∷◌, Option, None, Some, ap, if◌then◌else◌, inl, inr, refl, subst, sym, arith}
 use Rattle.std.proofs.lemmas.{Bool.{cases_eq, eq-eqb, eqb-true}, Map.{Lookups.{exact_unsigned}, Views.{btree_map_contains_key_iff}}}
-use Rattle.std.proofs.lemmas.List.Elements.{All-head, All-tail, Contains-append_cases}
+use Rattle.std.proofs.lemmas.List.Elements.{All-head, All-tail}
 use Rattle.std.specs.{BTreeMap.{get, is_at, keys}, Cmp.{Equal-is, nat_cmp_total}, List.{Contains}, Map.{keys_of, lookup}, Ordering.{is_eq, nat_cmp}}
 use Rattle.sci_judge.specs.{declared.trace.Trace.{Trace}, Judgement.{last_at}}
 use Rattle.sci_axe.proofs.Parts.{only}
@@ -34,11 +34,7 @@ other x q true isnt e = absurd (isnt (sym (exact_unsigned x q ((Equal-is _).0 e)
 other x q false isnt e = e
 
 later : (x q : ℕ) (rest : List ℕ) → (q ≡ x → ⊥) → Contains (x ∷ rest) q → Contains rest q
-later x q rest isnt had =
-    elim (Contains-append_cases (x ∷ []) rest q had) [
-      | inl this ↦ absurd (isnt (sym (only x q this)))
-      | inr comes ↦ comes
-    ]
+later x q rest isnt had = grind (arith, only)
 
 -- what comes behind the first entry
 rest_found : (trace : Trace) (old rest : List (ℕ × ℕ)) (e : ℕ × ℕ) → old ≡ e ∷ rest → All (λ e. get nat_cmp trace.last e.0 ≡ Some e.1) old
