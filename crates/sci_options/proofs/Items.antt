@@ -44,19 +44,8 @@ module _ (options : List OptionRow) (so_far : List Setting) (before : List (List
   pub alone_before : begins_option word ≡ false → (settings : List Setting) (alone : List (List ℕ))
       → GivenFrom options so_far before (word ∷ more) settings alone → GivenFrom options so_far (before ++ (word ∷ [])) more settings alone
   alone_before plain settings alone ([], are, s, a, once) = absurd (cc)
-  alone_before plain settings alone (inl setting ∷ items, (first, behind, count, same, begins, are), s, a, once) =
-      let is : first ≡ word = ap head (sym same) in
-      let option : begins_option word ≡ true = ap begins_option (sym is) ∙ settings_begin options first behind setting count begins in
-      absurd (cc)
-  alone_before plain settings alone (inr lone ∷ items, (rest, same, begins, are), s, a, once) =
-      let is : lone ≡ word = ap head (sym same) in
-      let left : rest ≡ more = ap tail (sym same) in (
-        items,
-        subst (λ words. AreItems options words items) left are,
-        s,
-        a ∙ ap (λ (w : List ℕ). before ++ (w ∷ lone_words items)) is ∙ sym (append_assoc before (word ∷ []) (lone_words items)),
-        once,
-      )
+  alone_before plain settings alone (inl setting ∷ items, (first, behind, count, same, begins, are), s, a, once) = grind (arith, settings_begin)
+  alone_before plain settings alone (inr lone ∷ items, (rest, same, begins, are), s, a, once) = grind (arith, append_assoc)
 
   pub alone_after : begins_option word ≡ false → (settings : List Setting) (alone : List (List ℕ))
       → GivenFrom options so_far (before ++ (word ∷ [])) more settings alone → GivenFrom options so_far before (word ∷ more) settings alone
@@ -72,17 +61,8 @@ module _ (options : List OptionRow) (so_far : List Setting) (before : List (List
       → (setting : Setting) × (count : ℕ) × Begins options word more setting count
       × GivenFrom options (so_far ++ (setting ∷ [])) before (drop count more) settings alone
   first_is option settings alone ([], are, s, a, once) = absurd (cc)
-  first_is option settings alone (inr lone ∷ items, (rest, same, begins, are), s, a, once) =
-      let is : lone ≡ word = ap head (sym same) in
-      let plain : begins_option word ≡ false = ap begins_option (sym is) ∙ begins in
-      absurd (cc)
-  first_is option settings alone (inl setting ∷ items, (first, behind, count, same, begins, are), s, a, once) =
-      let is : first ≡ word = ap head (sym same) in
-      let left : behind ≡ more = ap tail (sym same) in
-      let here : Begins options word more setting count =
-      subst (λ (w : List ℕ). Begins options w more setting count) is (subst (λ (ws : List (List ℕ)). Begins options first ws setting count) left begins) in
-      let there : AreItems options (drop count more) items = subst (λ (ws : List (List ℕ)). AreItems options (drop count ws) items) left are in
-      (setting, count, here, (items, there, s ∙ sym (append_assoc so_far (setting ∷ []) (settings_of items)), a, once))
+  first_is option settings alone (inr lone ∷ items, (rest, same, begins, are), s, a, once) = grind arith
+  first_is option settings alone (inl setting ∷ items, (first, behind, count, same, begins, are), s, a, once) = grind (arith, append_assoc)
 
   pub none_given : begins_option word ≡ true → ((setting : Setting) (count : ℕ) → Begins options word more setting count → ⊥)
       → (settings : List Setting) (alone : List (List ℕ)) → GivenFrom options so_far before (word ∷ more) settings alone → ⊥

@@ -199,7 +199,4 @@ all_at options words given at beyond read =
 pub none_at : (options : List OptionRow) (words : List (Bor (List ℕ))) (before after : Given) (at : ℕ) (wrong : Wrong)
     → IsReadTo options (texts words) before (drop at (texts words)) → Takes options before after (texts (from_place words at)) (Err wrong)
     → IsReading options (texts words) (Err wrong)
-none_at options words before after at wrong read takes =
-    none_read options (texts words) before after (drop at (texts words)) wrong read
-    (subst (λ (ws : List (List ℕ)). Takes options before after ws (Err wrong))
-    (ap texts (from_place_is words at) ∙ sym (drop-map (λ w. w.now) at words)) takes)
+none_at options words before after at wrong read takes = grind (arith, none_read, from_place_is, drop-map)

@@ -1,5 +1,5 @@
 -- The values that words say, from their numbers.
-use Rattle.std.proofs.Common.{◌≡◌, ◌↔◌, ◌<◌, ◌≤◌, ◌^◌, ℕ, List, [], ◌∷◌, map, Option, Some, None, sym, ap, subst, ◌∙◌}
+use Rattle.std.proofs.Common.{◌≡◌, ◌↔◌, ◌<◌, ◌≤◌, ◌^◌, ℕ, List, [], ◌∷◌, map, Option, Some, None, sym, ap, subst, ◌∙◌, arith}
 use Rattle.sci_text.specs.Number.{number}
 use Rattle.sci_options.specs.declared.argument.Argument.{Argument}
 use Rattle.sci_options.specs.declared.argument.Argument.TheVariants as arguments
@@ -67,13 +67,7 @@ pub none_read : {X : Type 0} (f : X → List ℕ) (words : List X) (word : X) (r
     (result : Option (Value × ℕ)) → words ≡ word ∷ rest → said ≡ None → result ≡ None
     → ((value : Value) → (said ≡ Some value) ↔ Says argument value (f word)) → (value : Value) (count : ℕ)
     → (result ≡ Some (value, count)) ↔ FollowsInOne argument value (map f words) count
-none_read f words word rest argument said result are is none says value count = (
-  λ same. absurd (cc),
-  λ h.
-      let first : h.0 ≡ f word = ap head (sym h.2 ∙ ap (map f) are) in
-      let found : said ≡ Some value = (says value).1 (subst (λ (w : List ℕ). Says argument value w) first h.3) in
-      absurd (cc),
-)
+none_read f words word rest argument said result are is none says value count = grind arith
 
 abbrev first_in : Option (ℕ × ℕ) → ℕ
 first_in None = 0
