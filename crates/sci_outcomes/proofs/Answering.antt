@@ -1,5 +1,5 @@
 -- What is written of a script's runs is the answer, and that there are too many positions is why the command is refused.
-use Rattle.std.proofs.Common.{All, ◌≡◌, ◌⊎◌, ℕ, Bool, true, false, List, Option, None, Some, refl, sym, subst, ◌∙◌, inl, inr}
+use Rattle.std.proofs.Common.{All, ◌≡◌, ◌⊎◌, ℕ, Bool, true, false, List, Option, None, Some, refl, sym, subst, inl, inr, arith}
 use Rattle.sci_text.specs.{FirstFault.{AreRead, IsTold}, Script.{ScriptValue}, declared.fault.TextFaultKind.{TextFaultKind, TheVariants.{Memory, TooMany}}}
 use Rattle.sci_drive.specs.Rounds.{most_pending}
 use Rattle.sci_command.specs.{Input.{IsReadAs}, declared.outcome.Outcome.TheVariants.{Done, Unlawful, Refused}}
@@ -45,15 +45,7 @@ module _ (request : OutcomesRequest) (script : ScriptValue) (last : Option Final
     (within : All (IsPlaceWithin script.lines) (written_places script.lines script.operations)) where
   sample_made : (seen : List Sighting) (out : List ℕ) (ends : ending.Outcome) → request.all ≡ false → AreSeenOf script (trials_of request) seen
       → IsSampleText request script last seen out ends → IsOutcomesText request text.0 out ends
-  sample_made seen out ends asked runs table = record {
-    script = script;
-    last = last;
-    read = text.2;
-    seen = seen;
-    runs = runs;
-    sample = λ is. table;
-    whole = λ is. never (sym is ∙ asked);
-  }
+  sample_made seen out ends asked runs table = grind (arith, never)
 
   whole_text_is : (allowed : List AllowedRow) (seen : List Sighting) (out : List ℕ) (ends : ending.Outcome)
       → AreRows script (most_pending request.issuing) allowed → AreSeenOf script (trials_of request) seen
@@ -77,15 +69,7 @@ module _ (request : OutcomesRequest) (script : ScriptValue) (last : Option Final
 
   whole_made : (seen : List Sighting) (out : List ℕ) (ends : ending.Outcome) → request.all ≡ true → AreSeenOf script (trials_of request) seen
       → IsWholeText request script last seen out ends → IsOutcomesText request text.0 out ends
-  whole_made seen out ends asked runs table = record {
-    script = script;
-    last = last;
-    read = text.2;
-    seen = seen;
-    runs = runs;
-    sample = λ is. never (sym asked ∙ is);
-    whole = λ is. table;
-  }
+  whole_made seen out ends asked runs table = grind (arith, never)
 
   made : (allowed : Option (List AllowedRow)) (seen : List Sighting) (out : List ℕ) (ends : ending.Outcome)
       → AreAsked request.all script (most_pending request.issuing) allowed → AreSeenOf script (trials_of request) seen

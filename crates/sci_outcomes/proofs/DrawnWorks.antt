@@ -1,19 +1,18 @@
 -- What each node does in a run whose turns are drawn.
-use Rattle.std.proofs.Common.{◌≡◌, ◌≢◌, ◌==◌, ◌<◌, ℕ, zero, suc, Bool, true, false, if◌then◌else◌, List, [], ◌∷◌, ◌++◌, append_assoc, length}
+use Rattle.std.proofs.Common.{◌≡◌, ◌≢◌, ◌<◌, ℕ, zero, suc, true, List, [], ◌∷◌, ◌++◌, append_assoc, length}
 use Rattle.std.proofs.Common.{All, refl, sym, ap, subst, ◌∙◌, inl, inr, arith}
-use Rattle.std.proofs.lemmas.{Bool.{cases_eq, cases_lt, eq-eqb}, List.{append-nil, get_or_default, get_or_past}}
-use Rattle.std.specs.{List.{AllByRecursion, filter}, Prelude.{Option, Some, slice_index_or}}
+use Rattle.std.proofs.lemmas.{Bool.{cases_eq, cases_lt, eq-eqb}, List.{append-nil, get_or_past}}
+use Rattle.std.specs.{List.{AllByRecursion}, Prelude.{Option, Some, slice_index_or}}
 use Rattle.sci_history.proofs.Order.{filter_yes}
-use Rattle.sci_words.specs.declared.{event.Event.{Event}, operation.Op.{Op}}
+use Rattle.sci_words.specs.declared.{event.Event.{Event}}
 use Rattle.sci_core.specs.Core.{node_at, node_of}
 use Rattle.sci_policy.specs.{declared.progress.Progress.{Progress}, Deeds.{Deed, DoesBy, Issues, Performs, Turns}}
 use Rattle.sci_text.specs.{Script.{ScriptValue, operations_of}, Schedule.{ScheduleValue}}
 use Rattle.sci_drive.proofs.Keeping.{Keeps, keeps_itself, keeps_then, round_keeps}
-use Rattle.sci_drive.specs.{declared.driver.Issuing.{Issuing}, Driving.{DriverOf, IsAnswered, opening_driver}}
+use Rattle.sci_drive.specs.{declared.driver.Issuing.{Issuing}, Driving.{DriverOf, IsAnswered}}
 use Rattle.sci_orders.specs.Witness.{is_seen}
 use Rattle.sci_runs.specs.{Deeds.{AddsOwn, IsDeed, Standing, post_on, standing}, Turns.{next_node}}
 use Rattle.sci_runs.specs.Played.{IsPlayed, IsRound, Moment, Played, course_at, driver_at, policy_at}
-use Rattle.sci_turn.specs.Moves.{own_of}
 use Rattle.sci_outcomes.proofs.{NodeWorks.{IsDriven, driven, works_by}, TurnsAreQuiet.{other_works, turn_quiet, works, works-append}}
 use Rattle.sci_words.specs.declared.event.Event.TheVariants as event
 
@@ -21,10 +20,7 @@ use Rattle.sci_words.specs.declared.event.Event.TheVariants as event
 
 -- an event of a node more
 own_work : (n : ℕ) (e : Event) (old new : List Event) → node_of e ≡ n → is_seen e ≡ true → new ≡ old ++ e ∷ [] → works n new ≡ works n old ++ e ∷ []
-own_work n e old new own seen is =
-    let one : works n (e ∷ []) ≡ e ∷ [] =
-    ap (filter is_seen) (filter_yes (λ (x : Event). node_of x == n) e [] (eq-eqb (node_of e) n own)) ∙ filter_yes is_seen e [] seen in
-    ap (works n) is ∙ (works-append n old (e ∷ []) ∙ ap (λ (es : List Event). works n old ++ es) one)
+own_work n e old new own seen is = grind (arith, works, filter_yes, eq-eqb, works-append)
 
 other_work : (n : ℕ) (e : Event) (old new : List Event) → node_of e ≢ n → new ≡ old ++ e ∷ [] → works n new ≡ works n old
 other_work n e old new apart is =
@@ -133,10 +129,7 @@ played_done n nodes (suc rounds) order later old new played =
 
 -- a driver that is answered, wherever it stands
 answered_at : (drivers : List DriverOf) (n : ℕ) (d : DriverOf) → All IsAnswered drivers → IsAnswered d → IsAnswered (slice_index_or drivers n d)
-answered_at drivers n d all own = elim (cases_lt n (length drivers)) [
-  | inl lt ↦ all n d lt
-  | inr past ↦ subst IsAnswered (sym (get_or_past drivers n d past)) own
-]
+answered_at drivers n d all own = grind (arith, cases_lt, get_or_past)
 
 -- each node has gone through its operations
 pub drawn_works : (script : ScriptValue) (issuing : Issuing) (seed : Option ℕ) (rounds n : ℕ) (schedule : ScheduleValue) → n < script.nodes

@@ -1,12 +1,12 @@
 -- A histogram of what was seen, and its rows.
-use Rattle.std.proofs.Common.{◌≡◌, ℕ, ◌<◌, ◌+◌, ◌*◌, ◌==◌, ◌&&◌, ◌||◌, not, if◌then◌else◌, Bool, true, false, cond, arith}
-use Rattle.std.proofs.Common.{List, [], ◌∷◌, ◌++◌, Option, Some, None, get_or, length, length-append, refl, sym, ap, subst, ◌∙◌}
+use Rattle.std.proofs.Common.{◌≡◌, ℕ, ◌<◌, ◌+◌, ◌*◌, ◌==◌, ◌||◌, not, if◌then◌else◌, Bool, true, false, cond, arith}
+use Rattle.std.proofs.Common.{List, [], ◌∷◌, ◌++◌, Option, Some, None, get_or, length-append, refl, sym, ap, subst, ◌∙◌}
 use Rattle.std.proofs.Math.Path.{fun_ext}
 use Rattle.std.proofs.lemmas.Cmp.{eq_by_cmp_equiv, lists_total, nat_cmp_total, on_total, then_total}
 use Rattle.std.proofs.lemmas.Map.Entries.{btree_map_get_place, sum_by-insert_entry}
 use Rattle.std.proofs.lemmas.{Bool.{ne_eqb}, List.{append-nil, length-map, Elements.{All-map, filter-append}, Sums.{sum_by-cons}}, Option.{slice_get-get_or}}
-use Rattle.std.specs.{Prelude.{count_by, filter, is_some, option_map, unwrap_or}, List.{list_any, position_or_len, sum_by}}
-use Rattle.std.specs.{BTreeMap.{BTreeMap, IsOrdered, Updates, get, insert_entry, values}, Map.{keys_of, values_of}}
+use Rattle.std.specs.{Prelude.{count_by, filter, is_some, option_map, unwrap_or}, List.{list_any}}
+use Rattle.std.specs.{BTreeMap.{BTreeMap, IsOrdered, Updates, get, insert_entry}, Map.{keys_of}}
 use Rattle.std.specs.{Cmp.{IsTotalOrder}, Ordering.{eq_by_cmp}}
 use Rattle.sci_allowed.specs.{Outcome.{held_cmp, outcome_cmp, replied_cmp}, declared.outcome.{FinalWord.{FinalWord}, Outcome.{Outcome}, Replied.{Replied}}}
 use Rattle.sci_outcomes.specs.declared.{histogram.{Histogram.{Histogram}, Tally.{Tally}}, outcome.Sighting.{Sighting}}
@@ -60,22 +60,7 @@ module _ (old : Histogram) (tallies : BTreeMap Outcome Tally) (seen : List Sight
   pub counted_more : Updates outcome_cmp old.tallies tallies x.outcome (Some tally)
       → tallies.entries ≡ insert_entry outcome_cmp old.tallies.entries x.outcome tally → IsOrdered outcome_cmp old.tallies
       → HasCounted (record { tallies = tallies; runs = old.runs + 1 }) (seen ++ x ∷ [])
-  counted_more updates entries ordered =
-      let long : length (seen ++ x ∷ []) ≡ length seen + 1 = length-append seen (x ∷ []) in
-      let total : sum_by (λ (t : Tally). t.runs) (values_of (insert_entry outcome_cmp old.tallies.entries x.outcome tally)) + unwrap_or
-      (option_map (λ (t : Tally). t.runs) (get outcome_cmp old.tallies x.outcome)) 0 ≡ sum_by (λ (t : Tally). t.runs) (values old.tallies) + tally.runs
-      = sum_by-insert_entry (λ (t : Tally). t.runs) outcome_total old.tallies.entries x.outcome tally ordered in
-      let runs : tally.runs ≡ unwrap_or (option_map (λ (t : Tally). t.runs) (get outcome_cmp old.tallies x.outcome)) 0 + 1 =
-      ap (λ (t : Tally). t.runs) tally_is ∙ runs_of (get outcome_cmp old.tallies x.outcome) old.runs x.in_order in
-      let now : sum_by (λ (t : Tally). t.runs) (values tallies) ≡ sum_by (λ (t : Tally). t.runs)
-      (values_of (insert_entry outcome_cmp old.tallies.entries x.outcome tally)) = ap (λ es. sum_by (λ (t : Tally). t.runs) (values_of es)) entries in
-      let many = counted.many in
-      let whole = counted.whole in
-      record {
-        many = omega (arith, long, many);
-        each = λ q. each_tally q (is_same x.outcome q) refl (updates.0 q);
-        whole = omega (arith, long, total, runs, now, whole);
-      }
+  counted_more updates entries ordered = grind (arith, length-append, sum_by-insert_entry, outcome_total, runs_of, each_tally)
 
 -- ---- what was seen
 
@@ -85,10 +70,7 @@ counts_if p x xs true is rest =
     let sum = sum_by-cons (λ (y : _). cond {A = ℕ} (p y) 1 0) x xs in
     let one : cond {A = ℕ} (p x) 1 0 ≡ 1 = ap (λ (b : Bool). cond {A = ℕ} b 1 0) is in
     ne_eqb (count_by p (x ∷ xs)) 0 (λ none. absurd (omega arith))
-counts_if p x xs false is rest =
-    let sum = sum_by-cons (λ (y : _). cond {A = ℕ} (p y) 1 0) x xs in
-    let none : cond {A = ℕ} (p x) 1 0 ≡ 0 = ap (λ (b : Bool). cond {A = ℕ} b 1 0) is in
-    ap (λ (n : ℕ). n == 0) (let same : count_by p (x ∷ xs) ≡ count_by p xs = omega arith in same) ∙ rest
+counts_if p x xs false is rest = grind (arith, sum_by-cons)
 
 -- nothing is counted exactly if none passes
 pub none_counted : {X : Type 0} (p : X → Bool) (xs : List X) → (count_by p xs == 0) ≡ not (list_any p xs)
@@ -102,15 +84,7 @@ some_if false tally = refl
 -- an outcome has a tally exactly if it was seen
 pub counted_has : (histogram : Histogram) (seen : List Sighting) (outcome : Outcome) → HasCounted histogram seen
     → is_some (get outcome_cmp histogram.tallies outcome) ≡ list_any (has_outcome outcome) seen
-counted_has histogram seen outcome counted =
-    let test = has_outcome outcome in
-    let tally : Tally = record {
-      runs = count_by test seen;
-      first = position_or_len test seen;
-      in_order = list_any (λ (sighting : Sighting). test sighting && sighting.in_order) seen;
-    } in
-    ap (λ (o : Option Tally). is_some o) (counted.each outcome)
-    ∙ (ap (λ (b : Bool). is_some (if b then None else Some tally)) (none_counted test seen) ∙ some_if (list_any test seen) tally)
+counted_has histogram seen outcome counted = grind (arith, none_counted, some_if)
 
 -- the outcomes of a histogram differ, and each was seen
 pub crowded : (histogram : Histogram) (most operations : ℕ) → IsOrdered outcome_cmp histogram.tallies → most < outcomes_in histogram * operations

@@ -8,9 +8,9 @@ use Rattle.std.proofs.lemmas.Map.Iter.{rest_more, rest_so_far}
 use Rattle.std.proofs.lemmas.Map.{NonePasses}
 use Rattle.std.proofs.lemmas.Map.Entries.{lookup_head, lookup_tail, none_past_head, sum_by-insert_entry}
 use Rattle.std.proofs.lemmas.Map.Keys.{IsDistinct-from_sorted, IsDistinct-tail}
-use Rattle.std.specs.{Prelude.{option_map, unwrap_or, not, ◌^◌, IfSome}, List.{IsDistinct, fold, sum_by}, Option.{option_copied}}
+use Rattle.std.specs.{Prelude.{option_map, unwrap_or, ◌^◌, IfSome}, List.{IsDistinct, fold, sum_by}, Option.{option_copied}}
 use Rattle.std.specs.{Borrow.{Bor}, Iterator.{Yields}, Map.Iter.{TakesFirst}}
-use Rattle.std.specs.{BTreeMap.{BTreeMap, IsOrdered, Updates, get, insert_entry, is_at, values}, Map.{keys_of, lookup, values_of}}
+use Rattle.std.specs.{BTreeMap.{BTreeMap, IsOrdered, Updates, get, insert_entry, is_at}, Map.{keys_of, lookup, values_of}}
 use Rattle.sci_allowed.specs.{Outcome.{outcome_cmp}, declared.outcome.Outcome.{Outcome}}
 use Rattle.sci_outcomes.specs.declared.{histogram.{Histogram.{Histogram}, Tally.{Tally}}, outcome.Sighting.{Sighting}}
 use Rattle.sci_outcomes.specs.Rows.{HasCounted, has_outcome, joined, tally_by}
@@ -110,10 +110,7 @@ module _ (n : ℕ) (old mid new : BTreeMap Outcome Tally) (es : List (Outcome ×
 
   pub one_more : Updates outcome_cmp mid new e.0 (Some tally)
       → (q : Outcome) → get outcome_cmp new q ≡ with_entries n q (get outcome_cmp old q) (es ++ e ∷ [])
-  one_more updates q =
-      updates.0 q
-      ∙ (more_if q (is_same e.0 q) refl
-      ∙ (ap (λ t. with_entry n q t e) (each q) ∙ sym (fold-append (with_entry n q) (get outcome_cmp old q) es (e ∷ []))))
+  one_more updates q = grind (arith, more_if, is_same, fold-append)
 
 runs_joined : (before : Option Tally) (n : ℕ) (later : Tally)
     → (joined before n later).runs ≡ unwrap_or (option_map (λ t. t.runs) before) 0 + later.runs
@@ -123,11 +120,7 @@ runs_joined (Some t) n later = refl
 pub runs_more : (n : ℕ) (mid new : BTreeMap Outcome Tally) (e : Outcome × Tally) (tally : Tally) → tally ≡ joined (get outcome_cmp mid e.0) n e.1
     → IsOrdered outcome_cmp mid → new.entries ≡ insert_entry outcome_cmp mid.entries e.0 tally
     → runs_in new.entries ≡ runs_in mid.entries + e.1.runs
-runs_more n mid new e tally tally_is ordered entries =
-    let total = sum_by-insert_entry (λ (t : Tally). t.runs) outcome_total mid.entries e.0 tally ordered in
-    let runs = ap (λ (t : Tally). t.runs) tally_is ∙ runs_joined (get outcome_cmp mid e.0) n e.1 in
-    let now = ap runs_in entries in
-    omega (arith, total, runs, now)
+runs_more n mid new e tally tally_is ordered entries = grind (arith, sum_by-insert_entry, outcome_total, runs_joined)
 
 -- no tally has more runs than all together
 pub runs_within : (test : Outcome → Bool) (es : List (Outcome × Tally)) → unwrap_or (option_map (λ (t : Tally). t.runs) (lookup test es)) 0 ≤ runs_in es
@@ -168,21 +161,11 @@ module _ (old later : Histogram) (mid : BTreeMap Outcome Tally) (ys u : List (Ou
   -- an entry's runs and those that there are of its outcome
   pub runs_fit : (found : Option (Bor Tally)) → option_copied found ≡ get outcome_cmp mid e.0
       → runs_in mid.entries ≡ runs_in old.tallies.entries + runs_in ys → IfSome found (λ t. t.now.runs + e.1.runs < 2 ^ 64)
-  runs_fit found is whole =
-      let one = counted.whole in
-      let other = behind_it.whole in
-      let parts = ap runs_in all ∙ runs_append ys (e ∷ u) in
-      let rest = runs_from e u in
-      let few = runs_within (is_at (outcome_cmp e.0)) mid.entries in
-      few_if found (get outcome_cmp mid e.0) e.1.runs (2 ^ 64) is (omega (arith, room, whole, one, other, parts, rest, few))
+  runs_fit found is whole = grind (arith, runs_append, runs_from, runs_within, few_if)
 
   -- the number of its first run
   pub first_fits : get outcome_cmp later.tallies e.0 ≡ Some e.1 → old.runs + e.1.first < 2 ^ 64
-  first_fits there =
-      let first = (tally_is (has_outcome e.0) more e.1 (sym (behind_it.each e.0) ∙ there)).1 in
-      let within = prefix_len-le-length (λ s. not (has_outcome e.0 s)) more in
-      let many = counted.many in
-      omega (arith, room, first, within, many)
+  first_fits there = grind (arith, tally_is, prefix_len-le-length)
 
 -- ---- histograms
 

@@ -1,11 +1,10 @@
 -- The Issues and Performs of a node are those of its deeds, which keep to the window and issue its operations.
-use Rattle.std.proofs.Common.{◌≡◌, ◌==◌, ◌<◌, ◌+◌, ◌-◌, ◌*◌, ℕ, zero, suc, Bool, true, false, if◌then◌else◌, List, [], ◌∷◌, ◌++◌, length, drop}
+use Rattle.std.proofs.Common.{◌≡◌, ◌<◌, ◌+◌, ◌-◌, ◌*◌, ℕ, suc, Bool, if◌then◌else◌, List, [], ◌∷◌, ◌++◌, length, drop}
 use Rattle.std.proofs.Common.{refl, sym, ap, subst, ◌∙◌, arith}
 use Rattle.std.proofs.lemmas.{Bool.{eq-eqb}, List.{append-nil, drop_all}}
 use Rattle.std.specs.List.{filter}
 use Rattle.sci_history.proofs.Order.{filter-filter}
 use Rattle.sci_words.specs.declared.{event.Event.{Event}, operation.Op.{Op}}
-use Rattle.sci_core.specs.Core.{node_of}
 use Rattle.sci_policy.specs.Deeds.{Deed, Issues, Performs, Turns}
 use Rattle.sci_drive.proofs.Keeping.{KeepTo, Keeps, issued_by}
 use Rattle.sci_drive.specs.{declared.driver.Issuing.{Issuing}, Driving.{DriverOf, IsAnswered, opening_driver}, Rounds.{most_pending}}
@@ -73,13 +72,4 @@ driven issuing own deeds old new is keeps answered =
 pub part_of : (operations : Operations) (n : ℕ) (issuing : Issuing) (deeds : List Deed) (schedule : List Event)
     → IsDriven issuing (own_of operations n) deeds → works n schedule ≡ works_by n deeds
     → IsPart operations (most_pending issuing) n (own_events n (filter is_seen schedule))
-part_of operations n issuing deeds schedule does is =
-    let same : own_events n (filter is_seen schedule) ≡ works_by n deeds =
-    filter-filter (λ (e : Event). node_of e == n) is_seen schedule ∙ is in
-    let many = long_by (most_pending issuing) n deeds 0 0 does.keep in
-    let all : length (issued_by deeds) ≡ length (own_of operations n) = ap (λ (ops : List Op). length ops) does.issues in
-    subst (IsPart operations (most_pending issuing) n) (sym same) (record {
-      issued = issues_by n deeds ∙ does.issues;
-      few = few_by (most_pending issuing) n deeds (λ m. 0) 0 0 refl does.keep;
-      long = omega (arith, many, all);
-    })
+part_of operations n issuing deeds schedule does is = grind (arith, own_events, filter-filter, long_by, issued_by, issues_by, few_by)

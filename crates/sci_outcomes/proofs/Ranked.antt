@@ -8,10 +8,10 @@ use Rattle.std.proofs.lemmas.Map.Entries.{btree_map_get_place, lookup_tail, none
 use Rattle.std.proofs.lemmas.Map.Keys.{IsDistinct-cons, IsDistinct-from_sorted, IsDistinct-head, IsDistinct-IsPermutation, IsDistinct-tail}
 use Rattle.std.proofs.lemmas.Map.Keys.{Less-from_sorted, apart_from_distinct, ge_from_not_lt, sorted_from_all_adjacent}
 use Rattle.std.proofs.lemmas.Option.{slice_get-get_or}
-use Rattle.std.specs.{Prelude.{count_by, not, ◌&&◌, sum}, List.{AllByRecursion, IsDistinct}}
+use Rattle.std.specs.{Prelude.{count_by, sum}, List.{AllByRecursion, IsDistinct}}
 use Rattle.std.specs.List.Sorted.{IsPermutation, IsSortedBy, IsStableBy, IsStrictlySortedBy, ties}
 use Rattle.std.specs.{BTreeMap.{IsOrdered, get, is_at}, Map.{keys_of, lookup}, Cmp.{IsTotalOrder, IsStrictWeakOrder}}
-use Rattle.std.specs.Ordering.{is_eq, is_lt, nat_cmp, ordering_then, ordering_reverse}
+use Rattle.std.specs.Ordering.{is_eq, is_lt, nat_cmp, ordering_reverse}
 use Rattle.std.specs.declared.cmp.Ordering.{Ordering, TheVariants.{Less, Equal, Greater}}
 use Rattle.sci_allowed.specs.{Outcome.{outcome_cmp}, declared.outcome.Outcome.{Outcome}}
 use Rattle.sci_outcomes.specs.declared.{histogram.{Histogram.{Histogram}, Row.{Row}, Tally.{Tally}}, outcome.Sighting.{Sighting}}
@@ -46,10 +46,7 @@ one_at e es q t true later is distinct found =
     let rest : count_by (λ f. is_same f.0 q) es ≡ 0 = none_counts es q (none_past_head (eq_by_cmp_equiv outcome_total) q e es distinct is) in
     let here : bit (is_same e.0 q) ≡ 1 = ap bit (same_back e.0 q ∙ is) in
     sum_by-cons (λ f. bit (is_same f.0 q)) e es ∙ omega (arith, rest, here)
-one_at e es q t false later is distinct found =
-    let rest : count_by (λ f. is_same f.0 q) es ≡ 1 = later (sym (lookup_tail (is_at (outcome_cmp q)) e es is) ∙ found) in
-    let here : bit (is_same e.0 q) ≡ 0 = ap bit (same_back e.0 q ∙ is) in
-    sum_by-cons (λ f. bit (is_same f.0 q)) e es ∙ omega (arith, rest, here)
+one_at e es q t false later is distinct found = grind (arith, is_same, lookup_tail, bit, same_back, sum_by-cons)
 
 one_entry : (es : List (Outcome × Tally)) (q : Outcome) (t : Tally) → IsDistinct is_same (keys_of es) → lookup (is_at (outcome_cmp q)) es ≡ Some t
     → count_by (λ e. is_same e.0 q) es ≡ 1
@@ -115,19 +112,10 @@ below Greater Equal back not_less apart = absurd cc
 below Greater Greater back not_less apart = absurd cc
 
 ranked_neighbours : (a b : Row) → b.runs ≤ a.runs → (b.runs ≡ a.runs → before b a ≡ false) → row_same a b ≡ false → row_cmp a b ≡ Less
-ranked_neighbours a b le ties_stay apart =
-    let outcomes = outcome_cmp a.outcome b.outcome in
-    by_ranked (b.runs < a.runs) (b.runs ≡ a.runs) (a.runs < b.runs) (nat_cmp b.runs a.runs) (ranked b.runs a.runs (nat_cmp b.runs a.runs) refl)
-    (λ less _. ap (λ (o : Ordering). ordering_then o outcomes) less)
-    (λ equal is. ap (λ (o : Ordering). ordering_then o outcomes) equal
-    ∙ below outcomes (outcome_cmp b.outcome a.outcome) (outcome_total.antisymm a.outcome b.outcome) (ties_stay is) apart)
-    (λ _ lt. absurd (omega (arith, lt, le)))
+ranked_neighbours a b le ties_stay apart = grind (arith, by_ranked, ranked, below, outcome_total)
 
 tied : (a b : Row) → b.runs ≡ a.runs → ties is_more a b ≡ true
-tied a b same =
-    let back : nat_cmp b.runs a.runs ≡ Equal = ap (λ n. nat_cmp n a.runs) same ∙ tied_itself nat_cmp_total a.runs in
-    let forth : nat_cmp a.runs b.runs ≡ Equal = ap (λ n. nat_cmp a.runs n) same ∙ tied_itself nat_cmp_total a.runs in
-    ap (λ (o : Ordering). not (is_lt o) && not (is_lt (nat_cmp a.runs b.runs))) back ∙ ap (λ (o : Ordering). not (is_lt o)) forth
+tied a b same = grind (arith, tied_itself, nat_cmp_total)
 
 row_total : IsTotalOrder row_cmp
 row_total = then_total (on_total runs_of (back_total nat_cmp_total)) (on_total (λ (row : Row). row.outcome) outcome_total)

@@ -1,6 +1,6 @@
 -- The outcomes that were seen and the others are as many as a run of the script can have.
 use Rattle.std.proofs.Common.{◌≡◌, ◌==◌, ◌<◌, ◌≤◌, ◌+◌, ◌&&◌, not, ℕ, suc, Bool, true, false, if◌then◌else◌, List, [], ◌∷◌, length, map, get_or, refl, sym}
-use Rattle.std.proofs.Common.{ap, subst, ◌∙◌}
+use Rattle.std.proofs.Common.{ap, ◌∙◌}
 use Rattle.std.proofs.Common.{All, arith, inl, inr}
 use Rattle.std.proofs.lemmas.Bool.{and_from, and_parts, cases_Bool, eqb-true}
 use Rattle.std.proofs.lemmas.Cmp.{eq_by_cmp_equiv, nat_cmp_total, tied_itself}
@@ -9,7 +9,7 @@ use Rattle.std.proofs.lemmas.List.{Folds.{Any-from_list_any, list_any-from_Any},
 use Rattle.std.proofs.lemmas.Map.{Keys.{IsDistinct-from_apart, IsDistinct-from_sorted, apart_from_distinct}, Made.{length-from_same_keys}}
 use Rattle.std.proofs.lemmas.Map.Views.{any-filter_same}
 use Rattle.std.specs.Cmp.{Equal-is, both_ways}
-use Rattle.std.specs.{List.{Any, Contains, IsDistinct, filter, list_any}, Prelude.{count_by}}
+use Rattle.std.specs.{List.{IsDistinct, filter, list_any}, Prelude.{count_by}}
 use Rattle.std.specs.Ordering.{eq_by_cmp, is_eq, nat_cmp, ordering_then}
 use Rattle.std.specs.declared.cmp.Ordering.{Ordering, TheVariants.{Equal}}
 use Rattle.sci_orders.proofs.Keeping.{contains_map}

@@ -1,9 +1,9 @@
 -- What is seen of a run is an outcome that a run of the script can have.
-use Rattle.std.proofs.Common.{◌≡◌, ◌==◌, ◌<◌, ◌≤◌, ◌+◌, ◌*◌, ◌-◌, ◌&&◌, ℕ, zero, suc, Bool, true, false, not, List, [], ◌∷◌, length, map}
-use Rattle.std.proofs.Common.{All, refl, sym, ap, subst, ◌∙◌, arith, inl, inr}
+use Rattle.std.proofs.Common.{◌≡◌, ◌==◌, ◌<◌, ◌≤◌, ℕ, List, [], length}
+use Rattle.std.proofs.Common.{All, sym, ap, subst, arith, inl, inr}
 use Rattle.std.proofs.lemmas.{Bool.{cases_lt}, List.{length-map, Sums.{length-filter}}}
-use Rattle.std.specs.{List.{AllByRecursion, filter, list_any}, Prelude.{Some, count_by, slice_index_or}}
-use Rattle.sci_words.specs.declared.{event.Event.{Event}, limits.TheConstants.{MAX_NODES, MAX_OPERATIONS}, operation.Op.{Op}, stamped.Stamped.{Stamped}}
+use Rattle.std.specs.{List.{AllByRecursion, filter}}
+use Rattle.sci_words.specs.declared.{event.Event.{Event}, limits.TheConstants.{MAX_OPERATIONS}, operation.Op.{Op}, stamped.Stamped.{Stamped}}
 use Rattle.sci_history.specs.{declared.entry.Entry.{Entry}, Placed.{log_of}}
 use Rattle.sci_text.specs.Script.{IsScript, ScriptValue, operations_of}
 use Rattle.sci_core.proofs.WellFormed.WellFormedSteps.{is_size}

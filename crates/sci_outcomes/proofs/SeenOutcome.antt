@@ -1,13 +1,12 @@
 -- What is seen of the logs and last contents of a run is the outcome of a position where it ends.
-use Rattle.std.proofs.Common.{◌≡◌, ◌==◌, ◌<◌, ◌≤◌, ◌+◌, ◌*◌, ℕ, zero, suc, Bool, true, List, [], ◌∷◌, ◌++◌, length, map, refl, sym, ap, subst, ◌∙◌}
+use Rattle.std.proofs.Common.{◌≡◌, ◌==◌, ◌<◌, ◌≤◌, ◌+◌, ℕ, zero, suc, true, List, [], ◌∷◌, ◌++◌, length, refl, sym, ap, subst, ◌∙◌}
 use Rattle.std.proofs.Common.{All, ◌-◌, arith, inl, inr}
 use Rattle.std.proofs.lemmas.{Bool.{cases_lt, eqb-true}, List.{append-nil, get_or_past, Elements.{filter_map-append, recursion_from_All}}}
 use Rattle.std.proofs.lemmas.List.{Elements.{All-contains_itself}, Folds.{flat_map-map}, Sums.{length-filter}}
-use Rattle.std.specs.List.{AllByRecursion, Contains, cons_option, filter, filter_map, flat_map, range_with_len}
-use Rattle.std.specs.Prelude.{Option, Some, None}
+use Rattle.std.specs.List.{AllByRecursion, cons_option, filter, filter_map, flat_map, range_with_len}
+use Rattle.std.specs.Prelude.{Option}
 use Rattle.sci_words.specs.declared.{event.Event.{Event}, limits.TheConstants.{MAX_NODES}, operation.{Op.{Op}, Reply.{Reply, TheVariants.{Stored, Got}}}}
-use Rattle.sci_words.specs.declared.stamped.Stamped.{Stamped}
-use Rattle.sci_history.specs.{declared.entry.Entry.{Entry}, Placed.{above_serials, in_order, in_serial_order, is_of_node, log_of}, Sequential.{by_serial}}
+use Rattle.sci_history.specs.{declared.entry.Entry.{Entry}, Placed.{in_order, in_serial_order, is_of_node, log_of}, Sequential.{by_serial}}
 use Rattle.sci_history.proofs.{Order.{HasKeysBelow, all-filter, all-passes, all_both, all_weaker}, Placement.{above_serials-above}, Sorting.{in_order-bound}}
 use Rattle.sci_core.proofs.ReachedLaws.{log_at, schedule_log}
 use Rattle.sci_core.specs.{Core.{node_at, run}, Done.{done}, Outcome.{logs_of}, Sharing.{last_of}, Size.{IsSize, Size}}
@@ -16,7 +15,7 @@ use Rattle.sci_orders.proofs.Places.{flat_more, gives_more}
 use Rattle.sci_orders.specs.{Orders.{IsEntryAt, IsOutcomeOf}, Positions.{Operations, Position, answer_at, answer_of, own_of}}
 use Rattle.sci_allowed.proofs.{Sameness.{same_shown}, SeenAlike.{makes_same}}
 use Rattle.sci_allowed.specs.Outcome.{IsPlaceWithin, held_in, replied_at, replies_at, replies_on, shown_at, shown_of}
-use Rattle.sci_allowed.specs.declared.{outcome.{FinalWord.{FinalWord}, Outcome.{Outcome}, Replied.{Replied}}, place.Place.{Place}}
+use Rattle.sci_allowed.specs.declared.{outcome.{FinalWord.{FinalWord}, Replied.{Replied}}, place.Place.{Place}}
 use Rattle.sci_outcomes.specs.{declared.outcome.Sighting.{Sighting}, Outcomes.{IsSeen, held_at, replied, replied_by, replies_in}}
 
 -- ---- lists
@@ -87,10 +86,7 @@ module _ (operations : Operations) (p : Position) (n : ℕ) (log : List Entry) (
       (λ e is. subst (λ (m : ℕ). e.serial < length (own_of operations m)) is.1 is.0.below) log own
 
   node_replies : filter_map replied (in_serial_order log) ≡ replies_on operations p n
-  node_replies =
-      ap (filter_map replied) (in_order-bound (λ (e : Entry). e.serial) (above_serials log) (length (own_of operations n)) log
-      (above_serials-above log (above_serials log) (omega arith)) serials_below)
-      ∙ up_to (length (own_of operations n)) (omega arith)
+  node_replies = grind (arith, in_order-bound, above_serials-above, serials_below, up_to)
 
 -- ---- what is seen
 

@@ -1,5 +1,5 @@
 -- Runs that are shared out among threads.
-use Rattle.std.proofs.Common.{◌≡◌, ◌≤◌, ◌++◌, ℕ, arith, List, Result, Err, length, length-append, refl, subst, sym, ◌∙◌}
+use Rattle.std.proofs.Common.{◌≡◌, ◌≤◌, ◌++◌, ℕ, arith, List, Result, Err, length, length-append, refl}
 use Rattle.sci_text.specs.Script.{ScriptValue}
 use Rattle.sci_drive.specs.declared.driver.Issuing.{Issuing}
 use Rattle.sci_runs.specs.declared.fault.RunFault.{RunFault, TheVariants.{Memory, TooMany}}
@@ -13,11 +13,7 @@ module _ (script : ScriptValue) (turns : Turns) (issuing : Issuing) (start middl
   -- why some of the runs are refused is why all are
   pub refused : (result : Result Histogram RunFault) (given fault : RunFault) → middle ≤ end → result ≡ Err given → given ≡ fault
       → (fault ≡ TooMany → OneIsGivenUpBelow script turns issuing middle) → IsCount script turns issuing start end result
-  refused result given fault le is same why =
-      subst (IsCount script turns issuing start end) (sym is) (
-        tt,
-        λ many. let one = why (sym same ∙ many) in let lt = one.1 in (one.0, omega (arith, le, lt), one.2),
-      )
+  refused result given fault le is same why = grind arith
 
   -- what was seen of the first of them, and of the others behind them
   pub counted_both : (first second both : Histogram) → IsCountOf script turns issuing start middle first

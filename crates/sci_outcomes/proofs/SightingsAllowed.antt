@@ -1,5 +1,5 @@
 -- Each outcome that is seen is one that a run of the script can have.
-use Rattle.std.proofs.Common.{◌≡◌, ◌<◌, ◌≤◌, ◌+◌, ℕ, Bool, true, List, [], ◌∷◌, length, All, refl, sym, ap, subst, ◌∙◌, arith}
+use Rattle.std.proofs.Common.{◌≡◌, ◌<◌, ◌≤◌, ◌+◌, true, List, [], ◌∷◌, length, All, refl, sym, ap, subst, ◌∙◌, arith}
 use Rattle.std.proofs.lemmas.List.{Elements.{recursion_from_All}, Sums.{length-filter}}
 use Rattle.std.specs.{List.{AllByRecursion, filter}, Prelude.{Some}}
 use Rattle.sci_history.proofs.Order.{all-filter, all-passes}
@@ -10,7 +10,7 @@ use Rattle.sci_drive.specs.{declared.driver.Issuing.{Issuing}, Rounds.{most_pend
 use Rattle.sci_runs.specs.Runs.{last_behind, logs_behind}
 use Rattle.sci_allowed.proofs.Sameness.{same_outcome}
 use Rattle.sci_allowed.specs.contracts.outcome.{OutcomeOrd.TheImpl.Laws.{matches_eq-law}}
-use Rattle.sci_allowed.specs.{Allowed.{IsAllowed}, Outcome.{IsPlaceWithin, Shown, shown_of, written_places}}
+use Rattle.sci_allowed.specs.{Allowed.{IsAllowed}, Outcome.{IsPlaceWithin, shown_of, written_places}}
 use Rattle.sci_outcomes.proofs.{DrawnWorks.{drawn_works}, SeenAllowed.{run_allowed}, ThreadWorks.{thread_works}}
 use Rattle.sci_outcomes.specs.{Rows.{AreRowsOf, IsRowOf, has_outcome}, Trials.{AreSeenOf, IsSightingOf, turns_of_run}}
 use Rattle.sci_outcomes.specs.declared.{histogram.Row.{Row}, outcome.Sighting.{Sighting}, trials.{Trials.{Trials}, Turns.{Turns, TheVariants.{Drawn, Threads}}}}

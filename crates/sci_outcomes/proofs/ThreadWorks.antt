@@ -1,19 +1,19 @@
 -- What each node does in a run by threads.
-use Rattle.std.proofs.Common.{◌≡◌, ◌==◌, ◌<◌, ℕ, zero, suc, Bool, true, false, List, [], ◌∷◌, ◌++◌, append_assoc, refl, sym, ap}
+use Rattle.std.proofs.Common.{◌≡◌, ◌<◌, ℕ, Bool, true, false, List, [], ◌∷◌, ◌++◌, append_assoc, refl, sym, ap}
 use Rattle.std.proofs.Common.{if◌then◌else◌, subst, ◌∙◌}
 use Rattle.std.proofs.lemmas.List.{append-nil, Elements.{filter-append}}
 use Rattle.std.specs.{List.{filter}, Prelude.{IfSome, Option, Some, None, option_map}}
 use Rattle.sci_words.specs.declared.{event.Event.{Event}, operation.{Op.{Op}, Reply.{Reply}}}
 use Rattle.sci_history.specs.declared.entry.Entry.{Entry}
-use Rattle.sci_cache.specs.Cache.{CacheOf, line_of}
+use Rattle.sci_cache.specs.Cache.{CacheOf}
 use Rattle.sci_core.proofs.Basics.Options.{same_some}
 use Rattle.sci_core.specs.Core.{Core, node_of}
-use Rattle.sci_core.specs.Node.{NodeOf, may_issue, node_issued, node_issuing, node_performing, opening_node, pending_on, performed_by, performing_pending}
+use Rattle.sci_core.specs.Node.{NodeOf, may_issue, node_issued, pending_on, performed_by, performing_pending}
 use Rattle.sci_core.specs.declared.pending.Pending.{Pending}
 use Rattle.sci_lanes.specs.{Shown.{me_of}, Telling.{IsMade}}
 use Rattle.sci_policy.specs.Deeds.{Deed, DoesBy, Issues, Performs, Turns}
 use Rattle.sci_drive.proofs.Keeping.{Keeps, keeps_itself, keeps_then, rounds_keep}
-use Rattle.sci_drive.specs.{declared.driver.Issuing.{Issuing}, Calls.{Call}, Driving.{DriverOf, opening_driver}}
+use Rattle.sci_drive.specs.{declared.driver.Issuing.{Issuing}, Driving.{DriverOf}}
 use Rattle.sci_orders.specs.Witness.{is_seen}
 use Rattle.sci_station.proofs.OwnEvents.{own_added, own_known}
 use Rattle.sci_station.specs.{Deeds.{IsDeed}, Posts.{post_of}, Station.{StationOf, node_in, schedule_in}}

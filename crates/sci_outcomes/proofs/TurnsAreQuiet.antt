@@ -9,7 +9,7 @@ use Rattle.sci_core.specs.Core.{Core, node_of}
 use Rattle.sci_orders.specs.Witness.{is_seen}
 use Rattle.sci_policy.specs.{declared.progress.Progress.{Progress}, Policy.{PolicyOf}}
 use Rattle.sci_turn.specs.{Moves.{Stage, own_of}, Posts.{IsFurther, IsMade, IsStill, OthersLead, PostOf}}
-use Rattle.sci_turn.specs.Whole.{Accepts, AcceptsFrom, Asks, AsksNoMore, FindsNoAnswer, FindsNoRequest, InTurn, IsWholeTurn, Makes, MakesNone, Replies}
+use Rattle.sci_turn.specs.Whole.{Accepts, AcceptsFrom, Asks, AsksNoMore, FindsNoAnswer, FindsNoRequest, InTurn, IsWholeTurn, Makes, Replies}
 use Rattle.sci_turn.specs.Whole.{Takes, TakesFrom, UpTo}
 use Rattle.sci_words.specs.declared.event.Event.TheVariants as event
 

@@ -3,7 +3,4 @@ use Rattle.sci_outcomes.proofs.outcome.push_replies.Goals.{in-Some+in_ok-push, i
 use Rattle.sci_outcomes.proofs.outcome.push_replies.Goals as goal
 
 pub loop-entry-preserved : goal.loop-entry-preserved
-loop-entry-preserved c = elim c.match-reply_of.branch [
-  | in-Some+in_ok-push w ↦ grind (arith, common_steps, filter_map-append)
-  | in_default w ↦ grind (arith, common_steps, filter_map-append)
-]
+loop-entry-preserved c = grind (arith, common_steps, filter_map-append, in_default)

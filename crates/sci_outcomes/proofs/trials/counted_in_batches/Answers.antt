@@ -1,8 +1,8 @@
 -- Each batch is counted behind those before it.
-use Rattle.std.proofs.Common.{◌≤◌, ◌+◌, ◌*◌, arith, length, List, ℕ, subst}
+use Rattle.std.proofs.Common.{◌≤◌, ◌+◌, arith, length, List, ℕ, subst}
 use Rattle.std.proofs.lemmas.Result.{IfErr-at_err, IfOk-at_ok, err_from_is_err_and}
 use Rattle.sci_words.specs.declared.operation.Op.{Op}
-use Rattle.sci_outcomes.specs.{Rows.{AreCrowded, outcomes_in}, Trials.{IsCountOf}, declared.trials.TheConstants.{MAX_KEPT}}
+use Rattle.sci_outcomes.specs.{Rows.{AreCrowded}, Trials.{IsCountOf}, declared.trials.TheConstants.{MAX_KEPT}}
 use Rattle.sci_outcomes.proofs.Shares.{counted_both, crowded_below, given_up_below, given_up_by}
 use Rattle.sci_outcomes.proofs.trials.counted_in_batches.Goals as goal
 
@@ -30,16 +30,4 @@ returns-then-is_crowded-clause-crowded g c = λ _.
     (c.is_crowded.ensures.beyond c.if-is_crowded.true seen counted))
 
 pub batches-preserved : goal.batches-preserved
-batches-preserved g c =
-    let litmus = c.args.litmus in
-    let Count = IsCountOf litmus.script.now litmus.turns litmus.issuing in
-    let start = c.batches.start in
-    let end = start + c.min.result in
-    let batch = IfOk-at_ok (Count start end) c.in_ok-counted_by_threads.was c.counted_by_threads.ensures.0 in
-    record {
-      counted = counted_both litmus.script.now litmus.turns litmus.issuing 0 start end c.batches.histogram c.in_ok-counted_by_threads.field-0
-          c.absorb.new.self c.batches.invariant.counted batch c.in_ok-absorb.ensures;
-      within = subst (λ (ops : List (ℕ × Op)). outcomes_in c.absorb.new.self * length ops ≤ MAX_KEPT) c.operations.ensures.value
-          (c.is_crowded.ensures.within c.if-is_crowded.false);
-      low = grind arith;
-    }
+batches-preserved g c = grind (arith, counted_both)

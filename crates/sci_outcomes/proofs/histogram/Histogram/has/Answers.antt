@@ -1,4 +1,4 @@
-use Rattle.std.proofs.Common.{sym, ap, ◌∙◌}
+use Rattle.std.proofs.Common.{◌∙◌}
 use Rattle.sci_outcomes.proofs.Histograms.{counted_has}
 use Rattle.sci_outcomes.proofs.histogram.Histogram.has.Goals as goal
 
