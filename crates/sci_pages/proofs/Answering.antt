@@ -1,16 +1,16 @@
 -- A page of a text, or why there is none, as it is told of an input that was read.
-use Rattle.std.proofs.Common.{◌≡◌, ◌<◌, ◌≤◌, ◌∙◌, ℕ, List, length, Bool, false, Option, Result, Ok, Err, ap, inl, inr, subst, sym}
+use Rattle.std.proofs.Common.{◌≡◌, ◌∙◌, ℕ, List, Bool, false, Option, Result, Ok, Err, ap, inl, inr, subst}
 use Rattle.std.specs.Prelude.{IfErr, IfOk}
 use Rattle.sci_text.specs.declared.fault.{TextFault.{TextFault}, TextFaultKind.{TextFaultKind}}
 use Rattle.sci_text.specs.declared.fault.TextFaultKind.TheVariants.{Syntax, Range, TooMany, Read, Write, Memory}
-use Rattle.sci_text.specs.FirstFault.{AreRead, IsRefusal, IsRefusalOf}
+use Rattle.sci_text.specs.FirstFault.{AreRead, IsRefusalOf}
 use Rattle.sci_text.proofs.FirstFaults.{told_of_bytes}
 use Rattle.sci_command.specs.declared.{answer.Answer.{Answer}, outcome.Outcome.TheVariants.{Done}, refusal.Refusal.{Refusal}}
 use Rattle.sci_command.specs.Answer.{IsAnswered}
 use Rattle.sci_charts.specs.declared.charting.ChartRequest.{ChartRequest}
-use Rattle.sci_pages.specs.declared.{kind.PageKind.{PageKind, TheVariants.{Schedule}}, limits.TheConstants.{MAX_PAGE_BYTES}}
-use Rattle.sci_pages.specs.{PageKind.{kind_of}, PageText.{page_text}, WithoutData.{IsUnasked, IsWithoutData, IsWithoutPage}}
-use Rattle.sci_pages.specs.PageAnswer.{AreDataFor, IsBigPage, IsFaultFor, IsPageAnswer, IsPageOf, IsPageRefusal, IsPagedFault}
+use Rattle.sci_pages.specs.declared.{kind.PageKind.{PageKind}}
+use Rattle.sci_pages.specs.{PageKind.{kind_of}, PageText.{page_text}, WithoutData.{IsWithoutPage}}
+use Rattle.sci_pages.specs.PageAnswer.{AreDataFor, IsFaultFor, IsPageAnswer, IsPageOf, IsPageRefusal, IsPagedFault}
 
 -- ---- why a text has no data, or no page
 
