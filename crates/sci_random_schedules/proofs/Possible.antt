@@ -1,18 +1,16 @@
 -- Something is always enabled: a packet is passed on, or a node asks.
-use Rattle.std.proofs.Common.{◌≡◌, ◌<◌, ◌≤◌, ◌+◌, ◌-◌, ◌*◌, ◌/◌, ◌%◌, ℕ, zero, suc, Bool, true, false, length, Option, Some, None, refl, sym, ap, subst, ◌∙◌}
+use Rattle.std.proofs.Common.{◌≡◌, ◌<◌, ◌+◌, ◌*◌, ◌%◌, ℕ, length, Option, Some, None, refl, ap, subst, ◌∙◌}
 use Rattle.std.proofs.{Common.{arith, inl, inr}, Math.{Arith.{digits_div, digits_mod}, Nat.{mod-eq_of_lt}}, lemmas.Bool.{cases_lt, le-ltb, lt-ltb}}
-use Rattle.std.specs.Prelude.{◌⊎◌, IsSome, nat_lt, slice_index_or}
+use Rattle.std.specs.Prelude.{IsSome, slice_index_or}
 use Rattle.sci_words.specs.{declared.event.{AskKind.{AskKind}, Event.{Event}, TheConstants.AskKind.{ALL}}, Event.{ask_number}}
 use Rattle.sci_statistics.proofs.Counts.{ask_small}
-use Rattle.sci_cache.specs.{Cache.{Letter}, State.{Out}}
+use Rattle.sci_cache.specs.{Cache.{Letter}}
 use Rattle.sci_core.proofs.Basics.Options.{found}
 use Rattle.sci_core.proofs.Settling.{Emptying.{next_lowers}, EmptyRuns.{all_out_beyond}, Moves.{accept_found, nothing_found, reply_found, serve_found}}
 use Rattle.sci_core.proofs.Settling.{PendingRuns.{can_read}, Rounds.{rounds}, RoundSteps.{ask_enabled}}
-use Rattle.sci_core.proofs.WellFormed.WellFormedSteps.{reached_well}
 use Rattle.sci_core.specs.declared.lane.LaneKind.TheVariants.{Requests, Answers}
-use Rattle.sci_core.specs.{Core.{Core, IsEnabled, lane_of, node_at, node_of, stepping}, Draining.{IsDrained}, Node.{node_asking}, Reached.{IsReached}}
-use Rattle.sci_core.specs.Shape.{state_at}
-use Rattle.sci_orders.proofs.Quieting.{NextAsk, lines_next}
+use Rattle.sci_core.specs.{Core.{Core, lane_of, node_at, node_of, stepping}, Draining.{IsDrained}, Node.{node_asking}, Reached.{IsReached}}
+use Rattle.sci_orders.proofs.Quieting.{lines_next}
 use Rattle.sci_random_schedules.specs.Walking.{IsFound, looked_for, moved_to, passing}
 use Rattle.sci_words.specs.declared.event.AskKind.TheVariants as kind
 use Rattle.sci_words.specs.declared.event.Event.TheVariants as event
@@ -23,17 +21,10 @@ kind_at _ = refl
 
 -- where each event is looked for
 ask_at : (lines line : ℕ) (ask : AskKind) → line < lines → looked_for lines (line * 9 + ask_number ask) ≡ event.Ask 0 line ask
-ask_at lines line ask inside =
-    let few = ask_small ask in
-    let small : ask_number ask < 9 = omega (arith, few) in
-    let within : nat_lt (line * 9 + ask_number ask) (9 * lines) ≡ true = lt-ltb (line * 9 + ask_number ask) (9 * lines) (omega arith) in
-    rw (within, digits_div line small, digits_mod line small, kind_at ask) refl
+ask_at lines line ask inside = grind (arith, ask_small, lt-ltb, digits_div, digits_mod, kind_at)
 
 passing_at : (lines from sort : ℕ) → sort < 3 → looked_for lines (9 * lines + (from * 3 + sort)) ≡ passing from sort
-passing_at lines from sort small =
-    let past : nat_lt (9 * lines + (from * 3 + sort)) (9 * lines) ≡ false = le-ltb (9 * lines + (from * 3 + sort)) (9 * lines) (omega arith) in
-    let behind : 9 * lines + (from * 3 + sort) - 9 * lines ≡ from * 3 + sort = omega arith in
-    rw (past, behind, digits_div from small, digits_mod from small) refl
+passing_at lines from sort small = grind (arith, le-ltb, digits_div, digits_mod)
 
 not_both : (o : Option Core) → o ≡ None → IsSome o → ⊥
 not_both None none some = cc

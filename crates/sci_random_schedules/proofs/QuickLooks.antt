@@ -1,14 +1,14 @@
 -- An event that a quick look passes over isn't enabled.
 use Rattle.std.proofs.Common.{◌≡◌, ◌<◌, ◌≤◌, ℕ, Bool, true, false, if◌then◌else◌, List, [], ◌∷◌, length}
-use Rattle.std.proofs.Common.{Option, Some, None, refl, ap, subst, ◌∙◌, arith, inl, inr}
+use Rattle.std.proofs.Common.{Option, Some, None, refl, ap, ◌∙◌, arith, inl, inr}
 use Rattle.std.specs.Prelude.{◌⊎◌}
 use Rattle.sci_text.specs.Schedule.{IsEventWithin}
-use Rattle.std.specs.Prelude.{is_some, nat_lt, not, ◌&&◌}
+use Rattle.std.specs.Prelude.{is_some, not}
 use Rattle.sci_words.specs.declared.{event.{AskKind.{AskKind}, Event.{Event}}, operation.Op.{Op}}
-use Rattle.sci_cache.specs.{Asking.{Asked, asking}, Cache.{Letter, cache_asked, has_slot, line_of}, Line.{ask_or_fault}, State.{is_out}}
+use Rattle.sci_cache.specs.{Asking.{asking}, Cache.{Letter, line_of}}
 use Rattle.sci_core.specs.declared.lane.LaneKind.{LaneKind, TheVariants.{Answers, Requests}}
 use Rattle.sci_core.specs.Core.{Core, Takes, changes, lane_of, lane_place, node_at, node_of, performs, sends, side, stepping, taken_as, taken_from}
-use Rattle.sci_core.specs.Node.{NodeOf, asked_by, lines_of, node_accepting, node_issuing, node_performing, node_refusing, node_serving}
+use Rattle.sci_core.specs.Node.{NodeOf, node_accepting, node_issuing, node_performing, node_refusing, node_serving}
 use Rattle.sci_core.specs.Node.{replied_by}
 use Rattle.sci_core.proofs.Step.Stepping.{stepping_idle, stepping_takes}
 use Rattle.sci_random_schedules.specs.Walking.{moved_to}
@@ -33,12 +33,7 @@ if_either false x y same = refl
 
 pub asks_not : (core : Core) (n line : ℕ) (kind : AskKind) → n < core.size.nodes → asking (line_of (node_at core n).cache line).state kind ≡ None
     → stepping core (event.Ask n line kind) ≡ None
-asks_not core n line kind some none_asked =
-    let node = node_at core n in
-    let lacks = is_out (line_of node.cache line).state && not (has_slot node.cache) in
-    let none : asked_by node (cache_asked node.cache line (ask_or_fault (asking (line_of node.cache line).state kind) lacks)) ≡ None =
-    ap (λ (o : Option Asked). asked_by node (cache_asked node.cache line (ask_or_fault o lacks))) none_asked in
-    stepping_idle core (event.Ask n line kind) some (ap (sends Requests) (if_either (nat_lt line (lines_of node)) _ None none))
+asks_not core n line kind some none_asked = grind (arith, stepping_idle, if_either)
 
 pub replies_not : (core : Core) (n : ℕ) → n < core.size.nodes → is_some (node_at core n).waiting ≡ false → stepping core (event.Reply n) ≡ None
 replies_not core n some not =
@@ -112,11 +107,5 @@ seen_same of none some (Some x) = some x
 pub takes_not : (core : Core) (e : Event) (from n : ℕ) → IsEventWithin core.size.nodes core.size.lines e → n < core.size.nodes
     → ((m : ℕ) × (e ≡ event.Serve from m)) ⊎ ((m : ℕ) × (e ≡ event.Refuse from m))
     → (length (lane_of core Requests from n) ≤ 0) ⊎ (is_some (node_at core n).waiting ≡ true) → stepping core (moved_to n e) ≡ None
-takes_not core e from n within some (inl serves) why =
-    let f = (subst (IsEventWithin core.size.nodes core.size.lines) serves.1 within).0 in
-    ap (λ (x : Event). stepping core (moved_to n x)) serves.1
-    ∙ elim why [ inl none ↦ serves_none core from n f some none | inr waits ↦ serves_not core from n f some waits ]
-takes_not core e from n within some (inr refuses) why =
-    let f = (subst (IsEventWithin core.size.nodes core.size.lines) refuses.1 within).0 in
-    ap (λ (x : Event). stepping core (moved_to n x)) refuses.1
-    ∙ elim why [ inl none ↦ refuses_none core from n f some none | inr waits ↦ refuses_not core from n f some waits ]
+takes_not core e from n within some (inl serves) why = grind (arith, serves_none, serves_not)
+takes_not core e from n within some (inr refuses) why = grind (arith, refuses_none, refuses_not)

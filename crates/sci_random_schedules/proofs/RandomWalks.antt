@@ -1,5 +1,5 @@
 -- Why an event of a walk isn't pushed.
-use Rattle.std.proofs.Common.{◌≡◌, ℕ, ◌<◌, Option, length, arith, refl}
+use Rattle.std.proofs.Common.{◌≡◌, ◌<◌, length, arith, refl}
 use Rattle.sci_words.specs.declared.{event.Event.{Event}, limits.TheConstants.{MAX_EVENTS}}
 use Rattle.sci_text.specs.declared.fault.TextFaultKind.TheVariants.{Memory}
 use Rattle.sci_text.specs.{declared.script.PushFault.{PushFault}, Schedule.{ScheduleValue, IsEventWithin, EventRefusal}}

@@ -1,13 +1,12 @@
 -- Draws and walks, one event after another.
-use Rattle.std.proofs.Common.{◌≡◌, ◌<◌, ◌≤◌, ◌+◌, ◌-◌, ℕ, suc, List, [], ◌∷◌, ◌++◌, Option, Some, None, refl, sym, ap, subst, ◌∙◌, arith}
+use Rattle.std.proofs.Common.{◌≡◌, ◌<◌, ◌≤◌, ◌+◌, ◌-◌, ℕ, suc, List, [], ◌∷◌, Option, Some, None, refl, sym, ap, subst, ◌∙◌, arith}
 use Rattle.std.proofs.Common.{inl, inr}
-use Rattle.std.proofs.{lemmas.List.{append_assoc}}
 use Rattle.sci_words.specs.declared.event.Event.{Event}
 use Rattle.sci_random.specs.Drawing.{after}
 use Rattle.sci_core.specs.{Core.{Core, step}, Reached.{IsReached}, Size.{Size}}
 use Rattle.sci_text.specs.Schedule.{IsEventWithin, ScheduleValue}
 use Rattle.sci_core.proofs.WellFormed.WellFormedSteps.{reached_well, run_well}
-use Rattle.sci_random_schedules.specs.{declared.walking.TheConstants.{DRAWS}, Walking.{Draws, IsDrawn, IsFirstFound, IsFound, IsNext, Walks}}
+use Rattle.sci_random_schedules.specs.{declared.walking.TheConstants.{DRAWS}, Walking.{Draws, IsDrawn, IsFirstFound, IsFound}}
 
 -- ---- draws
 

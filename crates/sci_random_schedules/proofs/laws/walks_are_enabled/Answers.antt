@@ -1,6 +1,5 @@
 -- An event that is drawn until one is enabled, or looked for, is enabled.
-use Rattle.std.proofs.Common.{◌≡◌, ℕ, zero, suc, List, [], ◌∷◌, refl, arith, inl, inr}
-use Rattle.std.specs.Prelude.{◌⊎◌}
+use Rattle.std.proofs.Common.{ℕ, zero, suc, List, [], ◌∷◌, refl, arith, inl, inr}
 use Rattle.sci_words.specs.declared.event.Event.{Event}
 use Rattle.sci_random.specs.Drawing.{after}
 use Rattle.sci_core.specs.{Core.{Core, IsEnabled, step}, Settling.{AreMade}}

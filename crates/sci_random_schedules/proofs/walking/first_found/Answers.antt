@@ -1,4 +1,4 @@
-use Rattle.std.proofs.Common.{◌≡◌, ◌<◌, ◌+◌, ◌*◌, ℕ, Option, Some, None, refl, sym, ap, subst, ◌∙◌, arith, inl, inr}
+use Rattle.std.proofs.Common.{◌≡◌, ◌<◌, ◌+◌, ℕ, Option, None, refl, ap, subst, ◌∙◌, arith, inl, inr}
 use Rattle.std.proofs.lemmas.Bool.{cases_lt}
 use Rattle.sci_words.specs.declared.event.Event.{Event}
 use Rattle.sci_core.specs.Core.{Core}
@@ -36,18 +36,7 @@ loop-place-preserved c =
     }
 
 pub returns-in-Some-clause-found : goal.returns-in-Some-clause-found
-returns-in-Some-clause-found c =
-    let was = c.loop-place.invariant in
-    let core = c.args.machine.now in
-    let test = c.loop-place-test.true in
-    let nodes = c.extent-extent.ensures.nodes in
-    let lines = c.extent-extent.ensures.lines in record {
-      place = c.loop-place.place;
-      within = omega (arith, test, nodes, lines);
-      found = found_here core c.loop-place.machine _ c.loop-place.place c.looked_for.result _ (Some c.in-Some.event) was.same lines
-          c.looked_for.ensures.event c.in-Some.is c.in_ok-event.ensures.found;
-      none_before = was.none;
-    }
+returns-in-Some-clause-found c = grind (arith, found_here)
 
 pub unreachable-requires : goal.unreachable-requires
 unreachable-requires c =

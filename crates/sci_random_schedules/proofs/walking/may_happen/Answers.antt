@@ -1,45 +1,27 @@
-use Rattle.std.proofs.Common.{◌≡◌, ◌<◌, ◌≤◌, ℕ, true, sym, ap, subst, ◌∙◌, refl, inl, inr}
+use Rattle.std.proofs.Common.{◌≡◌, ◌<◌, ◌≤◌, ℕ, true, sym, ap, subst, ◌∙◌, refl, inl, inr, arith}
 use Rattle.std.proofs.lemmas.Bool.{ltb-false}
 use Rattle.std.specs.Prelude.{is_some, not, option_copied, option_map}
-use Rattle.sci_cache.specs.{Asking.{asking}, Cache.{letter_of, line_of}, State.{CacheState}}
-use Rattle.sci_core.specs.{Core.{node_at}, Node.{NodeOf, lines_of, node_issuing, node_performing}}
+use Rattle.sci_cache.specs.{Cache.{letter_of}}
+use Rattle.sci_core.specs.{Core.{node_at}, Node.{NodeOf, lines_of}}
 use Rattle.sci_core.proofs.WellFormed.WellFormedSteps.{reached_well}
 use Rattle.sci_text.specs.Schedule.{IsEventWithin}
 use Rattle.sci_random_schedules.proofs.QuickLooks.{accepts_none, asks_not, issues_not, performs_not, replies_not, moved_not, seen_same, takes_not}
 use Rattle.sci_random_schedules.proofs.walking.may_happen.Goals as goal
 
 pub returns-in-Issue : goal.returns-in-Issue
-returns-in-Issue c = λ no.
-    moved_not _ _ _ _ c.in-Issue.is
-    (issues_not _ _ c.in-Issue.op c.requires.node
-    (ap (λ (m : NodeOf). is_some (node_issuing m c.in-Issue.op)) (sym c.node-node.ensures.node) ∙ (sym c.may_issue.ensures.enabled ∙ no)))
+returns-in-Issue c = grind (arith, moved_not, issues_not)
 
 pub returns-in-Perform : goal.returns-in-Perform
-returns-in-Perform c = λ no.
-    moved_not _ _ _ _ c.in-Perform.is
-    (performs_not _ _ c.in-Perform.line c.requires.node
-    (ap (λ (m : NodeOf). is_some (node_performing m c.in-Perform.line)) (sym c.node-node.ensures.node) ∙ (sym c.may_perform.ensures ∙ no)))
+returns-in-Perform c = grind (arith, moved_not, performs_not)
 
 pub returns-in-Ask : goal.returns-in-Ask
-returns-in-Ask c = λ no.
-    moved_not _ _ _ _ c.in-Ask.is
-    (asks_not _ _ c.in-Ask.line c.in-Ask.kind c.requires.node
-    (ap (λ (m : NodeOf). asking (line_of m.cache c.in-Ask.line).state c.in-Ask.kind) (sym c.node-node.ensures.node)
-    ∙ (ap (λ (s : CacheState). asking s c.in-Ask.kind) (sym c.held.ensures) ∙ c.may_ask.ensures no)))
+returns-in-Ask c = grind (arith, moved_not, asks_not)
 
 pub returns-in-Reply : goal.returns-in-Reply
-returns-in-Reply c = λ no.
-    moved_not _ _ _ _ c.in-Reply.is
-    (replies_not _ _ c.requires.node (ap (λ (m : NodeOf). is_some m.waiting) (sym c.node-node.ensures.node)
-    ∙ (ap is_some (sym c.waiting.ensures) ∙ (seen_same (λ o. option_map letter_of (option_copied o)) refl (λ x. refl) c.waiting.result
-    ∙ (sym c.is_some.ensures ∙ no)))))
+returns-in-Reply c = grind (arith, moved_not, replies_not, seen_same)
 
 pub returns-in-Accept : goal.returns-in-Accept
-returns-in-Accept c = λ no.
-    moved_not _ _ _ _ c.in-Accept.is
-    (accepts_none _ c.in-Accept.from _ (subst (IsEventWithin c.args.machine.now.size.nodes c.args.machine.now.size.lines) c.in-Accept.is
-    c.requires.within).0 c.requires.node
-    (subst (λ (k : ℕ). k ≤ 0) c.count.ensures (ltb-false 0 c.count.result no)))
+returns-in-Accept c = grind (arith, moved_not, accepts_none, ltb-false)
 
 pub held-requires : goal.held-requires
 held-requires c =

@@ -1,10 +1,10 @@
-use Rattle.std.proofs.Common.{◌≡◌, ℕ, List, Option, Some, None, refl, sym, subst, ◌∙◌, inl, inr}
+use Rattle.std.proofs.Common.{◌≡◌, Option, Some, None, refl, sym, subst, ◌∙◌, inr, arith}
 use Rattle.std.proofs.lemmas.{Bool.{ltb-false, ltb-true}, Result.{IfOk-weaker}}
 use Rattle.sci_words.specs.declared.event.Event.{Event}
 use Rattle.std.specs.Prelude.{IfSome}
 use Rattle.sci_random.specs.Drawing.{drawn}
 use Rattle.sci_core.specs.Core.{Core, step}
-use Rattle.sci_random_schedules.specs.Walking.{IsDrawn, IsFirstFound}
+use Rattle.sci_random_schedules.specs.Walking.{IsFirstFound}
 use Rattle.sci_random_schedules.proofs.Walks.{drawn_at, draws_begin, draws_first, draws_on, draws_one, found_at, size_then}
 use Rattle.sci_random_schedules.proofs.walking.next_event.Goals as goal
 
@@ -15,14 +15,7 @@ loop-draw-init c = record {
 }
 
 pub returns-then-in_hundred-clause-next : goal.returns-then-in_hundred-clause-next
-returns-then-in_hundred-clause-next c =
-    let core = c.args.machine.now in
-    let event = c.any_event-event.result in
-    let later = c.any_event-event.new.random in
-    let drawn_here = drawn_at core _ _ c.in_hundred.new.self event later c.extent-extent.ensures.nodes c.extent-extent.ensures.lines
-    c.any_event-event.ensures.drawn in
-    let few = ltb-true (drawn 100 c.args.random.now) c.args.share (sym c.in_hundred.ensures.drawn ∙ c.if-in_hundred.true) in
-    inl (few, subst (λ (state : List ℕ). IsDrawn core.size.nodes core.size.lines state event later) c.in_hundred.ensures.after drawn_here)
+returns-then-in_hundred-clause-next c = grind (arith, drawn_at, ltb-true)
 
 pub returns-then-in_hundred-clause-size : goal.returns-then-in_hundred-clause-size
 returns-then-in_hundred-clause-size c =

@@ -1,25 +1,14 @@
 -- Each event is the machine's, and there is room for it.
-use Rattle.std.proofs.{Common.{arith, ◌<◌, ◌∙◌, List, [], length, subst}, lemmas.List.{append-nil}}
-use Rattle.sci_words.specs.declared.{event.Event.{Event}, limits.TheConstants.{MAX_EVENTS, MAX_OPERATIONS}}
+use Rattle.std.proofs.{Common.{arith, List, [], subst}, lemmas.List.{append-nil}}
+use Rattle.sci_words.specs.declared.{event.Event.{Event}, limits.TheConstants.{MAX_OPERATIONS}}
 use Rattle.sci_random.specs.Drawing.{seeded}
 use Rattle.sci_core.specs.{Core.{opening}, Size.{size_of}}
-use Rattle.sci_text.specs.Schedule.{IsEventWithin}
 use Rattle.sci_random_schedules.specs.Walking.{Walks}
 use Rattle.sci_random_schedules.proofs.{RandomWalks.{memory_alone}, Walks.{within_of}}
 use Rattle.sci_random_schedules.proofs.walking.schedule_of.Goals as goal
 
 pub returns-in-Err-clause-kind : goal.returns-in-Err-clause-kind
-returns-in-Err-clause-kind c =
-    let schedule = c.loop-event.schedule in
-    let event = c.in_ok-event.event in
-    let test = c.loop-event-test.true in
-    let few = c.requires in
-    let counted = c.loop-event.invariant.counted in
-    let room : length schedule.events < MAX_EVENTS = omega (arith, test, few, counted) in
-    let within : IsEventWithin schedule.nodes schedule.lines event =
-    within_of schedule c.loop-event.machine.size _ event c.loop-event.invariant.nodes_are c.loop-event.invariant.lines_are c.loop-event.invariant.sized
-    c.in_ok-event.ensures.within in
-    c.of_input.ensures.kind ∙ (c.from.ensures ∙ memory_alone schedule event c.in-Err.fault within room c.in-Err.ensures.refused)
+returns-in-Err-clause-kind c = grind (arith, within_of, memory_alone)
 
 pub returns-clause-walked : goal.returns-clause-walked
 returns-clause-walked c =
