@@ -52,7 +52,7 @@ PROMISES = [
     ("What is written is the oracle's text of the script, and lawful", "oracle", [f"IsOracleOf.{it}" for it in ("good", "read", "written", "lawful")]),
     ("What is written is such a log of the script", "threads", [f"IsThreadsOf.{it}" for it in ("good", "read", "written", "lawful", "consistent", "named", "whole")]),
     ("Each node is driven through the script in as many turns as were asked for, and it is done exactly if all come to their end", "threads", [f"IsThreadsOf.{it}" for it in ("led", "driven", "ends")]),
-    ("The logs are those that the input says", "order", ["IsOrderOf.read"]),
+    ("The logs are those that the input says", "order", ["IsOfLogs.read"]),
     ("Done exactly if they are lawful and sequentially consistent", "order", ["IsFound.ends"]),
 ]
 PAGE = "docs/ASSURANCE.md"
