@@ -50,8 +50,7 @@ impl DeadEvents {
     }
 
     /// Applies events one after another, and gives those that weren't enabled; None if each was. Requires that they are at most
-    /// 500,000, and that the machine is coherent, as each is. Refused if memory is: the machine is then where the events before
-    /// led.
+    /// 500,000, and that the machine is coherent, as each is. Refused if memory is; the machine may then have applied some.
     pub fn among(machine: &mut Machine, events: &[Event]) -> Result<Option<DeadEvents>, AllocError>
         requires few { length events.now ≤ MAX_EVENTS }
         requires coherent { IsCoherent machine.old }
