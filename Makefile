@@ -31,7 +31,7 @@ test:
 	@$(NEED_RT)
 	@scripts/gate/test.py
 
-# Tries all wrong bodies, over the libraries that make test or make run has built; with CRATE=NAME those of that crate alone.
+# Tries all wrong bodies, over the libraries that make test or make check has built; with CRATE=NAME those of that crate alone.
 plants:
 	@$(NEED_RT)
 	@scripts/gate/try_plants.py $(or $(CRATE),--all)

@@ -1,6 +1,6 @@
 #!/usr/bin/env python3
 """The gate. First the pages are checked, and their table of definitions. Then rt ci proves every crate and its tests, and runs
-the tests, and wrong bodies are tried. The programs that it built run on the stored cases, on the examples, for charts, and
+the tests, and wrong bodies are tried. The programs that rt ci built run on the stored cases, on the examples, for charts, and
 for pages in a browser. The C library is built over the libraries that it built, and tried, and so is what stands on it: Python, Rust,
 and simulators if there are any. Then programs and tests run with memory, reads and writes refused. At the end stands how long each
 stage took; the last line is 'N passed, M failed', of all stages."""
