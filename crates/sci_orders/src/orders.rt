@@ -177,6 +177,7 @@ impl<'a> Orders<'a> {
             AreFoundIn lines (lists_of self.now.operations.now) self.now.window count (map position_of level.now) →
             AreFoundIn lines (lists_of self.now.operations.now) self.now.window (count + 1) (map position_of two.0.items)
             × AreFoundIn lines (lists_of self.now.operations.now) self.now.window (count + 2) (map position_of two.1.items)) }
+        ensures once_half { IfOk result (λ two. AreOnce (map position_of two.0.items)) }
         ensures once { IfOk result (λ two. AreOnce (map position_of two.1.items)) }
         ensures many { IfErr result (λ fault. fault ≡ TooMany →
             AreTooMany lines (lists_of self.now.operations.now) self.now.window) }
